@@ -1,0 +1,30 @@
+// Whole microseconds of two kinds that are counted apart: when it is, and how much disk time was had.
+ghost use mathlib.Core.Path.{_≡_};
+
+// A moment of clock time.
+pub struct Clock(u64);
+
+// An amount of disk time.
+pub struct Charge(u64);
+
+impl Clock {
+    // No clock and no deadline passes the session's end.
+    pub const END: u64 = 1_000_000_000_000;
+
+    pub fn at(micros: u64) -> Clock
+        ensures { λ r. ⌜ r .0 ≡ micros ⌝ }
+    {
+        Clock(micros)
+    }
+}
+
+impl Charge {
+    // What a charge may be above the granted budget: one completion of any length.
+    pub const DURATION_MAX: u64 = 10_000_000;
+
+    pub fn of(micros: u64) -> Charge
+        ensures { λ r. ⌜ r .0 ≡ micros ⌝ }
+    {
+        Charge(micros)
+    }
+}

@@ -1,0 +1,51 @@
+-- Laws of the folds, over any count.
+use mathlib.Core.Bool.{Bool, true, false, _&&_, _||_}
+use mathlib.Core.Path.{_≡_, refl, sym, _∙_, ap}
+use mathlib.Core.Logic.{⊎-elim}
+use Prim.Native.Nat.{ℕ, zero, suc, _+_, _*_, min, _≤_, _<_}
+use native.Mathlib.Nat.{not-suc-le-zero}
+use native.Mathlib.Omega.{arith}
+use Rattle.table.specs.Fold.{sumTo, smallestTo, allTo, someTo}
+use Rattle.table.specs.Refusal.{_or-next_, firstTo}
+use Rattle.table.proofs.Tests.{le-or-lt, both, or-next-none, or-next-first}
+
+-- a fold's last step, or one before it
+at-or-below : (P : ℕ → Type 0) {n : ℕ} (i : ℕ) → i < suc n → P n → (i < n → P i) → P i
+at-or-below P {n} i l last rest =
+    ⊎-elim (λ (u : n ≤ i). let e : i ≡ n = omega arith in rw e last) rest (le-or-lt n i)
+
+pub smallest-le : (f : ℕ → ℕ) (n i : ℕ) → i < n → smallestTo f n ≤ f i
+unfolding smallestTo
+smallest-le f zero i l = absurd (not-suc-le-zero l)
+smallest-le f (suc n) i l =
+    at-or-below (λ j. min (smallestTo f n) (f n) ≤ f j) i l (omega arith) (λ u. omega (arith, smallest-le f n i u))
+
+-- what each number passes, the smallest of them passes
+pub smallest-is : (P : ℕ → Type 0) (f : ℕ → ℕ) (n : ℕ) → 1 ≤ n → ((i : ℕ) → i < n → P (f i)) → P (smallestTo f n)
+unfolding smallestTo
+smallest-is P f n pos h = go n (h 0 pos) h
+  where
+    pick : (a b : ℕ) → P a → P b → P (min a b)
+    pick a b pa pb =
+        ⊎-elim (λ (u : a ≤ b). let e : min a b ≡ a = omega arith in rw e pa) (λ (u : b < a). let e : min a b ≡ b = omega arith in rw e pb) (le-or-lt a b)
+
+    go : (n : ℕ) → P (f 0) → ((i : ℕ) → i < n → P (f i)) → P (smallestTo f n)
+    go zero first h = first
+    go (suc n) first h = pick (smallestTo f n) (f n) (go n first (λ i l. h i (omega arith))) (h n (omega arith))
+
+pub first-none : (f : ℕ → ℕ) (n : ℕ) → firstTo f n ≡ 0 → (i : ℕ) → i < n → f i ≡ 0
+unfolding firstTo
+first-none f zero h i l = absurd (not-suc-le-zero l)
+first-none f (suc n) h i l =
+    let k = or-next-none (firstTo f n) (f n) h in
+    at-or-below (λ j. f j ≡ 0) i l (k .1) (λ u. first-none f n (k .0) i u)
+
+-- where nothing is refused before i, and i is refused, that is the first refusal
+pub first-at : (f : ℕ → ℕ) (n i : ℕ) → i < n → firstTo f i ≡ 0 → (f i ≡ 0 → ⊥) → firstTo f n ≡ f i
+unfolding firstTo _or-next_
+first-at f zero i l h k = absurd (not-suc-le-zero l)
+first-at f (suc n) i l h k =
+    ⊎-elim
+    (λ (u : n ≤ i). let e : n ≡ i = omega arith in rw (e, h))
+    (λ (u : i < n). let e = first-at f n i u h k in rw e (or-next-first (f i) (f n) k))
+    (le-or-lt n i)

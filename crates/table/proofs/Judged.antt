@@ -1,0 +1,77 @@
+-- What is known of a table once 1 to 6 are judged.
+use mathlib.Core.Bool.{Bool, true, false, not, _||_}
+use mathlib.Core.Path.{_≡_, refl, sym, _∙_}
+use Prim.Native.Nat.{ℕ, zero, suc, _+_, _*_, _/_, _%_, _≤_, _<_}
+use native.Mathlib.Nat.{mul-le-mul-right, mul-div-le, le-trans}
+use native.Mathlib.Omega.{arith}
+use lib.Dec.{ltb, eqb}
+use borrow.Author.Tests.{ltb-false, eqb-true, eqb-false, not-false}
+use Rattle.table.specs.Refusal.{given, _or-next_, outside, firstTo}
+use Rattle.table.specs.Admission.{reservedAt, periodAt, grantedOf, shareOf, numbersRefusal, streamRefusal, streamRefusalAt, streamsRefusal}
+use Rattle.table.specs.declared.Table.{Table}
+use Rattle.table.proofs.Tests.{within, neither, given-none, or-next-none}
+use Rattle.table.proofs.Folds.{first-none}
+
+-- the numbers of the whole table are in their ranges
+pub record Numbers (t : Table) : Type 0 where
+  pub count-low : 1 ≤ t .count
+  pub count-high : t .count ≤ 8
+  pub worst-low : 1 ≤ t .worst
+  pub worst-high : t .worst ≤ 1000000
+  pub span-low : 1000 ≤ t .span
+  pub span-high : t .span ≤ 600000000
+  pub padding-high : t .padding ≤ 3
+
+pub numbers-of : (t : Table) → numbersRefusal t ≡ 0 → Numbers t
+unfolding numbersRefusal
+numbers-of t h =
+    let a = or-next-none _ _ h in
+    let b = or-next-none _ _ (a .1) in
+    let d = or-next-none _ _ (b .1) in
+    let count = within 1 8 (t .count) (given-none _ 0 (a .0)) in
+    let worst = within 1 1000000 (t .worst) (given-none _ 1 (b .0)) in
+    let span = within 1000 600000000 (t .span) (given-none _ 2 (d .0)) in
+    record {
+      count-low = count .0;
+      count-high = count .1;
+      worst-low = worst .0;
+      worst-high = worst .1;
+      span-low = span .0;
+      span-high = span .1;
+      padding-high = ltb-false 3 (t .padding) (given-none _ 3 (d .1));
+    }
+
+-- a stream's reservation is in order
+pub record Fits-in (worst span k e p : ℕ) : Type 0 where
+  pub period-low : 1000 ≤ p
+  pub period-high : p ≤ 60000000
+  pub divides : span % p ≡ 0
+  pub reserved-low : e ≡ 0 → ⊥
+  pub budget : grantedOf worst k e ≤ p
+
+pub stream-of : (worst span k e p : ℕ) → streamRefusal worst span k e p ≡ 0 → Fits-in worst span k e p
+unfolding streamRefusal
+stream-of worst span k e p h =
+    let a = or-next-none _ _ h in
+    let five = neither (outside 1000 60000000 p) (not (eqb (span % p) 0)) (given-none _ 4 (a .0)) in
+    let six = neither (eqb e 0) (ltb p (grantedOf worst k e)) (given-none _ 5 (a .1)) in
+    let range = within 1000 60000000 p (five .0) in
+    record {
+      period-low = range .0;
+      period-high = range .1;
+      divides = eqb-true (span % p) 0 (not-false (eqb (span % p) 0) (five .1));
+      reserved-low = eqb-false e 0 (six .0);
+      budget = ltb-false p (grantedOf worst k e) (six .1);
+    }
+
+abbrev pub Reserved : Table → ℕ → Type 0
+Reserved t i = Fits-in (t .worst) (t .span) (t .padding) (reservedAt t i) (periodAt t i)
+
+pub streams-of : (t : Table) → streamsRefusal t ≡ 0 → (i : ℕ) → i < t .count → Reserved t i
+unfolding streamsRefusal
+streams-of t h i l = stream-of (t .worst) (t .span) (t .padding) (reservedAt t i) (periodAt t i) (first-none (streamRefusalAt t) (t .count) h i l)
+
+-- a stream's share of the span is at most the span
+pub share-high : (worst span k e p : ℕ) → Fits-in worst span k e p → shareOf worst span k e p ≤ span
+unfolding shareOf
+share-high worst span k e p q = le-trans (mul-le-mul-right (span / p) (q .budget)) (mul-div-le span p)

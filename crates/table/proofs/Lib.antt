@@ -1,0 +1,3 @@
+pub mod Tests
+pub mod Folds
+pub mod Judged

@@ -1,0 +1,58 @@
+-- Laws of tests, of choices by a test and of refusals in order.
+use mathlib.Core.Bool.{Bool, true, false, _&&_, _||_, false≢true}
+use mathlib.Core.Path.{_≡_, refl, sym, _∙_}
+use mathlib.Core.Logic.{_⊎_, inl, inr}
+use Prim.Native.Nat.{ℕ, zero, suc, _≤_, _<_}
+use native.Mathlib.Decide.{decLe}
+use native.Mathlib.Omega.{arith}
+use lib.Dec.{ltb}
+use borrow.Author.Tests.{ltb-false}
+use Rattle.table.specs.Refusal.{given, _or-next_, outside}
+use Rattle.table.specs.Admission.{answered}
+use Rattle.table.specs.declared.Admission.the-variants.{Refused}
+
+pub le-or-lt : (a b : ℕ) → (a ≤ b) ⊎ (b < a)
+le-or-lt a b = go (decLe a b)
+  where
+    go : Dec (a ≤ b) → (a ≤ b) ⊎ (b < a)
+    go (yes h) = inl h
+    go (no h) = inr (omega arith)
+
+pub both : (a b : Bool) → (a && b) ≡ true → (a ≡ true) × (b ≡ true)
+both true b h = (refl, h)
+both false b h = absurd (false≢true h)
+
+pub neither : (a b : Bool) → (a || b) ≡ false → (a ≡ false) × (b ≡ false)
+neither true b h = absurd (false≢true (sym h))
+neither false b h = (refl, h)
+
+-- a number that is not outside its range is within it
+pub within : (low high n : ℕ) → outside low high n ≡ false → (low ≤ n) × (n ≤ high)
+unfolding outside
+within low high n h =
+    let k = neither (ltb n low) (ltb high n) h in
+    (ltb-false n low (k .0), ltb-false high n (k .1))
+
+-- nothing is refused only where the test fails
+pub given-none : (b : Bool) (n : ℕ) → given b (suc n) ≡ 0 → b ≡ false
+unfolding given
+given-none true n h = absurd (let z : suc n ≡ 0 = h in omega arith)
+given-none false n h = refl
+
+-- nothing is refused only where neither part refuses
+pub or-next-none : (n m : ℕ) → n or-next m ≡ 0 → (n ≡ 0) × (m ≡ 0)
+unfolding _or-next_
+or-next-none zero m h = (refl, h)
+or-next-none (suc n) m h = absurd (let z : suc n ≡ 0 = h in omega arith)
+
+-- the first refusal stands
+pub or-next-first : (n m : ℕ) → (n ≡ 0 → ⊥) → n or-next m ≡ n
+unfolding _or-next_
+or-next-first zero m h = absurd (h refl)
+or-next-first (suc n) m h = refl
+
+-- a number other than 0 is the answer's refusal
+pub answered-refused : (n : ℕ) → (n ≡ 0 → ⊥) → answered n ≡ Refused n
+unfolding answered
+answered-refused zero h = absurd (h refl)
+answered-refused (suc n) h = refl

@@ -1,0 +1,66 @@
+-- `load` gives the load: no period is 0, and with W at most 1,000,000 and H at most 600,000,000 nothing passes 64 bits.
+use mathlib.Core.Path.{_≡_, refl, sym, ap, _∙_}
+use Prim.Native.Nat.{ℕ, _*_, _/_, _≤_, _<_}
+use native.Mathlib.Nat.{mul-le-mul, div-le-self, le-trans}
+use native.Mathlib.Omega.{arith}
+use borrow.Author.Needs.{needs}
+use Rattle.table.specs.Admission.{periodAt, smallestPeriod, loadOf, numbersRefusal, streamsRefusal}
+use Rattle.table.specs.declared.Table.{Table}
+use Rattle.table.proofs.Folds.{smallest-is}
+use Rattle.table.proofs.Judged.{numbers-of, streams-of}
+use Rattle.table.proofs.load.Statement.{statement}
+use Rattle.table.proofs.load.Tie as tie
+
+smallest-low : (t : Table) → numbersRefusal t ≡ 0 → streamsRefusal t ≡ 0 → 1000 ≤ smallestPeriod t
+unfolding smallestPeriod
+smallest-low t n s = smallest-is (λ p. 1000 ≤ p) (periodAt t) (t .count) (numbers-of t n .count-low) (λ i l. streams-of t s i l .period-low)
+
+blocking-high : (t : Table) (p : ℕ) → numbersRefusal t ≡ 0 → t .worst * (t .span / p) ≤ 600000000000000
+blocking-high t p n =
+    let q = numbers-of t n in
+    mul-le-mul {n₂ = 1000000} {m₂ = 600000000} (q .worst-high) (le-trans (div-le-self (t .span) p) (q .span-high))
+
+smallest-period-requires : tie.Need-smallest-period-requires
+smallest-period-requires c κs = numbers-of _ (c .pre .0) .count-high
+
+shares-requires : tie.Need-shares-requires
+shares-requires c κs = (numbers-of _ (c .before .pre .0) .count-high, c .before .pre .1)
+
+cast-result : tie.Need-cast-result
+cast-result c = search needs
+
+div-result : tie.Need-div-result
+div-result c =
+    let s = c .before .before .before .before in
+    rw (c .before .before .before .smallest-period .ensures) (omega (arith, smallest-low (s .args .t) (s .pre .0) (s .pre .1)))
+
+cast-result-2 : tie.Need-cast-result-2
+cast-result-2 c =
+    omega (arith, div-le-self (c .before .before .before .before .args .t .span) (c .before .before .before .smallest-period .result))
+
+mul-result : tie.Need-mul-result
+mul-result c =
+    let s = c .before .before .before .before in
+    omega (arith, blocking-high (s .args .t) (c .before .before .before .smallest-period .result) (s .pre .0))
+
+add-result : tie.Need-add-result
+add-result c =
+    let s = c .before .before .before .before in
+    omega (arith, blocking-high (s .args .t) (c .before .before .before .smallest-period .result) (s .pre .0), c .before .before .shares .ensures .1)
+
+returns : tie.Need-returns
+unfolding loadOf
+returns c = rw (c .before .before .shares .ensures .0, c .before .before .before .smallest-period .ensures)
+
+pub load-spec : {M : Type 1} → statement M
+load-spec =
+    tie.close
+    (tie.spec
+    smallest-period-requires
+    shares-requires
+    cast-result
+    div-result
+    cast-result-2
+    mul-result
+    add-result
+    returns)

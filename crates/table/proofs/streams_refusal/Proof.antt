@@ -1,0 +1,82 @@
+-- `streams_refusal` gives the first stream's refusal: the loop goes on only while no stream was refused.
+use Rattle.table.specs.Refusal.{firstTo, _or-next_}
+use Rattle.table.specs.Admission.{streamRefusalAt, streamsRefusal}
+use Rattle.table.proofs.Folds.{first-at}
+use borrow.Author.Needs.{needs}
+use native.Mathlib.Omega.{arith}
+use mathlib.Core.Path.{_≡_, refl, sym, ap, _∙_}
+use native.Mathlib.Numerals.{add-one}
+use Prim.Native.Nat.{_≤_, _-_, _*_}
+use Rattle.table.proofs.streams_refusal.Statement.{statement}
+use Rattle.table.proofs.streams_refusal.Tie as tie
+use Rattle.table.proofs.streams_refusal.Reads as reads
+use Rattle.table.proofs.streams_refusal.Lts as lts
+use Rattle.table.proofs.stream_refusal.Reads as stream-refusal-reads
+
+abbrev Inv-loop : tie.InvT-loop
+Inv-loop t reserved period i₀ i = (i ≤ t .count) × (firstTo (streamRefusalAt t) i ≡ 0)
+
+abbrev μ-loop : tie.MeasureT-loop
+μ-loop t reserved period i₀ i = t .count - i
+
+loop-holds : tie.Need-loop-holds Inv-loop μ-loop
+unfolding firstTo
+loop-holds c = (omega arith, refl)
+
+mul-stream-refusal : tie.Need-mul-stream-refusal Inv-loop μ-loop
+mul-stream-refusal c = omega arith
+
+array-read-stream-refusal : tie.Need-array-read-stream-refusal Inv-loop μ-loop
+array-read-stream-refusal c = omega arith
+
+mul-stream-refusal-2 : tie.Need-mul-stream-refusal-2 Inv-loop μ-loop
+mul-stream-refusal-2 c = omega arith
+
+array-read-stream-refusal-2 : tie.Need-array-read-stream-refusal-2 Inv-loop μ-loop
+array-read-stream-refusal-2 c = omega arith
+
+stream-refusal-requires : tie.Need-stream-refusal-requires Inv-loop μ-loop
+stream-refusal-requires c κs = tt
+
+returns : tie.Need-returns Inv-loop μ-loop
+unfolding streamsRefusal
+returns c =
+    let e = c .before .stream-refusal .ensures in
+    let t = c .before .before .before .before .before .before .before .args .t in
+    let i = c .before .before .before .before .loop .i in
+    e ∙ sym (first-at (streamRefusalAt t) (t .count) i (omega arith) (c .before .before .before .before .loop .inv .1) (λ z. c .if2 .taken (e ∙ z)))
+
+add-i : tie.Need-add-i Inv-loop μ-loop
+add-i c = omega arith
+
+loop-less : tie.Need-loop-less Inv-loop μ-loop
+loop-less c = omega arith
+
+loop-again : tie.Need-loop-again Inv-loop μ-loop
+unfolding firstTo _or-next_
+loop-again c =
+    (omega arith, rw (add-one, c .before .before .before .before .loop .inv .1, ← c .before .stream-refusal .ensures) (c .if2 .left))
+
+returns-2 : tie.Need-returns-2 Inv-loop μ-loop
+unfolding streamsRefusal
+returns-2 c =
+    let e : c .before .before .loop .i ≡ c .before .before .before .before .before .args .t .count = omega arith in
+    sym (c .before .before .loop .inv .1) ∙ ap (firstTo _) e
+
+pub streams-refusal-spec : {M : Type 1} → statement M
+streams-refusal-spec =
+    tie.close
+    (tie.spec
+    Inv-loop
+    μ-loop
+    loop-holds
+    mul-stream-refusal
+    array-read-stream-refusal
+    mul-stream-refusal-2
+    array-read-stream-refusal-2
+    stream-refusal-requires
+    returns
+    add-i
+    loop-less
+    loop-again
+    returns-2)

@@ -1,0 +1,74 @@
+-- The reservation table of document 01: granted budgets, load and admission.
+use mathlib.Core.Bool.{Bool, not, _||_}
+use Prim.Native.Nat.{ℕ, zero, suc, _+_, _*_, _/_, _%_}
+use lib.ListN.{getD}
+use lib.Dec.{ltb, eqb}
+use Rattle.table.specs.Fold.{sumTo, smallestTo}
+use Rattle.table.specs.Refusal.{if, given, _or-next_, firstTo, outside}
+use Rattle.table.specs.declared.Table.{Table}
+use Rattle.table.specs.declared.Admission.{Admission}
+use Rattle.table.specs.declared.Admission.the-variants.{Admitted, Refused}
+
+-- the reserved time e and the period p of a stream, counted from 0
+abbrev pub reservedAt : Table → ℕ → ℕ
+reservedAt t i = getD (t .reserved) i 0
+
+abbrev pub periodAt : Table → ℕ → ℕ
+periodAt t i = getD (t .period) i 0
+
+-- "k, the padding, 0 to 3. Zero stands for the default, which is 1."
+unfoldable pub paddingOf : ℕ → ℕ
+paddingOf k = if (eqb k 0) 1 k
+
+-- "Granted budget g = e + k × W"
+unfoldable pub grantedOf : ℕ → ℕ → ℕ → ℕ
+grantedOf worst k reserved = reserved + paddingOf k * worst
+
+-- "g × (H / p)"
+unfoldable pub shareOf : ℕ → ℕ → ℕ → ℕ → ℕ → ℕ
+shareOf worst span k e p = grantedOf worst k e * (span / p)
+
+abbrev pub shareAt : Table → ℕ → ℕ
+shareAt t i = shareOf (t .worst) (t .span) (t .padding) (reservedAt t i) (periodAt t i)
+
+-- "sum of g × (H / p) over the streams"
+unfoldable pub sharesOf : Table → ℕ
+sharesOf t = sumTo (shareAt t) (t .count)
+
+-- "smallest p"
+unfoldable pub smallestPeriod : Table → ℕ
+smallestPeriod t = smallestTo (periodAt t) (t .count)
+
+-- "Load = sum of g × (H / p) over the streams, plus W × (H / smallest p)."
+unfoldable pub loadOf : Table → ℕ
+loadOf t = sharesOf t + t .worst * (t .span / smallestPeriod t)
+
+-- 1 "no stream, or more than 8", 2 "W outside its range", 3 "H outside its range", 4 "k above 3"
+unfoldable pub numbersRefusal : Table → ℕ
+numbersRefusal t =
+    given (outside 1 8 (t .count)) 1
+    or-next given (outside 1 1000000 (t .worst)) 2
+    or-next given (outside 1000 600000000 (t .span)) 3
+    or-next given (ltb 3 (t .padding)) 4
+
+-- of a stream with reserved time e and period p: 5 "p outside its range or not dividing H", 6 "e = 0 or g > p"
+unfoldable pub streamRefusal : ℕ → ℕ → ℕ → ℕ → ℕ → ℕ
+streamRefusal worst span k e p =
+    given (outside 1000 60000000 p || not (eqb (span % p) 0)) 5
+    or-next given (eqb e 0 || ltb p (grantedOf worst k e)) 6
+
+-- "then 5 and 6 stream by stream"
+abbrev pub streamRefusalAt : Table → ℕ → ℕ
+streamRefusalAt t i = streamRefusal (t .worst) (t .span) (t .padding) (reservedAt t i) (periodAt t i)
+
+unfoldable pub streamsRefusal : Table → ℕ
+streamsRefusal t = firstTo (streamRefusalAt t) (t .count)
+
+-- "Opening: 1, 2, 3, 4, then 5 and 6 stream by stream, then 7", where 7 is "load > H": 0 for a table that is admitted, else its refusal
+unfoldable pub admissionOf : Table → ℕ
+admissionOf t = numbersRefusal t or-next streamsRefusal t or-next given (ltb (t .span) (loadOf t)) 7
+
+-- the answer for a number of admission
+unfoldable pub answered : ℕ → Admission
+answered zero = Admitted
+answered (suc n) = Refused (suc n)

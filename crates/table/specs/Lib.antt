@@ -1,0 +1,3 @@
+pub mod Fold
+pub mod Refusal
+pub mod Admission

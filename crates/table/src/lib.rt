@@ -1,0 +1,186 @@
+// Reservation tables: their numbers, the ranges of these, and which are admitted.
+ghost use mathlib.Core.Path.{_≡_};
+ghost use Prim.Native.Nat.{_+_, _*_, _≤_, _<_};
+ghost use Rattle.table.specs.Admission.{paddingOf, grantedOf, shareOf, sharesOf, smallestPeriod, loadOf, numbersRefusal, streamRefusal, streamsRefusal, admissionOf, answered};
+
+// The numbers of a table, as booked: of its eight places for streams the first `count` are used.
+pub struct Table {
+    pub worst: u32,
+    pub span: u32,
+    pub padding: u32,
+    pub count: usize,
+    pub reserved: [u32; 8],
+    pub period: [u32; 8],
+}
+
+pub enum Admission {
+    Admitted,
+    Refused(u64),
+}
+
+impl Table {
+    pub const STREAMS_MAX: usize = 8;
+
+    pub const WORST_MIN: u32 = 1;
+
+    pub const WORST_MAX: u32 = 1000000;
+
+    pub const SPAN_MIN: u32 = 1000;
+
+    pub const SPAN_MAX: u32 = 600000000;
+
+    pub const PERIOD_MIN: u32 = 1000;
+
+    pub const PERIOD_MAX: u32 = 60000000;
+
+    pub const PADDING_MAX: u32 = 3;
+
+    pub const PADDING_DEFAULT: u32 = 1;
+
+    // Whether the table is admitted, or the first refusal that applies.
+    pub fn admission(self) -> Admission
+        ensures { λ r. ⌜ r ≡ answered (admissionOf self) ⌝ }
+    {
+        let numbers = numbers_refusal(self);
+        if numbers != 0 {
+            return Admission::Refused(numbers);
+        }
+        let streams = streams_refusal(self);
+        if streams != 0 {
+            return Admission::Refused(streams);
+        }
+        if (self.span as u64) < load(self) {
+            return Admission::Refused(7);
+        }
+        Admission::Admitted
+    }
+}
+
+// How many worst-case requests a granted budget holds beside the reserved time.
+pub struct Padding(pub u32);
+
+impl Padding {
+    pub const DEFAULT: u32 = 1;
+
+    pub const MAX: u32 = 3;
+
+    // The padding that a table's k stands for.
+    pub fn of(k: u32) -> Padding
+        ensures { λ r. ⌜ r .0 ≡ paddingOf k ⌝ }
+    {
+        if k == 0 {
+            Padding(Self::DEFAULT)
+        } else {
+            Padding(k)
+        }
+    }
+}
+
+// The granted budget of a stream.
+pub fn granted(worst: u32, k: u32, reserved: u32) -> u64
+    ensures { λ r. ⌜ r ≡ grantedOf worst k reserved ⌝ }
+{
+    let padding = Padding::of(k);
+    reserved as u64 + padding.0 as u64 * worst as u64
+}
+
+// 1 to 4: the numbers of the whole table.
+fn numbers_refusal(t: Table) -> u64
+    ensures { λ r. ⌜ r ≡ numbersRefusal t ⌝ }
+{
+    if (t.count < 1) | (Table::STREAMS_MAX < t.count) {
+        return 1;
+    }
+    if (t.worst < Table::WORST_MIN) | (Table::WORST_MAX < t.worst) {
+        return 2;
+    }
+    if (t.span < Table::SPAN_MIN) | (Table::SPAN_MAX < t.span) {
+        return 3;
+    }
+    if Padding::MAX < t.padding { 4 } else { 0 }
+}
+
+// 5 and 6: one stream.
+fn stream_refusal(worst: u32, span: u32, k: u32, reserved: u32, period: u32) -> u64
+    ensures { λ r. ⌜ r ≡ streamRefusal worst span k reserved period ⌝ }
+{
+    if (period < Table::PERIOD_MIN) | (Table::PERIOD_MAX < period) {
+        return 5;
+    }
+    if span % period != 0 {
+        return 5;
+    }
+    if (reserved == 0) | ((period as u64) < granted(worst, k, reserved)) {
+        6
+    } else {
+        0
+    }
+}
+
+// 5 and 6, stream by stream.
+fn streams_refusal(t: Table) -> u64
+    requires { ⌜ t .count ≤ 8 ⌝ }
+    ensures { λ r. ⌜ r ≡ streamsRefusal t ⌝ }
+{
+    let reserved = t.reserved;
+    let period = t.period;
+    let mut i: usize = 0;
+    while i < t.count {
+        let refusal = stream_refusal(t.worst, t.span, t.padding, reserved[i], period[i]);
+        if refusal != 0 {
+            return refusal;
+        }
+        i += 1;
+    }
+    0
+}
+
+// The load of a table whose streams are in order.
+fn load(t: Table) -> u64
+    requires { ⌜ (numbersRefusal t ≡ 0) × (streamsRefusal t ≡ 0) ⌝ }
+    ensures { λ r. ⌜ r ≡ loadOf t ⌝ }
+{
+    let least = smallest_period(t);
+    shares(t) + t.worst as u64 * (t.span / least) as u64
+}
+
+fn smallest_period(t: Table) -> u32
+    requires { ⌜ t .count ≤ 8 ⌝ }
+    ensures { λ r. ⌜ r ≡ smallestPeriod t ⌝ }
+{
+    let period = t.period;
+    let mut least = period[0];
+    let mut i: usize = 0;
+    while i < t.count {
+        let p = period[i];
+        if p < least {
+            least = p;
+        }
+        i += 1;
+    }
+    least
+}
+
+// The sum of the streams' shares.
+fn shares(t: Table) -> u64
+    requires { ⌜ (t .count ≤ 8) × (streamsRefusal t ≡ 0) ⌝ }
+    ensures { λ r. ⌜ (r ≡ sharesOf t) × (r ≤ 8 * t .span) ⌝ }
+{
+    let reserved = t.reserved;
+    let period = t.period;
+    let mut sum: u64 = 0;
+    let mut i: usize = 0;
+    while i < t.count {
+        sum += share(t.worst, t.span, t.padding, reserved[i], period[i]);
+        i += 1;
+    }
+    sum
+}
+
+// A stream's granted budgets over the whole span.
+fn share(worst: u32, span: u32, k: u32, reserved: u32, period: u32) -> u64
+    requires { ⌜ streamRefusal worst span k reserved period ≡ 0 ⌝ }
+    ensures { λ r. ⌜ (r ≡ shareOf worst span k reserved period) × (r ≤ span) ⌝ }
+{
+    granted(worst, k, reserved) * (span / period) as u64
+}

@@ -1,13 +1,13 @@
 -- Laws of the folds, over any count.
-use mathlib.Core.Bool.{Bool, true, false, _&&_, _||_}
-use mathlib.Core.Path.{_≡_, refl, sym, _∙_, ap}
+use mathlib.Core.Bool.{Bool, true, false}
+use mathlib.Core.Path.{_≡_}
 use mathlib.Core.Logic.{⊎-elim}
-use Prim.Native.Nat.{ℕ, zero, suc, _+_, _*_, min, _≤_, _<_}
+use Prim.Native.Nat.{ℕ, zero, suc, min, _≤_, _<_}
 use native.Mathlib.Nat.{not-suc-le-zero}
 use native.Mathlib.Omega.{arith}
-use Rattle.table.specs.Fold.{sumTo, smallestTo, allTo, someTo}
+use Rattle.table.specs.Fold.{if, smallestTo, countTo}
 use Rattle.table.specs.Refusal.{_or-next_, firstTo}
-use Rattle.table.proofs.Tests.{le-or-lt, both, or-next-none, or-next-first}
+use Rattle.table.proofs.Tests.{le-or-lt, or-next-none, or-next-first}
 
 -- a fold's last step, or one before it
 at-or-below : (P : ℕ → Type 0) {n : ℕ} (i : ℕ) → i < suc n → P n → (i < n → P i) → P i
@@ -49,3 +49,13 @@ first-at f (suc n) i l h k =
     (λ (u : n ≤ i). let e : n ≡ i = omega arith in rw (e, h))
     (λ (u : i < n). let e = first-at f n i u h k in rw e (or-next-first (f i) (f n) k))
     (le-or-lt n i)
+
+-- where exactly the numbers below k pass, k pass
+pub count-below : (f : ℕ → Bool) (k : ℕ) → ((i : ℕ) → i < k → f i ≡ true) → ((i : ℕ) → k ≤ i → f i ≡ false) → (m : ℕ) → countTo f m ≡ min k m
+unfolding countTo if
+count-below f k yeses noes zero = omega arith
+count-below f k yeses noes (suc m) =
+    ⊎-elim
+    (λ (u : k ≤ m). rw (noes m u, count-below f k yeses noes m) (omega arith))
+    (λ (u : m < k). rw (yeses m u, count-below f k yeses noes m) (omega arith))
+    (le-or-lt k m)

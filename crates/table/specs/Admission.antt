@@ -3,8 +3,9 @@ use mathlib.Core.Bool.{Bool, not, _||_}
 use Prim.Native.Nat.{ℕ, zero, suc, _+_, _*_, _/_, _%_}
 use lib.ListN.{getD}
 use lib.Dec.{ltb, eqb}
-use Rattle.table.specs.Fold.{sumTo, smallestTo}
-use Rattle.table.specs.Refusal.{if, given, _or-next_, firstTo, outside}
+use Rattle.table.specs.Fold.{if, sumTo, smallestTo}
+use Rattle.table.specs.Refusal.{given, _or-next_, firstTo, outside}
+use Rattle.table.specs.Ranges.{streams-max, worst-min, worst-max, span-min, span-max, padding-max, padding-default, period-min, period-max}
 use Rattle.table.specs.declared.Table.{Table}
 use Rattle.table.specs.declared.Admission.{Admission}
 use Rattle.table.specs.declared.Admission.the-variants.{Admitted, Refused}
@@ -18,7 +19,7 @@ periodAt t i = getD (t .period) i 0
 
 -- "k, the padding, 0 to 3. Zero stands for the default, which is 1."
 unfoldable pub paddingOf : ℕ → ℕ
-paddingOf k = if (eqb k 0) 1 k
+paddingOf k = if (eqb k 0) padding-default k
 
 -- "Granted budget g = e + k × W"
 unfoldable pub grantedOf : ℕ → ℕ → ℕ → ℕ
@@ -46,15 +47,15 @@ loadOf t = sharesOf t + t .worst * (t .span / smallestPeriod t)
 -- 1 "no stream, or more than 8", 2 "W outside its range", 3 "H outside its range", 4 "k above 3"
 unfoldable pub numbersRefusal : Table → ℕ
 numbersRefusal t =
-    given (outside 1 8 (t .count)) 1
-    or-next given (outside 1 1000000 (t .worst)) 2
-    or-next given (outside 1000 600000000 (t .span)) 3
-    or-next given (ltb 3 (t .padding)) 4
+    given (outside 1 streams-max (t .count)) 1
+    or-next given (outside worst-min worst-max (t .worst)) 2
+    or-next given (outside span-min span-max (t .span)) 3
+    or-next given (ltb padding-max (t .padding)) 4
 
 -- of a stream with reserved time e and period p: 5 "p outside its range or not dividing H", 6 "e = 0 or g > p"
 unfoldable pub streamRefusal : ℕ → ℕ → ℕ → ℕ → ℕ → ℕ
 streamRefusal worst span k e p =
-    given (outside 1000 60000000 p || not (eqb (span % p) 0)) 5
+    given (outside period-min period-max p || not (eqb (span % p) 0)) 5
     or-next given (eqb e 0 || ltb p (grantedOf worst k e)) 6
 
 -- "then 5 and 6 stream by stream"

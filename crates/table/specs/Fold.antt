@@ -1,6 +1,12 @@
--- Folds over the streams of a table or a session, which are counted from 0: each goes up to a count, and each is written once, here.
+-- A choice by a test, and folds over the streams of a table or a session, which are counted from 0: each goes up to a count, and each is written once, here.
 use mathlib.Core.Bool.{Bool, true, false, _&&_, _||_}
+use mathlib.Core.List.{List, [], _∷_, _++_}
 use Prim.Native.Nat.{ℕ, zero, suc, _+_, min}
+
+module _ {A : Type 0} where
+  unfoldable pub if : Bool → A → A → A
+  if true x y = x
+  if false x y = y
 
 -- f 0 + .. + f (n - 1)
 unfoldable pub sumTo : (ℕ → ℕ) → ℕ → ℕ
@@ -21,3 +27,14 @@ allTo f (suc n) = allTo f n && f n
 unfoldable pub someTo : (ℕ → Bool) → ℕ → Bool
 someTo f zero = false
 someTo f (suc n) = someTo f n || f n
+
+-- the list of f 0, .., f (n - 1)
+module _ {A : Type 0} where
+  unfoldable pub listTo : (ℕ → A) → ℕ → List A
+  listTo f zero = []
+  listTo f (suc n) = listTo f n ++ (f n ∷ [])
+
+-- how many of 0, .., n - 1 pass the test
+unfoldable pub countTo : (ℕ → Bool) → ℕ → ℕ
+countTo f zero = 0
+countTo f (suc n) = if (f n) (suc (countTo f n)) (countTo f n)

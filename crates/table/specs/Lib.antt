@@ -1,3 +1,4 @@
 pub mod Fold
 pub mod Refusal
+pub mod Ranges
 pub mod Admission

@@ -1,14 +1,9 @@
--- Choices by a test, and refusals by number in the order of document 01: 0 refuses nothing.
+-- Refusals by number, in the order of document 01: 0 refuses nothing.
 use mathlib.Core.Bool.{Bool, true, false, _||_}
 use Prim.Native.Nat.{ℕ, zero, suc}
 use lib.Dec.{ltb}
 
 infixr 20 _or-next_
-module _ {A : Type 0} where
-  unfoldable pub if : Bool → A → A → A
-  if true x y = x
-  if false x y = y
-
 -- "given exactly when" the test holds
 unfoldable pub given : Bool → ℕ → ℕ
 given true n = n

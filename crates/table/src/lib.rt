@@ -23,15 +23,15 @@ impl Table {
 
     pub const WORST_MIN: u32 = 1;
 
-    pub const WORST_MAX: u32 = 1000000;
+    pub const WORST_MAX: u32 = 1_000_000;
 
-    pub const SPAN_MIN: u32 = 1000;
+    pub const SPAN_MIN: u32 = 1_000;
 
-    pub const SPAN_MAX: u32 = 600000000;
+    pub const SPAN_MAX: u32 = 600_000_000;
 
-    pub const PERIOD_MIN: u32 = 1000;
+    pub const PERIOD_MIN: u32 = 1_000;
 
-    pub const PERIOD_MAX: u32 = 60000000;
+    pub const PERIOD_MAX: u32 = 60_000_000;
 
     pub const PADDING_MAX: u32 = 3;
 

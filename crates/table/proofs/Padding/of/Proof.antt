@@ -1,6 +1,6 @@
 -- `Padding::of` gives the padding that k stands for, by the two cases of its test.
 use borrow.Author.Tests.{eq-eqb, ne-eqb}
-use Rattle.table.specs.Refusal.{if}
+use Rattle.table.specs.Fold.{if}
 use Rattle.table.specs.Admission.{paddingOf}
 use Rattle.table.proofs.Padding.of.Statement.{statement}
 use Rattle.table.proofs.Padding.of.Tie as tie

@@ -1,0 +1,212 @@
+-- The calls: what refuses them, what they come to, the session afterwards, and the reply.
+use mathlib.Core.Bool.{Bool, not, _&&_, _||_}
+use mathlib.Core.List.{List, [], _∷_, map}
+use Prim.Native.Nat.{ℕ, zero, suc, _+_, _-_}
+use lib.ListN.{getD}
+use lib.Dec.{ltb, eqb}
+use Rattle.table.specs.Fold.{if, someTo}
+use Rattle.table.specs.Refusal.{given, _or-next_, outside}
+use Rattle.session.specs.Stream.{session-end, duration-max, queue-max, moment, diskTime, arrived, without, charged, lapsed, moved}
+use Rattle.session.specs.Session.{streamAt, horizon, filledAt, someFilled, noSlot, latest, sound, withStreams, withStream, withDisk}
+use Rattle.session.specs.Choice.{nearestAt, chosen, expiring}
+use Rattle.session.specs.declared.Session.{Session}
+use Rattle.session.specs.declared.call.Call.{Call}
+use Rattle.session.specs.declared.call.Reply.{Reply}
+use Rattle.session.specs.declared.call.Answer.{Answer}
+
+-- What a call comes to. Streams and queue places are counted from 0 here.
+pub data Verdict : Type 0 where
+  refuse : ℕ → Verdict
+  append : ℕ → ℕ → Verdict
+  send : ℕ → ℕ → Verdict
+  move : Verdict
+  wait : Verdict
+  expire : ℕ → Verdict
+  finish : ℕ → ℕ → Verdict
+  set-clock : ℕ → Verdict
+
+-- 8 "stream number 0 or above the count"
+unfoldable pub noSuchStream : Session → ℕ → Bool
+noSuchStream s n = eqb n 0 || ltb (s .count) n
+
+-- 10 "a request is at the disk"
+unfoldable pub busy : Session → Bool
+busy s = not (eqb (s .served) 0)
+
+-- 14 "a deadline in a move, would pass 1,000,000,000,000"
+unfoldable pub movePassesEnd : Session → Bool
+movePassesEnd s =
+    someTo
+    (λ i. eqb (streamAt s i .deadline .0) (horizon s) && ltb session-end (streamAt s i .deadline .0 + streamAt s i .period))
+    (s .count)
+
+-- "Arrival: 8, 9. Turn: 10, 14 (only in b). Own turn: 10, 8, 15. Done: 11, 12, 14. Clock: 10, 13, 14."
+unfoldable pub callRefusal : Session → Call → ℕ
+callRefusal s (Call.Arrival n place) =
+    given (noSuchStream s n) 8
+    or-next given (eqb (streamAt s (n - 1) .queued) queue-max) 9
+callRefusal s Call.Turn =
+    given (busy s) 10
+    or-next given (noSlot s && movePassesEnd s) 14
+callRefusal s (Call.OwnTurn n j) =
+    given (busy s) 10
+    or-next given (noSuchStream s n) 8
+    or-next given (not (ltb j (filledAt s (n - 1)))) 15
+callRefusal s (Call.Done a) =
+    given (not (busy s)) 11
+    or-next given (outside 1 duration-max a) 12
+    or-next given (ltb session-end (s .clock .0 + a)) 14
+callRefusal s (Call.Clock t) =
+    given (busy s) 10
+    or-next given (ltb t (s .clock .0)) 13
+    or-next given (ltb session-end t) 14
+
+-- "Each session call gives 31 before all else."
+unfoldable pub refusal : Session → Call → ℕ
+refusal s k = given (not (sound s)) 31 or-next callRefusal s k
+
+-- "Turn, the first that applies": a. "some slot is filled: send", b. "no stream has a slot: move", c. "only empty slots and t < L: wait until L", d. "only empty slots and t ≥ L: expire one slot"
+unfoldable pub turnEffect : Session → Verdict
+turnEffect s =
+    if (someFilled s) (send (chosen s) (nearestAt s (chosen s)))
+    (if (noSlot s) move
+    (if (ltb (s .clock .0) (latest s)) wait
+    (expire (expiring s))))
+
+-- what a call comes to where nothing refuses it
+unfoldable pub effect : Session → Call → Verdict
+effect s (Call.Arrival n place) = append (n - 1) place
+effect s Call.Turn = turnEffect s
+effect s (Call.OwnTurn n j) = send (n - 1) j
+effect s (Call.Done a) = finish (s .served - 1) a
+effect s (Call.Clock t) = set-clock t
+
+unfoldable pub ruled : ℕ → Verdict → Verdict
+ruled zero v = v
+ruled (suc n) v = refuse (suc n)
+
+unfoldable pub verdict : Session → Call → Verdict
+verdict s k = ruled (refusal s k) (effect s k)
+
+-- The session afterwards. "A refused call returns its number and changes no byte of session or buffer."
+unfoldable pub apply : Session → Verdict → Session
+apply s (refuse n) = s
+apply s (append i place) = withStream s i (arrived place (streamAt s i))
+apply s (send i j) =
+    let place = getD (streamAt s i .places) j 0 in
+    withDisk (withStream s i (without j (streamAt s i))) (s .clock) place (i + 1) place
+apply s move = withStreams s (map (moved (s .clock) (horizon s)) (s .streams))
+apply s wait = s
+apply s (expire i) = withStream s i (lapsed (s .worst) (streamAt s i))
+apply s (finish i a) =
+    withDisk (withStream s i (charged a (streamAt s i))) (moment (s .clock .0 + a)) (s .head) 0 0
+apply s (set-clock t) = withDisk s (moment t) (s .head) (s .served) (s .place)
+
+-- "Overlong if a > W."
+unfoldable pub overlong : Session → ℕ → Bool
+overlong s a = ltb (s .worst) a
+
+-- "Late exactly if it is above L and above the clock."
+unfoldable pub late : Session → ℕ → Bool
+late s t = ltb (latest s) t && ltb (s .clock .0) t
+
+-- "Done replies: 20 arrival (value: queue length), 21 sent (place), 22 expired (charge after), 23 moved (new horizon), 24 wait (L), 25 done (charge after), 26 done overlong (charge after), 27 clock (time), 28 clock late (time)."
+unfoldable pub replyTo : Session → Verdict → Reply
+replyTo s (refuse n) = Reply.Refused n
+replyTo s (append i place) = Reply.Arrived (i + 1) (streamAt s i .queued + 1)
+replyTo s (send i j) = Reply.Sent (i + 1) (getD (streamAt s i .places) j 0)
+replyTo s move = Reply.Moved (moment (horizon (apply s move)))
+replyTo s wait = Reply.Wait (moment (latest s))
+replyTo s (expire i) = Reply.Expired (i + 1) (diskTime (streamAt s i .charge .0 + s .worst))
+replyTo s (finish i a) =
+    let charge = diskTime (streamAt s i .charge .0 + a) in
+    if (overlong s a) (Reply.Overlong (i + 1) charge) (Reply.Done (i + 1) charge)
+replyTo s (set-clock t) = if (late s t) (Reply.Late (moment t)) (Reply.Clock (moment t))
+
+-- the number of a reply
+unfoldable pub numberOf : Reply → ℕ
+numberOf (Reply.Refused n) = n
+numberOf (Reply.Arrived i queued) = 20
+numberOf (Reply.Sent i place) = 21
+numberOf (Reply.Expired i charge) = 22
+numberOf (Reply.Moved h) = 23
+numberOf (Reply.Wait until) = 24
+numberOf (Reply.Done i charge) = 25
+numberOf (Reply.Overlong i charge) = 26
+numberOf (Reply.Clock t) = 27
+numberOf (Reply.Late t) = 28
+
+-- "the value (0 for a refusal)"
+unfoldable pub valueOf : Reply → ℕ
+valueOf (Reply.Refused n) = 0
+valueOf (Reply.Arrived i queued) = queued
+valueOf (Reply.Sent i place) = place
+valueOf (Reply.Expired i charge) = charge .0
+valueOf (Reply.Moved h) = h .0
+valueOf (Reply.Wait until) = until .0
+valueOf (Reply.Done i charge) = charge .0
+valueOf (Reply.Overlong i charge) = charge .0
+valueOf (Reply.Clock t) = t .0
+valueOf (Reply.Late t) = t .0
+
+-- the stream that a call itself names, "the event's own stream byte"
+unfoldable pub calledStream : Call → ℕ
+calledStream (Call.Arrival n place) = n
+calledStream Call.Turn = 0
+calledStream (Call.OwnTurn n j) = n
+calledStream (Call.Done a) = 0
+calledStream (Call.Clock t) = 0
+
+-- "the stream (0 where it is a move, wait or clock; the stream served for done; a refused call shows the event's own stream byte)"
+unfoldable pub streamOf : Call → Reply → ℕ
+streamOf k (Reply.Refused n) = calledStream k
+streamOf k (Reply.Arrived i queued) = i
+streamOf k (Reply.Sent i place) = i
+streamOf k (Reply.Expired i charge) = i
+streamOf k (Reply.Moved h) = 0
+streamOf k (Reply.Wait until) = 0
+streamOf k (Reply.Done i charge) = i
+streamOf k (Reply.Overlong i charge) = i
+streamOf k (Reply.Clock t) = 0
+streamOf k (Reply.Late t) = 0
+
+-- one call, and the run of a list of calls: each answer is the session for the next
+unfoldable pub answerTo : Session → Call → Answer
+answerTo s k =
+    let v = verdict s k in
+    record { session = apply s v; reply = replyTo s v }
+
+unfoldable pub run : Session → List Call → List Answer
+run s [] = []
+run s (k ∷ ks) =
+    let a = answerTo s k in
+    a ∷ run (a .session) ks
+
+-- the session after all of them
+unfoldable pub after : Session → List Call → Session
+after s [] = s
+after s (k ∷ ks) = after (answerTo s k .session) ks
+
+-- the numbers of a printed line: "its number from 1, the reply, the stream [...], the value [...], the clock afterwards"
+pub record Line : Type 0 where
+  pub event : ℕ
+  pub answer : ℕ
+  pub stream : ℕ
+  pub value : ℕ
+  pub clock : ℕ
+
+unfoldable pub lineOf : ℕ → Call → Answer → Line
+lineOf n k a =
+    record {
+      event = n;
+      answer = numberOf (a .reply);
+      stream = streamOf k (a .reply);
+      value = valueOf (a .reply);
+      clock = a .session .clock .0;
+    }
+
+unfoldable pub linesFrom : ℕ → Session → List Call → List Line
+linesFrom n s [] = []
+linesFrom n s (k ∷ ks) =
+    let a = answerTo s k in
+    lineOf n k a ∷ linesFrom (n + 1) (a .session) ks

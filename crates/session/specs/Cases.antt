@@ -1,0 +1,158 @@
+-- Document 01's worked cases, one line each: what the rules give, beside what the document says. The statement that covers the list is `CasesHold`.
+use mathlib.Core.Path.{_≡_}
+use mathlib.Core.List.{List, [], _∷_, _++_, map}
+use Prim.Native.Nat.{ℕ, zero, suc, _/_, _%_}
+use lib.ListN.{length, replicate, take}
+use Rattle.table.specs.Ranges.{streams-max}
+use Rattle.table.specs.Admission.{admissionOf}
+use Rattle.table.specs.declared.Table.{Table}
+use Rattle.session.specs.Stream.{Fraction, slots, microDeadline, charged}
+use Rattle.session.specs.Session.{streamAt}
+use Rattle.session.specs.Calls.{Line, after, linesFrom}
+use Rattle.session.specs.Opening.{freshStream, openingOf}
+use Rattle.session.specs.declared.stream.Job.{Job}
+use Rattle.session.specs.declared.stream.Stream.{Stream}
+use Rattle.session.specs.declared.Session.{Session}
+use Rattle.session.specs.declared.call.Call.{Call}
+use Rattle.session.specs.declared.call.Call.the-variants.{Arrival, Turn, OwnTurn, Done, Clock}
+
+-- rows of numbers that the rules give, and those of the document
+pub record Case : Type 0 where
+  pub rules : List (List ℕ)
+  pub document : List (List ℕ)
+
+-- a table of W, H, k, its count, and the reserved times and periods of its streams
+unfoldable pub padded : List ℕ → List ℕ
+padded ns = take streams-max (ns ++ replicate streams-max 0)
+
+abbrev pub table : ℕ → ℕ → ℕ → List ℕ → List ℕ → Table
+table worst span k reserved period =
+    record {
+      worst = worst;
+      span = span;
+      padding = k;
+      count = length period;
+      reserved = padded reserved;
+      period = padded period;
+    }
+
+-- what admission says of a table: 0, or the number of the refusal
+abbrev pub admits : Table → ℕ → Case
+admits t n = record { rules = (admissionOf t ∷ []) ∷ []; document = (n ∷ []) ∷ [] }
+
+-- "one stream, H = p = 1,000,000, W 25,000", with a padding k and a reserved time e
+abbrev pub alone : ℕ → ℕ → Table
+alone k e = table 25_000 1_000_000 k (e ∷ []) (1_000_000 ∷ [])
+
+-- "g 50,000, p 250,000, W 25,000, release 0", after completions of the given durations
+unfoldable pub completed : List ℕ → Stream → Stream
+completed [] x = x
+completed (a ∷ rest) x = completed rest (charged a x)
+
+abbrev pub streamA : List ℕ → Stream
+streamA durations = completed durations (freshStream 25_000 250_000 50_000)
+
+-- the micro-deadlines of a stream's next slots: each is the whole number that the document gives, with nothing left over
+unfoldable pub parts : Fraction → List ℕ
+parts m = m .above / m .below ∷ m .above % m .below ∷ []
+
+unfoldable pub microDeadlines : Stream → ℕ → List (List ℕ)
+microDeadlines x zero = []
+microDeadlines x (suc n) = microDeadlines x n ++ (parts (microDeadline 25_000 x (suc n)) ∷ [])
+
+abbrev pub micros : Stream → List ℕ → Case
+micros x ms = record { rules = microDeadlines x (length ms); document = map (λ m. m ∷ 0 ∷ []) ms }
+
+-- the slots of that stream at a horizon of 250,000
+abbrev pub leaves : ℕ → ℕ → Case
+leaves charge n = record { rules = (slots 25_000 250_000 (streamA (charge ∷ [])) ∷ []) ∷ []; document = (n ∷ []) ∷ [] }
+
+-- what the program prints for a table and calls: number, answer, stream, value, clock
+unfoldable pub row : Line → List ℕ
+row l = l .event ∷ l .answer ∷ l .stream ∷ l .value ∷ l .clock ∷ []
+
+abbrev pub prints : Table → List Call → List (List ℕ) → Case
+prints t calls rows = record { rules = map row (linesFrom 1 (openingOf t .session) calls); document = rows }
+
+-- the record of the last closed job of a stream, counted from 0: charge, closing clock, deadline, expired count
+unfoldable pub recorded : Job → List ℕ
+recorded j = j .charge .0 ∷ j .closed .0 ∷ j .deadline .0 ∷ j .expired ∷ []
+
+abbrev pub records : Table → List Call → ℕ → List ℕ → Case
+records t calls i cells =
+    record { rules = recorded (streamAt (after (openingOf t .session) calls) i .last) ∷ []; document = cells ∷ [] }
+
+-- the numbers of the answers to calls
+abbrev pub answers : Table → List Call → List ℕ → Case
+answers t calls numbers =
+    record {
+      rules = map (λ l. l .answer) (linesFrom 1 (openingOf t .session) calls) ∷ [];
+      document = numbers ∷ [];
+    }
+
+-- the table of the listing, and "that stream alone, H 250,000"
+abbrev pub listed : Table
+listed = table 25_000 1_000_000 1 (25_000 ∷ 175_000 ∷ []) (250_000 ∷ 500_000 ∷ [])
+
+abbrev pub single : Table
+single = table 25_000 250_000 1 (25_000 ∷ []) (250_000 ∷ [])
+
+-- "two requests of 25,000", and the turn after them
+abbrev pub twoRequests : List Call
+twoRequests = Arrival 1 100 ∷ Arrival 1 100 ∷ Turn ∷ Done 25_000 ∷ Turn ∷ Done 25_000 ∷ Turn ∷ []
+
+-- the cases marked P, in the document's order
+unfoldable pub cases : List Case
+cases =
+    prints
+    listed
+    (Arrival 1 100
+    ∷ Turn
+    ∷ Done 5_000
+    ∷ Turn
+    ∷ Clock 105_000
+    ∷ Turn
+    ∷ Arrival 2 900
+    ∷ Turn
+    ∷ Clock 106_000
+    ∷ Done 25_000
+    ∷ Clock 160_000
+    ∷ [])
+    ((1 ∷ 20 ∷ 1 ∷ 1 ∷ 0 ∷ [])
+    ∷ (2 ∷ 21 ∷ 1 ∷ 100 ∷ 0 ∷ [])
+    ∷ (3 ∷ 25 ∷ 1 ∷ 5_000 ∷ 5_000 ∷ [])
+    ∷ (4 ∷ 24 ∷ 0 ∷ 105_000 ∷ 5_000 ∷ [])
+    ∷ (5 ∷ 27 ∷ 0 ∷ 105_000 ∷ 105_000 ∷ [])
+    ∷ (6 ∷ 22 ∷ 2 ∷ 25_000 ∷ 105_000 ∷ [])
+    ∷ (7 ∷ 20 ∷ 2 ∷ 1 ∷ 105_000 ∷ [])
+    ∷ (8 ∷ 21 ∷ 2 ∷ 900 ∷ 105_000 ∷ [])
+    ∷ (9 ∷ 10 ∷ 0 ∷ 0 ∷ 105_000 ∷ [])
+    ∷ (10 ∷ 25 ∷ 2 ∷ 50_000 ∷ 130_000 ∷ [])
+    ∷ (11 ∷ 28 ∷ 0 ∷ 160_000 ∷ 160_000 ∷ [])
+    ∷ [])
+    ∷ admits (alone 1 950_000) 0
+    ∷ admits (alone 1 950_001) 7
+    ∷ admits (alone 1 975_000) 7
+    ∷ admits (alone 1 975_001) 6
+    ∷ admits (alone 3 900_000) 0
+    ∷ admits (alone 3 900_001) 7
+    ∷ admits (table 0 0 0 [] []) 1
+    ∷ micros (streamA []) (125_000 ∷ 250_000 ∷ 375_000 ∷ [])
+    ∷ micros (streamA (5_000 ∷ [])) (150_000 ∷ 275_000 ∷ [])
+    ∷ micros (streamA (5_000 ∷ 5_000 ∷ [])) (175_000 ∷ [])
+    ∷ leaves 25_000 1
+    ∷ leaves 25_001 0
+    ∷ prints
+    single
+    twoRequests
+    ((1 ∷ 20 ∷ 1 ∷ 1 ∷ 0 ∷ [])
+    ∷ (2 ∷ 20 ∷ 1 ∷ 2 ∷ 0 ∷ [])
+    ∷ (3 ∷ 21 ∷ 1 ∷ 100 ∷ 0 ∷ [])
+    ∷ (4 ∷ 25 ∷ 1 ∷ 25_000 ∷ 25_000 ∷ [])
+    ∷ (5 ∷ 21 ∷ 1 ∷ 100 ∷ 25_000 ∷ [])
+    ∷ (6 ∷ 25 ∷ 1 ∷ 50_000 ∷ 50_000 ∷ [])
+    ∷ (7 ∷ 23 ∷ 0 ∷ 500_000 ∷ 50_000 ∷ [])
+    ∷ [])
+    ∷ records single twoRequests 0 (50_000 ∷ 50_000 ∷ 250_000 ∷ 0 ∷ [])
+    ∷ answers listed (replicate 17 (Arrival 1 5)) (replicate 16 20 ++ (9 ∷ []))
+    ∷ []

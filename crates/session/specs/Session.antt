@@ -1,0 +1,121 @@
+-- A session: its streams, the horizon, the latest safe moment, and when it is sound.
+use mathlib.Core.Bool.{Bool, _&&_, _||_}
+use mathlib.Core.List.{List, [], map}
+use Prim.Native.Nat.{ℕ, _+_, _-_, _*_, _/_}
+use lib.ListN.{length, getD, set}
+use lib.Dec.{leb, ltb, eqb}
+use Rattle.table.specs.Fold.{if, sumTo, smallestTo, allTo, someTo}
+use Rattle.table.specs.Ranges.{streams-max}
+use Rattle.table.specs.Admission.{admissionOf}
+use Rattle.table.specs.declared.Table.{Table}
+use Rattle.session.specs.Stream.{session-end, moment, diskTime, slots, filled, soundStream, unusedStream}
+use Rattle.session.specs.declared.time.Clock.{Clock}
+use Rattle.session.specs.declared.stream.Stream.{Stream}
+use Rattle.session.specs.declared.Session.{Session}
+
+-- what is read past the end of a list of streams; in a sound session nothing is
+abbrev pub noStream : Stream
+noStream =
+    record {
+      reserved = 0;
+      period = 0;
+      granted = diskTime 0;
+      release = moment 0;
+      deadline = moment 0;
+      charge = diskTime 0;
+      expired = 0;
+      queued = 0;
+      places = [];
+      last = record { charge = diskTime 0; closed = moment 0; deadline = moment 0; expired = 0 };
+    }
+
+-- a stream of a session, counted from 0
+abbrev pub streamAt : Session → ℕ → Stream
+streamAt s i = getD (s .streams) i noStream
+
+-- "Horizon h = smallest deadline."
+unfoldable pub horizon : Session → ℕ
+horizon s = smallestTo (λ i. streamAt s i .deadline .0) (s .count)
+
+abbrev pub slotsAt : Session → ℕ → ℕ
+slotsAt s i = slots (s .worst) (horizon s) (streamAt s i)
+
+abbrev pub filledAt : Session → ℕ → ℕ
+filledAt s i = filled (s .worst) (horizon s) (streamAt s i)
+
+-- "some slot is filled"
+unfoldable pub someFilled : Session → Bool
+someFilled s = someTo (λ i. leb 1 (filledAt s i)) (s .count)
+
+-- "no stream has a slot"
+unfoldable pub noSlot : Session → Bool
+noSlot s = allTo (λ i. eqb (slotsAt s i) 0) (s .count)
+
+-- the first part of "the remainder of a stream is (h − r) × g / p − c", times H: a whole number, since p divides H
+abbrev pub scaledPart : Session → ℕ → ℕ
+scaledPart s i = (horizon s - streamAt s i .release .0) * streamAt s i .granted .0 * (s .span / streamAt s i .period)
+
+-- "Latest safe moment L = h less the sum of all remainders, rounded down once." All is scaled by H, and the one division rounds down.
+unfoldable pub latest : Session → ℕ
+latest s =
+    ((horizon s + sumTo (λ i. streamAt s i .charge .0) (s .count)) * s .span - sumTo (scaledPart s) (s .count)) / s .span
+
+-- the table that a session was opened with
+abbrev pub tableOf : Session → Table
+tableOf s =
+    record {
+      worst = s .worst;
+      span = s .span;
+      padding = s .padding;
+      count = s .count;
+      reserved = map (λ x. x .reserved) (s .streams);
+      period = map (λ x. x .period) (s .streams);
+    }
+
+-- "the stream at the disk, if any, exists and has a slot"; "every unused cell is 0 (.. the place while nothing is at the disk)"
+unfoldable pub soundDisk : Session → Bool
+soundDisk s =
+    if (eqb (s .served) 0) (eqb (s .place) 0) (leb (s .served) (s .count) && leb 1 (slotsAt s (s .served - 1)))
+
+-- "A session is sound if its table numbers are ones that opening admits; [...]". Of its eight streams the first are used, and the others are 0.
+unfoldable pub sound : Session → Bool
+sound s =
+    eqb (admissionOf (tableOf s)) 0
+    && eqb (length (s .streams)) streams-max
+    && allTo (λ i. soundStream (s .worst) (s .padding) (horizon s) (streamAt s i)) (s .count)
+    && allTo (λ i. ltb i (s .count) || unusedStream (streamAt s i)) streams-max
+    && leb (s .clock .0) session-end
+    && soundDisk s
+
+-- a session with other streams, and with another stream at i
+abbrev pub withStreams : Session → List Stream → Session
+withStreams s streams =
+    record {
+      worst = s .worst;
+      span = s .span;
+      padding = s .padding;
+      count = s .count;
+      clock = s .clock;
+      head = s .head;
+      served = s .served;
+      place = s .place;
+      streams = streams;
+    }
+
+abbrev pub withStream : Session → ℕ → Stream → Session
+withStream s i x = withStreams s (set (s .streams) i x)
+
+-- a session with another clock, and another request at the disk: its stream counted from 1 and its place, or 0 and 0
+abbrev pub withDisk : Session → Clock → ℕ → ℕ → ℕ → Session
+withDisk s clock head served place =
+    record {
+      worst = s .worst;
+      span = s .span;
+      padding = s .padding;
+      count = s .count;
+      clock = clock;
+      head = head;
+      served = served;
+      place = place;
+      streams = s .streams;
+    }

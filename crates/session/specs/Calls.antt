@@ -6,7 +6,8 @@ use lib.ListN.{getD}
 use lib.Dec.{ltb, eqb}
 use Rattle.table.specs.Fold.{if, someTo}
 use Rattle.table.specs.Refusal.{given, _or-next_, outside}
-use Rattle.session.specs.Stream.{session-end, duration-max, queue-max, moment, diskTime, arrived, without, charged, lapsed, moved}
+use Rattle.session.specs.Time.{session-end, duration-max, moment, diskTime}
+use Rattle.session.specs.Stream.{queue-max, arrived, without, charged, lapsed, moved}
 use Rattle.session.specs.Session.{streamAt, horizon, filledAt, someFilled, noSlot, latest, sound, withStreams, withStream, withDisk}
 use Rattle.session.specs.Choice.{nearestAt, chosen, expiring}
 use Rattle.session.specs.declared.Session.{Session}

@@ -6,7 +6,8 @@ use Rattle.table.specs.Fold.{if, listTo}
 use Rattle.table.specs.Ranges.{streams-max}
 use Rattle.table.specs.Admission.{reservedAt, periodAt, grantedOf, admissionOf, answered}
 use Rattle.table.specs.declared.Table.{Table}
-use Rattle.session.specs.Stream.{queue-max, moment, diskTime}
+use Rattle.session.specs.Time.{moment, diskTime}
+use Rattle.session.specs.Stream.{queue-max}
 use Rattle.session.specs.declared.stream.Stream.{Stream}
 use Rattle.session.specs.declared.Session.{Session}
 use Rattle.session.specs.declared.call.Opened.{Opened}

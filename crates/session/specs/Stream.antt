@@ -5,32 +5,16 @@ use mathlib.Core.List.{List, [], _∷_, _++_}
 use Prim.Native.Nat.{ℕ, suc, _+_, _-_, _*_, _/_, min}
 use lib.ListN.{length, getD, set, take, drop}
 use lib.Dec.{leb, ltb, eqb}
-use Rattle.table.specs.Fold.{allTo}
-use Rattle.table.specs.Fold.{if}
+use Rattle.table.specs.Fold.{if, allTo}
 use Rattle.table.specs.Admission.{grantedOf}
+use Rattle.session.specs.Time.{session-end, duration-max, moment, diskTime}
 use Rattle.session.specs.declared.time.Clock.{Clock}
-use Rattle.session.specs.declared.time.Charge.{Charge}
 use Rattle.session.specs.declared.stream.Job.{Job}
 use Rattle.session.specs.declared.stream.Stream.{Stream}
-
--- "the clock and all deadlines are at most 1,000,000,000,000"
-abbrev pub session-end : ℕ
-session-end = 1_000_000_000_000
-
--- "duration outside 1 to 10,000,000"; "each charge is at most g + 10,000,000"
-abbrev pub duration-max : ℕ
-duration-max = 10_000_000
 
 -- "a queue of up to 16 places in order of arrival"
 abbrev pub queue-max : ℕ
 queue-max = 16
-
--- a moment of clock time, and an amount of disk time
-abbrev pub moment : ℕ → Clock
-moment n = record { 0 = n }
-
-abbrev pub diskTime : ℕ → Charge
-diskTime n = record { 0 = n }
 
 -- "Slots of a stream: the number s of whole n ≥ 1 with (c + n × W) × p ≤ (h − r) × g." It is found by one division; that it is that number is the law `SlotsAreCounted`.
 unfoldable pub slots : ℕ → ℕ → Stream → ℕ

@@ -3,12 +3,18 @@ mod call;
 mod stream;
 mod time;
 
+ghost use mathlib.Core.Path.{_≡_};
+ghost use Prim.Native.Nat.{_<_};
+ghost use Rattle.table.specs.Fold.{listTo};
+ghost use Rattle.session.specs.Opening.{openedStream, freshSession, zeroSession, openingOf};
 pub use call::Answer;
 pub use call::Call;
 pub use call::Opened;
 pub use call::Reply;
 pub use stream::Job;
 pub use stream::Stream;
+use table::Admission;
+use table::Table;
 pub use time::Charge;
 pub use time::Clock;
 
@@ -23,4 +29,99 @@ pub struct Session {
     pub served: usize,
     pub place: u64,
     pub streams: [Stream; 8],
+}
+
+impl Session {
+    // Opens a session with a table: a fresh one if the table is admitted, else the all-zero one beside the refusal.
+    pub fn open(table: Table) -> Opened
+        ensures { λ r. ⌜ r ≡ openingOf table ⌝ }
+    {
+        let admission = table.admission();
+        match admission {
+            Admission::Admitted => {
+                let session = fresh(table);
+                Opened {
+                    session: session,
+                    admission: admission,
+                }
+            }
+            Admission::Refused(_) => {
+                let session = Session::zero();
+                Opened {
+                    session: session,
+                    admission: admission,
+                }
+            }
+        }
+    }
+
+    // The all-zero session, which is not sound: it stands where none was made.
+    pub fn zero() -> Session
+        ensures { λ r. ⌜ r ≡ zeroSession ⌝ }
+    {
+        let unused = Stream::fresh(0, 0, 0);
+        let streams = [unused; 8];
+        let start = Clock::at(0);
+        Session {
+            worst: 0,
+            span: 0,
+            padding: 0,
+            count: 0,
+            clock: start,
+            head: 0,
+            served: 0,
+            place: 0,
+            streams: streams,
+        }
+    }
+}
+
+// A session at the first release of every stream.
+fn fresh(t: Table) -> Session
+    ensures { λ r. ⌜ r ≡ freshSession t ⌝ }
+{
+    let streams = opened_streams(t);
+    let start = Clock::at(0);
+    Session {
+        worst: t.worst,
+        span: t.span,
+        padding: t.padding,
+        count: t.count,
+        clock: start,
+        head: 0,
+        served: 0,
+        place: 0,
+        streams: streams,
+    }
+}
+
+// The eight streams of a session that is opened with a table.
+fn opened_streams(t: Table) -> [Stream; 8]
+    ensures { λ r. ⌜ r ≡ listTo (openedStream t) 8 ⌝ }
+{
+    let unused = Stream::fresh(0, 0, 0);
+    let mut streams = [unused; 8];
+    let mut i: usize = 0;
+    while i < 8 {
+        let x = opened_stream(t, i);
+        streams[i] = x;
+        i += 1;
+    }
+    streams
+}
+
+// One of them: past the table's count a stream of zeros.
+fn opened_stream(t: Table, i: usize) -> Stream
+    requires { ⌜ i < 8 ⌝ }
+    ensures { λ r. ⌜ r ≡ openedStream t i ⌝ }
+{
+    if i < t.count {
+        let reserved = t.reserved;
+        let period = t.period;
+        let e = reserved[i];
+        let budget = table::granted(t.worst, t.padding, e);
+        Stream::fresh(e, period[i], budget)
+    } else {
+        Stream::fresh(0, 0, 0)
+    }
 }

@@ -1,6 +1,8 @@
 // One stream of a session, and the record of its last closed job.
 use crate::time::Charge;
 use crate::time::Clock;
+ghost use mathlib.Core.Path.{_≡_};
+ghost use Rattle.session.specs.Opening.{freshStream};
 
 pub struct Job {
     pub charge: Charge,
@@ -21,4 +23,37 @@ pub struct Stream {
     pub queued: usize,
     pub places: [u64; 16],
     pub last: Job,
+}
+
+impl Stream {
+    pub const QUEUE_MAX: usize = 16;
+
+    // A stream at its first release: nothing queued, nothing charged, no job closed.
+    pub fn fresh(reserved: u32, period: u32, granted: u64) -> Stream
+        ensures { λ r. ⌜ r ≡ freshStream reserved period granted ⌝ }
+    {
+        let start = Clock::at(0);
+        let nothing = Charge::of(0);
+        let last = Job {
+            charge: nothing,
+            closed: start,
+            deadline: start,
+            expired: 0,
+        };
+        let budget = Charge::of(granted);
+        let deadline = Clock::at(period as u64);
+        let places = [0u64; 16];
+        Stream {
+            reserved: reserved,
+            period: period,
+            granted: budget,
+            release: start,
+            deadline: deadline,
+            charge: nothing,
+            expired: 0,
+            queued: 0,
+            places: places,
+            last: last,
+        }
+    }
 }

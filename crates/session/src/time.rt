@@ -1,5 +1,6 @@
 // Whole microseconds of two kinds that are counted apart: when it is, and how much disk time was had.
 ghost use mathlib.Core.Path.{_≡_};
+ghost use Rattle.session.specs.Time.{moment, diskTime};
 
 // A moment of clock time.
 pub struct Clock(u64);
@@ -12,7 +13,7 @@ impl Clock {
     pub const END: u64 = 1_000_000_000_000;
 
     pub fn at(micros: u64) -> Clock
-        ensures { λ r. ⌜ r .0 ≡ micros ⌝ }
+        ensures { λ r. ⌜ r ≡ moment micros ⌝ }
     {
         Clock(micros)
     }
@@ -23,7 +24,7 @@ impl Charge {
     pub const DURATION_MAX: u64 = 10_000_000;
 
     pub fn of(micros: u64) -> Charge
-        ensures { λ r. ⌜ r .0 ≡ micros ⌝ }
+        ensures { λ r. ⌜ r ≡ diskTime micros ⌝ }
     {
         Charge(micros)
     }

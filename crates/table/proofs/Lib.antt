@@ -1,3 +1,4 @@
 pub mod Tests
 pub mod Folds
+pub mod Lists
 pub mod Judged

@@ -1,0 +1,20 @@
+-- `Session::zero` gives the session of zeros.
+use Rattle.session.specs.Opening.{zeroSession}
+use native.Mathlib.Omega.{arith}
+use mathlib.Core.Path.{_≡_, refl, sym, ap, _∙_}
+use borrow.Author.Needs.{needs}
+use Rattle.session.proofs.Session.zero.Statement.{statement}
+use Rattle.session.proofs.Session.zero.Tie as tie
+
+fresh-requires : tie.Need-fresh-requires
+fresh-requires c κs = search needs
+
+at-requires : tie.Need-at-requires
+at-requires c κs = search needs
+
+returns : tie.Need-returns
+unfolding zeroSession
+returns c = rw (c .at .ensures, c .before .fresh .ensures)
+
+pub zero-spec : {M : Type 1} → statement M
+zero-spec = tie.close (tie.spec fresh-requires at-requires returns)

@@ -1,0 +1,24 @@
+-- `fresh` gives a fresh session.
+use Rattle.session.specs.Opening.{freshSession}
+use native.Mathlib.Omega.{arith}
+use mathlib.Core.Path.{_≡_, refl, sym, ap, _∙_}
+use borrow.Author.Needs.{needs}
+use Rattle.session.proofs.fresh.Statement.{statement}
+use Rattle.session.proofs.fresh.Tie as tie
+use Rattle.session.proofs.fresh.Reads as reads
+use Rattle.session.proofs.fresh.Lts as lts
+use Rattle.session.proofs.opened_streams.Reads as opened-streams-reads
+use Rattle.session.proofs.time.Clock.at.Reads as at-reads
+
+opened-streams-requires : tie.Need-opened-streams-requires
+opened-streams-requires c κs = search needs
+
+at-requires : tie.Need-at-requires
+at-requires c κs = search needs
+
+returns : tie.Need-returns
+unfolding freshSession
+returns c = rw (c .at .ensures, c .before .opened-streams .ensures)
+
+pub fresh-spec : {M : Type 1} → statement M
+fresh-spec = tie.close (tie.spec opened-streams-requires at-requires returns)

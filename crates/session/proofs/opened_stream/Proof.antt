@@ -1,0 +1,57 @@
+-- `opened_stream` gives the stream at i by the two cases of its test.
+use borrow.Author.Tests.{lt-ltb, le-ltb}
+use Rattle.table.specs.Fold.{if}
+use Rattle.session.specs.Opening.{openedStream}
+use native.Mathlib.Omega.{arith}
+use mathlib.Core.Path.{_≡_, refl, sym, ap, _∙_}
+use borrow.Author.Needs.{needs}
+use Rattle.session.proofs.opened_stream.Statement.{statement}
+use Rattle.session.proofs.opened_stream.Tie as tie
+
+mul-e : tie.Need-mul-e
+mul-e c = search needs
+
+array-read-e : tie.Need-array-read-e
+array-read-e c = search needs
+
+granted-requires : tie.Need-granted-requires
+granted-requires c κs = search needs
+
+mul-fresh : tie.Need-mul-fresh
+mul-fresh c = search needs
+
+array-read-fresh : tie.Need-array-read-fresh
+array-read-fresh c = search needs
+
+fresh-requires : tie.Need-fresh-requires
+fresh-requires c κs = search needs
+
+fresh-requires-2 : tie.Need-fresh-requires-2
+fresh-requires-2 c κs = search needs
+
+returns : tie.Need-returns
+unfolding openedStream if
+returns c =
+    rw (
+      c .fresh .ensures,
+      c .before .granted .ensures,
+      lt-ltb _ _ (c .before .before .before .before .if1 .taken),
+    )
+
+returns-2 : tie.Need-returns-2
+unfolding openedStream if
+returns-2 c = rw (c .fresh2 .ensures, le-ltb _ _ (c .before .if1 .left))
+
+pub opened-stream-spec : {M : Type 1} → statement M
+opened-stream-spec =
+    tie.close
+    (tie.spec
+    mul-e
+    array-read-e
+    granted-requires
+    mul-fresh
+    array-read-fresh
+    fresh-requires
+    fresh-requires-2
+    returns
+    returns-2)

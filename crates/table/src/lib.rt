@@ -1,9 +1,9 @@
 // Reservation tables: their numbers, the ranges of these, and which are admitted.
 ghost use mathlib.Core.Path.{_≡_};
-ghost use Prim.Native.Nat.{_+_, _*_, _≤_, _<_};
+ghost use Prim.Native.Nat.{_*_, _≤_};
 ghost use Rattle.table.specs.Admission.{paddingOf, grantedOf, shareOf, sharesOf, smallestPeriod, loadOf, numbersRefusal, streamRefusal, streamsRefusal, admissionOf, answered};
 
-// The numbers of a table, as booked: of its eight places for streams the first `count` are used.
+// The numbers of a table, as booked. Of its eight places for streams the first `count` are used.
 pub struct Table {
     pub worst: u32,
     pub span: u32,
@@ -13,6 +13,7 @@ pub struct Table {
     pub period: [u32; 8],
 }
 
+// What is said of a table: it is admitted, or refused by number.
 pub enum Admission {
     Admitted,
     Refused(u64),
@@ -32,10 +33,6 @@ impl Table {
     pub const PERIOD_MIN: u32 = 1_000;
 
     pub const PERIOD_MAX: u32 = 60_000_000;
-
-    pub const PADDING_MAX: u32 = 3;
-
-    pub const PADDING_DEFAULT: u32 = 1;
 
     // Whether the table is admitted, or the first refusal that applies.
     pub fn admission(self) -> Admission
@@ -57,7 +54,7 @@ impl Table {
 }
 
 // How many worst-case requests a granted budget holds beside the reserved time.
-pub struct Padding(pub u32);
+pub struct Padding(u32);
 
 impl Padding {
     pub const DEFAULT: u32 = 1;
@@ -141,9 +138,11 @@ fn load(t: Table) -> u64
     ensures { λ r. ⌜ r ≡ loadOf t ⌝ }
 {
     let least = smallest_period(t);
-    shares(t) + t.worst as u64 * (t.span / least) as u64
+    let blocking = t.worst as u64 * (t.span / least) as u64;
+    shares(t) + blocking
 }
 
+// The smallest of the periods.
 fn smallest_period(t: Table) -> u32
     requires { ⌜ t .count ≤ 8 ⌝ }
     ensures { λ r. ⌜ r ≡ smallestPeriod t ⌝ }

@@ -23,44 +23,45 @@ blocking-high t p n =
 smallest-period-requires : tie.Need-smallest-period-requires
 smallest-period-requires c κs = numbers-of _ (c .pre .0) .count-high
 
+cast-blocking : tie.Need-cast-blocking
+cast-blocking c = search needs
+
+div-blocking : tie.Need-div-blocking
+div-blocking c =
+    let s = c .before .before .before in
+    rw (c .before .before .smallest-period .ensures) (omega (arith, smallest-low (s .args .t) (s .pre .0) (s .pre .1)))
+
+cast-blocking-2 : tie.Need-cast-blocking-2
+cast-blocking-2 c = omega (arith, div-le-self (c .before .before .before .args .t .span) (c .before .before .smallest-period .result))
+
+mul-blocking : tie.Need-mul-blocking
+mul-blocking c =
+    let s = c .before .before .before in
+    omega (arith, blocking-high (s .args .t) (c .before .before .smallest-period .result) (s .pre .0))
+
 shares-requires : tie.Need-shares-requires
-shares-requires c κs = (numbers-of _ (c .before .pre .0) .count-high, c .before .pre .1)
-
-cast-result : tie.Need-cast-result
-cast-result c = search needs
-
-div-result : tie.Need-div-result
-div-result c =
-    let s = c .before .before .before .before in
-    rw (c .before .before .before .smallest-period .ensures) (omega (arith, smallest-low (s .args .t) (s .pre .0) (s .pre .1)))
-
-cast-result-2 : tie.Need-cast-result-2
-cast-result-2 c =
-    omega (arith, div-le-self (c .before .before .before .before .args .t .span) (c .before .before .before .smallest-period .result))
-
-mul-result : tie.Need-mul-result
-mul-result c =
-    let s = c .before .before .before .before in
-    omega (arith, blocking-high (s .args .t) (c .before .before .before .smallest-period .result) (s .pre .0))
+shares-requires c κs =
+    let s = c .before .before .before in
+    (numbers-of _ (s .pre .0) .count-high, s .pre .1)
 
 add-result : tie.Need-add-result
 add-result c =
     let s = c .before .before .before .before in
-    omega (arith, blocking-high (s .args .t) (c .before .before .before .smallest-period .result) (s .pre .0), c .before .before .shares .ensures .1)
+    omega (arith, blocking-high (s .args .t) (c .before .before .before .smallest-period .result) (s .pre .0), c .shares .ensures .1)
 
 returns : tie.Need-returns
 unfolding loadOf
-returns c = rw (c .before .before .shares .ensures .0, c .before .before .before .smallest-period .ensures)
+returns c = rw (c .shares .ensures .0, c .before .before .before .smallest-period .ensures)
 
 pub load-spec : {M : Type 1} → statement M
 load-spec =
     tie.close
     (tie.spec
     smallest-period-requires
+    cast-blocking
+    div-blocking
+    cast-blocking-2
+    mul-blocking
     shares-requires
-    cast-result
-    div-result
-    cast-result-2
-    mul-result
     add-result
     returns)

@@ -1,3 +1,4 @@
 pub mod Rules
 pub mod Worked
 pub mod Slots
+pub mod Sound

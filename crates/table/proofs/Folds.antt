@@ -1,13 +1,13 @@
 -- Laws of the folds, over any count.
 use mathlib.Core.Bool.{Bool, true, false}
-use mathlib.Core.Path.{_≡_}
+use mathlib.Core.Path.{_≡_, refl}
 use mathlib.Core.Logic.{⊎-elim}
 use Prim.Native.Nat.{ℕ, zero, suc, min, _≤_, _<_}
 use native.Mathlib.Nat.{not-suc-le-zero}
 use native.Mathlib.Omega.{arith}
-use Rattle.table.specs.Fold.{if, smallestTo, countTo}
+use Rattle.table.specs.Fold.{if, smallestTo, allTo, countTo}
 use Rattle.table.specs.Refusal.{_or-next_, firstTo}
-use Rattle.table.proofs.Tests.{le-or-lt, or-next-none, or-next-first}
+use Rattle.table.proofs.Tests.{le-or-lt, both, or-next-none, or-next-first}
 
 -- a fold's last step, or one before it
 at-or-below : (P : ℕ → Type 0) {n : ℕ} (i : ℕ) → i < suc n → P n → (i < n → P i) → P i
@@ -19,6 +19,18 @@ unfolding smallestTo
 smallest-le f zero i l = absurd (not-suc-le-zero l)
 smallest-le f (suc n) i l =
     at-or-below (λ j. min (smallestTo f n) (f n) ≤ f j) i l (omega arith) (λ u. omega (arith, smallest-le f n i u))
+
+pub all-at : (f : ℕ → Bool) (n : ℕ) → allTo f n ≡ true → (i : ℕ) → i < n → f i ≡ true
+unfolding allTo
+all-at f zero h i l = absurd (not-suc-le-zero l)
+all-at f (suc n) h i l =
+    let k = both (allTo f n) (f n) h in
+    at-or-below (λ j. f j ≡ true) i l (k .1) (λ u. all-at f n (k .0) i u)
+
+pub all-of : (f : ℕ → Bool) (n : ℕ) → ((i : ℕ) → i < n → f i ≡ true) → allTo f n ≡ true
+unfolding allTo
+all-of f zero h = refl
+all-of f (suc n) h = rw (all-of f n (λ i l. h i (omega arith)), h n (omega arith))
 
 -- what each number passes, the smallest of them passes
 pub smallest-is : (P : ℕ → Type 0) (f : ℕ → ℕ) (n : ℕ) → 1 ≤ n → ((i : ℕ) → i < n → P (f i)) → P (smallestTo f n)

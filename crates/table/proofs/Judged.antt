@@ -7,7 +7,7 @@ use native.Mathlib.Omega.{arith}
 use lib.Dec.{ltb, eqb}
 use borrow.Author.Tests.{ltb-false, eqb-true, eqb-false, not-false}
 use Rattle.table.specs.Refusal.{given, _or-next_, outside, firstTo}
-use Rattle.table.specs.Admission.{reservedAt, periodAt, grantedOf, shareOf, numbersRefusal, streamRefusal, streamRefusalAt, streamsRefusal}
+use Rattle.table.specs.Admission.{reservedAt, periodAt, grantedOf, shareOf, numbersRefusal, streamRefusal, streamRefusalAt, streamsRefusal, loadOf, admissionOf}
 use Rattle.table.specs.declared.Table.{Table}
 use Rattle.table.proofs.Tests.{within, neither, given-none, or-next-none}
 use Rattle.table.proofs.Folds.{first-none}
@@ -75,3 +75,20 @@ streams-of t h i l = stream-of (t .worst) (t .span) (t .padding) (reservedAt t i
 pub share-high : (worst span k e p : ℕ) → Fits-in worst span k e p → shareOf worst span k e p ≤ span
 unfolding shareOf
 share-high worst span k e p q = le-trans (mul-le-mul-right (span / p) (q .budget)) (mul-div-le span p)
+
+-- a table that is admitted passes each judgement
+pub record Admits (t : Table) : Type 0 where
+  pub numbers : Numbers t
+  pub each : (i : ℕ) → i < t .count → Reserved t i
+  pub fits : loadOf t ≤ t .span
+
+pub admits-of : (t : Table) → admissionOf t ≡ 0 → Admits t
+unfolding admissionOf
+admits-of t h =
+    let a = or-next-none _ _ h in
+    let b = or-next-none _ _ (a .1) in
+    record {
+      numbers = numbers-of t (a .0);
+      each = streams-of t (b .0);
+      fits = ltb-false (t .span) (loadOf t) (given-none _ 6 (b .1));
+    }

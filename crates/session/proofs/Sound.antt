@@ -1,0 +1,177 @@
+-- A sound session, test by test: what each test says, and that these facts make it sound.
+use mathlib.Core.Bool.{Bool, true, false, _&&_, _||_}
+use mathlib.Core.List.{List, [], _∷_, map}
+use mathlib.Core.Path.{_≡_, refl, sym, _∙_, ap}
+use mathlib.Core.Logic.{⊎-elim}
+use Prim.Native.Nat.{ℕ, zero, suc, _+_, _-_, _*_, _≤_, _<_}
+use native.Mathlib.Omega.{arith}
+use lib.ListN.{length, getD, List·getD-map}
+use lib.Dec.{leb, ltb, eqb}
+use borrow.Author.Tests.{leb-true, eqb-true, eqb-false, ltb-false, le-leb, lt-ltb, le-ltb, eq-eqb}
+use Rattle.table.specs.Fold.{if, allTo}
+use Rattle.table.specs.Admission.{grantedOf, admissionOf}
+use Rattle.table.proofs.Tests.{both, le-or-lt}
+use Rattle.table.proofs.Folds.{all-at, all-of, smallest-le}
+use Rattle.table.proofs.Judged.{Numbers, Fits-in, Admits, admits-of}
+use Rattle.session.specs.Time.{session-end, duration-max}
+use Rattle.session.specs.Stream.{queue-max, soundQueue, soundStream, unusedStream}
+use Rattle.session.specs.Bounds.{Bounded}
+use Rattle.session.specs.Session.{noStream, streamAt, horizon, tableOf, soundDisk, sound}
+use Rattle.session.specs.declared.stream.Stream.{Stream}
+use Rattle.session.specs.declared.Session.{Session}
+
+-- a cell that is used or 0
+used-or-zero : (a b : Bool) → (a || b) ≡ true → a ≡ false → b ≡ true
+used-or-zero true b h n = absurd (mathlib.Core.Bool.false≢true (sym n))
+used-or-zero false b h n = h
+
+pub record Queue (x : Stream) : Type 0 where
+  pub queued-high : x .queued ≤ queue-max
+  pub cells : length (x .places) ≡ queue-max
+  pub unused : (j : ℕ) → x .queued ≤ j → j < queue-max → getD (x .places) j 0 ≡ 0
+
+pub queue-of : (x : Stream) → soundQueue x ≡ true → Queue x
+unfolding soundQueue
+queue-of x h =
+    let a = both _ _ h in
+    let b = both _ _ (a .0) in
+    record {
+      queued-high = leb-true _ _ (b .0);
+      cells = eqb-true _ _ (b .1);
+      unused = λ j past l. eqb-true _ _ (used-or-zero _ _ (all-at _ queue-max (a .1) j l) (le-ltb j (x .queued) past));
+    }
+
+or-right : (a b : Bool) → b ≡ true → (a || b) ≡ true
+or-right true b h = refl
+or-right false b h = h
+
+pub of-queue : (x : Stream) → Queue x → soundQueue x ≡ true
+unfolding soundQueue
+of-queue x q =
+    rw (le-leb _ _ (q .queued-high), eq-eqb _ _ (q .cells))
+    (all-of (λ j. ltb j (x .queued) || eqb (getD (x .places) j 0) 0) queue-max
+    (λ j l.
+    ⊎-elim
+    (λ (past : x .queued ≤ j). or-right (ltb j (x .queued)) _ (eq-eqb _ _ (q .unused j past l)))
+    (λ (here : j < x .queued). rw (lt-ltb j (x .queued) here))
+    (le-or-lt (x .queued) j)))
+
+pub record InOrder (worst k h : ℕ) (x : Stream) : Type 0 where
+  pub budget : x .granted .0 ≡ grantedOf worst k (x .reserved)
+  pub due : x .deadline .0 ≡ x .release .0 + x .period
+  pub released : x .release .0 ≤ h
+  pub deadline-high : x .deadline .0 ≤ session-end
+  pub charge-high : x .charge .0 ≤ x .granted .0 + duration-max
+  pub expiries : worst * x .expired ≤ x .charge .0
+  pub queue : Queue x
+
+pub stream-of : (worst k h : ℕ) (x : Stream) → soundStream worst k h x ≡ true → InOrder worst k h x
+unfolding soundStream
+stream-of worst k h x t =
+    let a = both _ _ t in
+    let b = both _ _ (a .0) in
+    let d = both _ _ (b .0) in
+    let e = both _ _ (d .0) in
+    let f = both _ _ (e .0) in
+    let g = both _ _ (f .0) in
+    record {
+      budget = eqb-true _ _ (g .0);
+      due = eqb-true _ _ (g .1);
+      released = leb-true _ _ (f .1);
+      deadline-high = leb-true _ _ (e .1);
+      charge-high = leb-true _ _ (d .1);
+      expiries = leb-true _ _ (b .1);
+      queue = queue-of x (a .1);
+    }
+
+pub of-stream : (worst k h : ℕ) (x : Stream) → InOrder worst k h x → soundStream worst k h x ≡ true
+unfolding soundStream
+of-stream worst k h x q =
+    rw (
+      eq-eqb _ _ (q .budget),
+      eq-eqb _ _ (q .due),
+      le-leb _ _ (q .released),
+      le-leb _ _ (q .deadline-high),
+      le-leb _ _ (q .charge-high),
+      le-leb _ _ (q .expiries),
+      of-queue x (q .queue),
+    )
+
+pub record Sound (s : Session) : Type 0 where
+  pub admitted : admissionOf (tableOf s) ≡ 0
+  pub eight : length (s .streams) ≡ 8
+  pub each : (i : ℕ) → i < s .count → InOrder (s .worst) (s .padding) (horizon s) (streamAt s i)
+  pub others : (i : ℕ) → s .count ≤ i → i < 8 → unusedStream (streamAt s i) ≡ true
+  pub clock-high : s .clock .0 ≤ session-end
+  pub disk : soundDisk s ≡ true
+
+pub sound-of : (s : Session) → sound s ≡ true → Sound s
+unfolding sound
+sound-of s t =
+    let a = both _ _ t in
+    let b = both _ _ (a .0) in
+    let d = both _ _ (b .0) in
+    let e = both _ _ (d .0) in
+    let f = both _ _ (e .0) in
+    record {
+      admitted = eqb-true _ _ (f .0);
+      eight = eqb-true _ _ (f .1);
+      each = λ i l. stream-of (s .worst) (s .padding) (horizon s) (streamAt s i) (all-at _ (s .count) (e .1) i l);
+      others = λ i past l. used-or-zero _ _ (all-at _ 8 (d .1) i l) (le-ltb i (s .count) past);
+      clock-high = leb-true _ _ (b .1);
+      disk = a .1;
+    }
+
+pub of-sound : (s : Session) → Sound s → sound s ≡ true
+unfolding sound
+of-sound s q =
+    rw (
+      eq-eqb _ _ (q .admitted),
+      eq-eqb _ _ (q .eight),
+      all-of (λ i. soundStream (s .worst) (s .padding) (horizon s) (streamAt s i)) (s .count)
+          (λ i l. of-stream (s .worst) (s .padding) (horizon s) (streamAt s i) (q .each i l)),
+      all-of (λ i. ltb i (s .count) || unusedStream (streamAt s i)) 8
+          (λ i l.
+          ⊎-elim
+          (λ (past : s .count ≤ i). or-right (ltb i (s .count)) _ (q .others i past l))
+          (λ (here : i < s .count). rw (lt-ltb i (s .count) here))
+          (le-or-lt (s .count) i)),
+      le-leb _ _ (q .clock-high),
+      q .disk,
+    )
+
+-- the table's facts, read off the session
+pub admits : (s : Session) → Sound s → Admits (tableOf s)
+admits s q = admits-of (tableOf s) (q .admitted)
+
+pub reservation : (s : Session) → Sound s → (i : ℕ) → i < s .count
+    → Fits-in (s .worst) (s .span) (s .padding) (streamAt s i .reserved) (streamAt s i .period)
+reservation s q i l =
+    rw (List·getD-map (λ (x : Stream). x .reserved) (s .streams) i noStream, List·getD-map (λ (x : Stream). x .period) (s .streams) i noStream)
+    at (admits s q .each i l)
+
+granted-low : (worst k e : ℕ) → (e ≡ 0 → ⊥) → 1 ≤ grantedOf worst k e
+unfolding grantedOf
+granted-low worst k e ne = omega arith
+
+pub bounded : (s : Session) → Sound s → (i : ℕ) → i < s .count → Bounded (s .worst) (horizon s) (streamAt s i)
+unfolding horizon
+bounded s q i l =
+    let x = q .each i l in
+    let b = reservation s q i l in
+    let n = admits s q .numbers in
+    record {
+      worst-low = n .worst-low;
+      worst-high = n .worst-high;
+      period-low = b .period-low;
+      period-high = b .period-high;
+      budget-low = rw (x .budget) (granted-low (s .worst) (s .padding) (streamAt s i .reserved) (b .reserved-low));
+      budget-high = rw (x .budget) (b .budget);
+      due = x .due;
+      deadline-high = x .deadline-high;
+      released = x .released;
+      ahead = smallest-le (λ j. streamAt s j .deadline .0) (s .count) i l;
+      charge-high = x .charge-high;
+      expiries = x .expiries;
+      queued-high = x .queue .queued-high;
+    }

@@ -1,5 +1,7 @@
 // Whole microseconds of two kinds that are counted apart: when it is, and how much disk time was had.
 ghost use mathlib.Core.Path.{_≡_};
+ghost use Prim.Native.Nat.{min};
+ghost use lib.Dec.{ltb, eqb};
 ghost use Rattle.session.specs.Time.{moment, diskTime};
 
 // A moment of clock time.
@@ -16,6 +18,18 @@ impl Clock {
         ensures { λ r. ⌜ r ≡ moment micros ⌝ }
     {
         Clock(micros)
+    }
+
+    pub fn is_after(self, other: Clock) -> bool
+        ensures { λ r. ⌜ r ≡ ltb (other .0) (self .0) ⌝ }
+    {
+        other.0 < self.0
+    }
+
+    pub fn earlier(self, other: Clock) -> Clock
+        ensures { λ r. ⌜ r ≡ moment (min (self .0) (other .0)) ⌝ }
+    {
+        if other.0 < self.0 { other } else { self }
     }
 }
 

@@ -2,6 +2,9 @@
 use crate::time::Charge;
 use crate::time::Clock;
 ghost use mathlib.Core.Path.{_≡_};
+ghost use Prim.Native.Nat.{_≤_, _<_};
+ghost use Rattle.session.specs.Stream.{slots, filled};
+ghost use Rattle.session.specs.Bounds.{Bounded};
 ghost use Rattle.session.specs.Opening.{freshStream};
 
 pub struct Job {
@@ -54,6 +57,32 @@ impl Stream {
             queued: 0,
             places: places,
             last: last,
+        }
+    }
+
+    // How many requests of the worst-case time fit before the horizon, by one division.
+    pub(crate) fn slots(self, worst: u32, h: Clock) -> u64
+        requires { ⌜ Bounded worst (h .0) self ⌝ }
+        ensures { λ r. ⌜ r ≡ slots worst (h .0) self ⌝ }
+    {
+        let room = h.since(self.release) * self.granted.micros();
+        let used = self.charge.micros() * self.period as u64;
+        if room < used {
+            return 0;
+        }
+        (room - used) / (worst as u64 * self.period as u64)
+    }
+
+    // How many of them queued requests fill.
+    pub(crate) fn filled(self, worst: u32, h: Clock) -> usize
+        requires { ⌜ Bounded worst (h .0) self ⌝ }
+        ensures { λ r. ⌜ r ≡ filled worst (h .0) self ⌝ }
+    {
+        let slots = self.slots(worst, h);
+        if slots < self.queued as u64 {
+            slots as usize
+        } else {
+            self.queued
         }
     }
 }

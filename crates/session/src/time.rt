@@ -1,8 +1,8 @@
 // Whole microseconds of two kinds that are counted apart: when it is, and how much disk time was had.
 ghost use mathlib.Core.Path.{_≡_};
-ghost use Prim.Native.Nat.{min};
+ghost use Prim.Native.Nat.{_+_, _-_, _*_, _/_, _≤_, _<_, min};
 ghost use lib.Dec.{ltb, eqb};
-ghost use Rattle.session.specs.Time.{moment, diskTime};
+ghost use Rattle.session.specs.Time.{moment, diskTime, session-end};
 
 // A moment of clock time.
 pub struct Clock(u64);
@@ -20,10 +20,28 @@ impl Clock {
         Clock(micros)
     }
 
+    pub fn micros(self) -> u64
+        ensures { λ r. ⌜ r ≡ self .0 ⌝ }
+    {
+        self.0
+    }
+
+    pub fn is(self, other: Clock) -> bool
+        ensures { λ r. ⌜ r ≡ eqb (self .0) (other .0) ⌝ }
+    {
+        self.0 == other.0
+    }
+
     pub fn is_after(self, other: Clock) -> bool
         ensures { λ r. ⌜ r ≡ ltb (other .0) (self .0) ⌝ }
     {
         other.0 < self.0
+    }
+
+    pub fn is_past_end(self) -> bool
+        ensures { λ r. ⌜ r ≡ ltb session-end (self .0) ⌝ }
+    {
+        Self::END < self.0
     }
 
     pub fn earlier(self, other: Clock) -> Clock
@@ -31,15 +49,67 @@ impl Clock {
     {
         if other.0 < self.0 { other } else { self }
     }
+
+    // How long ago an earlier moment was.
+    pub(crate) fn since(self, earlier: Clock) -> u64
+        requires { ⌜ earlier .0 ≤ self .0 ⌝ }
+        ensures { λ r. ⌜ r ≡ self .0 - earlier .0 ⌝ }
+    {
+        self.0 - earlier.0
+    }
+
+    // The moment a length of clock time later.
+    pub(crate) fn plus(self, length: u32) -> Clock
+        requires { ⌜ self .0 ≤ session-end ⌝ }
+        ensures { λ r. ⌜ r ≡ moment (self .0 + length) ⌝ }
+    {
+        Clock(self.0 + length as u64)
+    }
+
+    // The first of two crossings from disk time to clock time: the clock when a request has taken that long.
+    pub(crate) fn after(self, duration: Charge) -> Clock
+        requires { ⌜ (self .0 ≤ session-end) × (duration .0 ≤ session-end) ⌝ }
+        ensures { λ r. ⌜ r ≡ moment (self .0 + duration .0) ⌝ }
+    {
+        Clock(self.0 + duration.0)
+    }
+
+    // The second: this horizon less all remainders, rounded down once. `parts` is the sum of what the streams may use up to the horizon, times the span.
+    pub(crate) fn less_remainders(self, charges: Charge, parts: u64, span: u32) -> Clock
+        requires { ⌜ (0 < span) × (self .0 ≤ session-end) × (charges .0 ≤ session-end) × (parts ≤ self .0 * span) × (parts ≤ 1000000000000000000) ⌝ }
+        ensures { λ r. ⌜ r ≡ moment (((self .0 + charges .0) * span - parts) / span) ⌝ }
+    {
+        let up = (parts + (span as u64 - 1)) / span as u64;
+        Clock(self.0 + charges.0 - up)
+    }
 }
 
 impl Charge {
-    // What a charge may be above the granted budget: one completion of any length.
+    // The longest duration that may be reported.
     pub const DURATION_MAX: u64 = 10_000_000;
 
     pub fn of(micros: u64) -> Charge
         ensures { λ r. ⌜ r ≡ diskTime micros ⌝ }
     {
         Charge(micros)
+    }
+
+    pub fn micros(self) -> u64
+        ensures { λ r. ⌜ r ≡ self .0 ⌝ }
+    {
+        self.0
+    }
+
+    pub fn is_above(self, other: Charge) -> bool
+        ensures { λ r. ⌜ r ≡ ltb (other .0) (self .0) ⌝ }
+    {
+        other.0 < self.0
+    }
+
+    pub(crate) fn plus(self, more: Charge) -> Charge
+        requires { ⌜ (self .0 ≤ session-end) × (more .0 ≤ session-end) ⌝ }
+        ensures { λ r. ⌜ r ≡ diskTime (self .0 + more .0) ⌝ }
+    {
+        Charge(self.0 + more.0)
     }
 }

@@ -1,0 +1,30 @@
+-- Bounds on the numbers of a sound session, by which 64 bits are enough.
+use mathlib.Core.Path.{_≡_}
+use Prim.Native.Nat.{ℕ, _+_, _-_, _*_, _^_, _≤_, _<_}
+use native.Mathlib.Nat.{mul-le-mul, lt-of-le-of-lt}
+use native.Mathlib.Omega.{arith}
+use lib.Dec.{T, ltb, lit<}
+use mir.Syntax.{w64}
+use mir.Val.{Fits}
+use Rattle.session.specs.Bounds.{Bounded}
+use Rattle.session.specs.declared.stream.Stream.{Stream}
+
+-- a product of bounded numbers fits where the bounds' product does
+pub mul-fits : (A B : ℕ) {a b : ℕ} → a ≤ A → b ≤ B → T (ltb (A * B) (2 ^ 64)) → Fits w64 (a * b)
+mul-fits A B ha hb t = record { fits = lt-of-le-of-lt (mul-le-mul ha hb) (lit< t) }
+
+module _ {worst h : ℕ} {x : Stream} (q : Bounded worst h x) where
+  pub charge-high : x .charge .0 ≤ 70000000
+  charge-high = omega (arith, q .charge-high, q .budget-high, q .period-high)
+
+  pub ahead-high : h - x .release .0 ≤ 60000000
+  ahead-high = omega (arith, q .ahead, q .due, q .period-high)
+
+  pub room-fits : Fits w64 ((h - x .release .0) * x .granted .0)
+  room-fits = mul-fits 60000000 60000000 ahead-high (omega (arith, q .budget-high, q .period-high)) tt
+
+  pub used-fits : Fits w64 (x .charge .0 * x .period)
+  used-fits = mul-fits 70000000 60000000 charge-high (q .period-high) tt
+
+  pub step-fits : Fits w64 (worst * x .period)
+  step-fits = mul-fits 1000000 60000000 (q .worst-high) (q .period-high) tt

@@ -1,0 +1,39 @@
+-- A number less a fraction, rounded down, by the fraction rounded up.
+use mathlib.Core.Path.{_≡_, sym, _∙_, ap}
+use mathlib.Core.Logic.{⊎-elim}
+use Prim.Native.Nat.{ℕ, _+_, _-_, _*_, _/_, _≤_, _<_}
+use native.Mathlib.Nat.{mul-le-mul-right, div-mul-le-self, lt-div-mul-add, div-eq-of-lt-le, div-lt-iff-lt-mul}
+use native.Mathlib.Omega.{arith}
+use Rattle.table.proofs.Tests.{le-or-lt}
+
+module _ (m x n : ℕ) (hm : 0 < m) where
+  up : ℕ
+  up = (n + (m - 1)) / m
+
+  over : n ≤ up * m
+  unfolding up
+  over = let h : n + (m - 1) < up * m + m = lt-div-mul-add hm in omega arith
+
+  under : up * m ≤ n + (m - 1)
+  unfolding up
+  under = div-mul-le-self (n + (m - 1)) m
+
+  low : up ≤ x → (x * m - n) / m ≡ x - up
+  low h =
+      let whole : x - up + up ≡ x = omega arith in
+      let scaled = ap (λ (y : ℕ). y * m) whole in
+      div-eq-of-lt-le m (omega (arith, over, under, scaled)) (omega (arith, over, under, scaled))
+
+  high : x < up → (x * m - n) / m ≡ x - up
+  high h =
+      let scaled = mul-le-mul-right m h in
+      let none : x - up ≡ 0 = omega arith in
+      div-eq-of-lt-le m (rw none (omega arith)) (rw none (omega (arith, over, under, scaled)))
+
+  pub floor-less : (x * m - n) / m ≡ x - (n + (m - 1)) / m
+  unfolding up
+  floor-less = ⊎-elim low high (le-or-lt up x)
+
+-- a fraction of at most x, rounded up, is at most x
+pub up-low : (m x n : ℕ) → 0 < m → n ≤ x * m → (n + (m - 1)) / m ≤ x
+up-low m x n hm le = let l : (n + (m - 1)) / m < x + 1 = div-lt-iff-lt-mul hm .1 (omega arith) in omega arith

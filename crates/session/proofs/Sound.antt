@@ -16,7 +16,7 @@ use Rattle.table.proofs.Judged.{Numbers, Fits-in, Admits, admits-of}
 use Rattle.session.specs.Time.{session-end, duration-max}
 use Rattle.session.specs.Stream.{queue-max, soundQueue, soundStream, unusedStream}
 use Rattle.session.specs.Bounds.{Bounded}
-use Rattle.session.specs.Session.{noStream, streamAt, horizon, tableOf, soundDisk, sound}
+use Rattle.session.specs.Session.{noStream, streamAt, horizon, tableOf, soundDisk, soundRest, sound}
 use Rattle.session.specs.declared.stream.Stream.{Stream}
 use Rattle.session.specs.declared.Session.{Session}
 
@@ -30,14 +30,14 @@ pub record Queue (x : Stream) : Type 0 where
   pub cells : length (x .places) ≡ queue-max
   pub unused : (j : ℕ) → x .queued ≤ j → j < queue-max → getD (x .places) j 0 ≡ 0
 
-pub queue-of : (x : Stream) → soundQueue x ≡ true → Queue x
+pub queue-of : (x : Stream) → soundQueue (x .places) (x .queued) ≡ true → Queue x
 unfolding soundQueue
 queue-of x h =
     let a = both _ _ h in
     let b = both _ _ (a .0) in
     record {
-      queued-high = leb-true _ _ (b .0);
-      cells = eqb-true _ _ (b .1);
+      queued-high = leb-true _ _ (b .1);
+      cells = eqb-true _ _ (b .0);
       unused = λ j past l. eqb-true _ _ (used-or-zero _ _ (all-at _ queue-max (a .1) j l) (le-ltb j (x .queued) past));
     }
 
@@ -45,10 +45,10 @@ or-right : (a b : Bool) → b ≡ true → (a || b) ≡ true
 or-right true b h = refl
 or-right false b h = h
 
-pub of-queue : (x : Stream) → Queue x → soundQueue x ≡ true
+pub of-queue : (x : Stream) → Queue x → soundQueue (x .places) (x .queued) ≡ true
 unfolding soundQueue
 of-queue x q =
-    rw (le-leb _ _ (q .queued-high), eq-eqb _ _ (q .cells))
+    rw (eq-eqb _ _ (q .cells), le-leb _ _ (q .queued-high))
     (all-of (λ j. ltb j (x .queued) || eqb (getD (x .places) j 0) 0) queue-max
     (λ j l.
     ⊎-elim
@@ -106,30 +106,30 @@ pub record Sound (s : Session) : Type 0 where
   pub disk : soundDisk s ≡ true
 
 pub sound-of : (s : Session) → sound s ≡ true → Sound s
-unfolding sound
+unfolding sound soundRest
 sound-of s t =
     let a = both _ _ t in
     let b = both _ _ (a .0) in
     let d = both _ _ (b .0) in
+    let rest = both _ _ (d .1) in
     let e = both _ _ (d .0) in
-    let f = both _ _ (e .0) in
     record {
-      admitted = eqb-true _ _ (f .0);
-      eight = eqb-true _ _ (f .1);
+      admitted = eqb-true _ _ (e .0);
+      eight = eqb-true _ _ (rest .0);
       each = λ i l. stream-of (s .worst) (s .padding) (horizon s) (streamAt s i) (all-at _ (s .count) (e .1) i l);
-      others = λ i past l. used-or-zero _ _ (all-at _ 8 (d .1) i l) (le-ltb i (s .count) past);
+      others = λ i past l. used-or-zero _ _ (all-at _ 8 (rest .1) i l) (le-ltb i (s .count) past);
       clock-high = leb-true _ _ (b .1);
       disk = a .1;
     }
 
 pub of-sound : (s : Session) → Sound s → sound s ≡ true
-unfolding sound
+unfolding sound soundRest
 of-sound s q =
     rw (
       eq-eqb _ _ (q .admitted),
-      eq-eqb _ _ (q .eight),
       all-of (λ i. soundStream (s .worst) (s .padding) (horizon s) (streamAt s i)) (s .count)
           (λ i l. of-stream (s .worst) (s .padding) (horizon s) (streamAt s i) (q .each i l)),
+      eq-eqb _ _ (q .eight),
       all-of (λ i. ltb i (s .count) || unusedStream (streamAt s i)) 8
           (λ i l.
           ⊎-elim

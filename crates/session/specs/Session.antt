@@ -78,13 +78,18 @@ unfoldable pub soundDisk : Session → Bool
 soundDisk s =
     if (eqb (s .served) 0) (eqb (s .place) 0) (leb (s .served) (s .count) && leb 1 (slotsAt s (s .served - 1)))
 
--- "A session is sound if its table numbers are ones that opening admits; [...]". Of its eight streams the first are used, and the others are 0.
+-- "every unused cell is 0 (.. streams past the count ..)". The array has eight cells.
+unfoldable pub soundRest : List Stream → ℕ → Bool
+soundRest streams count =
+    eqb (length streams) streams-max
+    && allTo (λ i. ltb i count || unusedStream (getD streams i noStream)) streams-max
+
+-- "A session is sound if its table numbers are ones that opening admits; [...]"
 unfoldable pub sound : Session → Bool
 sound s =
     eqb (admissionOf (tableOf s)) 0
-    && eqb (length (s .streams)) streams-max
     && allTo (λ i. soundStream (s .worst) (s .padding) (horizon s) (streamAt s i)) (s .count)
-    && allTo (λ i. ltb i (s .count) || unusedStream (streamAt s i)) streams-max
+    && soundRest (s .streams) (s .count)
     && leb (s .clock .0) session-end
     && soundDisk s
 

@@ -113,11 +113,11 @@ unfoldable pub moved : Clock → ℕ → Stream → Stream
 moved now h x = if (eqb (x .deadline .0) h) (closed now x) x
 
 -- "at most 16 places are queued"; "every unused cell is 0 (queue places past the length ..)". The array has sixteen cells.
-unfoldable pub soundQueue : Stream → Bool
-soundQueue x =
-    leb (x .queued) queue-max
-    && eqb (length (x .places)) queue-max
-    && allTo (λ j. ltb j (x .queued) || eqb (getD (x .places) j 0) 0) queue-max
+unfoldable pub soundQueue : List ℕ → ℕ → Bool
+soundQueue places queued =
+    eqb (length places) queue-max
+    && leb queued queue-max
+    && allTo (λ j. ltb j queued || eqb (getD places j 0) 0) queue-max
 
 -- "d = r + p and r ≤ h for each stream; the clock and all deadlines are at most 1,000,000,000,000; each charge is at most g + 10,000,000 and at least W × the expired count". That the cell for g holds the granted budget is part of it.
 unfoldable pub soundStream : ℕ → ℕ → ℕ → Stream → Bool
@@ -128,7 +128,11 @@ soundStream worst k h x =
     && leb (x .deadline .0) session-end
     && leb (x .charge .0) (x .granted .0 + duration-max)
     && leb (worst * x .expired) (x .charge .0)
-    && soundQueue x
+    && soundQueue (x .places) (x .queued)
+
+-- "a record of the last closed job (charge, closing clock, deadline, expired count; all zero before the first)"
+unfoldable pub zeroJob : Job → Bool
+zeroJob j = eqb (j .charge .0) 0 && eqb (j .closed .0) 0 && eqb (j .deadline .0) 0 && eqb (j .expired) 0
 
 -- "every unused cell is 0 (.. streams past the count ..)"
 unfoldable pub unusedStream : Stream → Bool
@@ -141,8 +145,5 @@ unusedStream x =
     && eqb (x .charge .0) 0
     && eqb (x .expired) 0
     && eqb (x .queued) 0
-    && soundQueue x
-    && eqb (x .last .charge .0) 0
-    && eqb (x .last .closed .0) 0
-    && eqb (x .last .deadline .0) 0
-    && eqb (x .last .expired) 0
+    && soundQueue (x .places) (x .queued)
+    && zeroJob (x .last)

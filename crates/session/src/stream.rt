@@ -3,7 +3,10 @@ use crate::time::Charge;
 use crate::time::Clock;
 ghost use mathlib.Core.Path.{_≡_};
 ghost use Prim.Native.Nat.{_≤_, _<_};
-ghost use Rattle.session.specs.Stream.{slots, filled};
+ghost use lib.Dec.{leb};
+ghost use Rattle.table.specs.Ranges.{worst-max, padding-max};
+ghost use Rattle.session.specs.Stream.{queue-max, slots, filled, soundQueue, soundStream, zeroJob, unusedStream, arrived, without, charged, lapsed, closed, moved};
+ghost use Rattle.session.specs.Time.{session-end};
 ghost use Rattle.session.specs.Bounds.{Bounded};
 ghost use Rattle.session.specs.Opening.{freshStream};
 
@@ -85,4 +88,72 @@ impl Stream {
             self.queued
         }
     }
+
+    // Whether its cells are those of a stream in use, at a horizon.
+    pub(crate) fn is_sound(self, worst: u32, k: u32, h: Clock) -> bool
+        requires { ⌜ 0 < worst ⌝ }
+        ensures { λ r. ⌜ r ≡ soundStream worst k (h .0) self ⌝ }
+    {
+        let budget = self.granted
+            .is(Charge::of(table::granted(worst, k, self.reserved)));
+        let due = self.deadline.is_later_by(self.release, self.period);
+        let released = self.release.is_by(h);
+        let in_session = self.deadline.is_by(Clock::at(Clock::END));
+        let charge = self.charge.is_near(self.granted);
+        let expired = self.charge.covers(worst, self.expired);
+        let places = self.places;
+        let queue = queue_is_sound(places, self.queued);
+        budget & due & released & in_session & charge & expired & queue
+    }
+
+    // Whether every cell is 0.
+    pub(crate) fn is_unused(self) -> bool
+        ensures { λ r. ⌜ r ≡ unusedStream self ⌝ }
+    {
+        let start = Clock::at(0);
+        let nothing = Charge::of(0);
+        let table = (self.reserved == 0) & (self.period == 0);
+        let granted = self.granted.is(nothing);
+        let release = self.release.is(start);
+        let deadline = self.deadline.is(start);
+        let charge = self.charge.is(nothing);
+        let places = self.places;
+        let queue = queue_is_sound(places, self.queued);
+        let last = self.last.is_zero();
+        table
+            & granted
+            & release
+            & deadline
+            & charge
+            & (self.expired == 0)
+            & (self.queued == 0)
+            & queue
+            & last
+    }
+}
+
+impl Job {
+    // Whether no job was closed yet.
+    pub(crate) fn is_zero(self) -> bool
+        ensures { λ r. ⌜ r ≡ zeroJob self ⌝ }
+    {
+        let start = Clock::at(0);
+        let charge = self.charge.is(Charge::of(0));
+        let closed = self.closed.is(start);
+        let deadline = self.deadline.is(start);
+        charge & closed & deadline & (self.expired == 0)
+    }
+}
+
+// At most sixteen places are queued, and the cells past them are 0.
+fn queue_is_sound(places: [u64; 16], queued: usize) -> bool
+    ensures { λ r. ⌜ r ≡ soundQueue places queued ⌝ }
+{
+    let mut ok = true;
+    let mut j: usize = 0;
+    while j < 16 {
+        ok = ok & ((j < queued) | (places[j] == 0));
+        j += 1;
+    }
+    (queued <= Stream::QUEUE_MAX) & ok
 }

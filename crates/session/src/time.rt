@@ -1,8 +1,8 @@
 // Whole microseconds of two kinds that are counted apart: when it is, and how much disk time was had.
 ghost use mathlib.Core.Path.{_≡_};
 ghost use Prim.Native.Nat.{_+_, _-_, _*_, _/_, _≤_, _<_, min};
-ghost use lib.Dec.{ltb, eqb};
-ghost use Rattle.session.specs.Time.{moment, diskTime, session-end};
+ghost use lib.Dec.{leb, ltb, eqb};
+ghost use Rattle.session.specs.Time.{moment, diskTime, session-end, duration-max};
 
 // A moment of clock time.
 pub struct Clock(u64);
@@ -36,6 +36,24 @@ impl Clock {
         ensures { λ r. ⌜ r ≡ ltb (other .0) (self .0) ⌝ }
     {
         other.0 < self.0
+    }
+
+    // No later than another moment.
+    pub fn is_by(self, other: Clock) -> bool
+        ensures { λ r. ⌜ r ≡ leb (self .0) (other .0) ⌝ }
+    {
+        self.0 <= other.0
+    }
+
+    // A length of clock time later than another moment.
+    pub fn is_later_by(self, earlier: Clock, length: u32) -> bool
+        ensures { λ r. ⌜ r ≡ eqb (self .0) (earlier .0 + length) ⌝ }
+    {
+        if earlier.0 <= self.0 {
+            self.0 - earlier.0 == length as u64
+        } else {
+            false
+        }
     }
 
     pub fn is_past_end(self) -> bool
@@ -104,6 +122,31 @@ impl Charge {
         ensures { λ r. ⌜ r ≡ ltb (other .0) (self .0) ⌝ }
     {
         other.0 < self.0
+    }
+
+    pub fn is(self, other: Charge) -> bool
+        ensures { λ r. ⌜ r ≡ eqb (self .0) (other .0) ⌝ }
+    {
+        self.0 == other.0
+    }
+
+    // At most one completion of any length above a budget.
+    pub fn is_near(self, budget: Charge) -> bool
+        ensures { λ r. ⌜ r ≡ leb (self .0) (budget .0 + duration-max) ⌝ }
+    {
+        if self.0 <= Self::DURATION_MAX {
+            true
+        } else {
+            self.0 - Self::DURATION_MAX <= budget.0
+        }
+    }
+
+    // At least the worst-case time for each expired slot.
+    pub(crate) fn covers(self, worst: u32, expired: u64) -> bool
+        requires { ⌜ 0 < worst ⌝ }
+        ensures { λ r. ⌜ r ≡ leb (worst * expired) (self .0) ⌝ }
+    {
+        expired <= self.0 / worst as u64
     }
 
     pub(crate) fn plus(self, more: Charge) -> Charge

@@ -26,6 +26,12 @@ pub neither : (a b : Bool) → (a || b) ≡ false → (a ≡ false) × (b ≡ fa
 neither true b h = absurd (false≢true (sym h))
 neither false b h = (refl, h)
 
+-- two tests are one where each holds if the other does
+pub same-test : (a b : Bool) → (a ≡ true → b ≡ true) → (b ≡ true → a ≡ true) → a ≡ b
+same-test true b f g = sym (f refl)
+same-test false true f g = g refl
+same-test false false f g = refl
+
 -- a number that is not outside its range is within it
 pub within : (low high n : ℕ) → outside low high n ≡ false → (low ≤ n) × (n ≤ high)
 unfolding outside

@@ -16,7 +16,7 @@ use Rattle.table.proofs.Judged.{Numbers, Fits-in, Admits, admits-of}
 use Rattle.session.specs.Time.{session-end, duration-max}
 use Rattle.session.specs.Stream.{queue-max, soundQueue, soundStream, unusedStream}
 use Rattle.session.specs.Bounds.{Bounded}
-use Rattle.session.specs.Session.{noStream, streamAt, horizon, tableOf, soundDisk, soundRest, sound}
+use Rattle.session.specs.Session.{noStream, streamAt, horizon, tableOf, soundDisk, soundRest, usedStreams, sound}
 use Rattle.session.specs.declared.stream.Stream.{Stream}
 use Rattle.session.specs.declared.Session.{Session}
 
@@ -106,7 +106,7 @@ pub record Sound (s : Session) : Type 0 where
   pub disk : soundDisk s ≡ true
 
 pub sound-of : (s : Session) → sound s ≡ true → Sound s
-unfolding sound soundRest
+unfolding sound usedStreams soundRest
 sound-of s t =
     let a = both _ _ t in
     let b = both _ _ (a .0) in
@@ -123,7 +123,7 @@ sound-of s t =
     }
 
 pub of-sound : (s : Session) → Sound s → sound s ≡ true
-unfolding sound soundRest
+unfolding sound usedStreams soundRest
 of-sound s q =
     rw (
       eq-eqb _ _ (q .admitted),
@@ -140,38 +140,64 @@ of-sound s q =
       q .disk,
     )
 
--- the table's facts, read off the session
-pub admits : (s : Session) → Sound s → Admits (tableOf s)
-admits s q = admits-of (tableOf s) (q .admitted)
-
-pub reservation : (s : Session) → Sound s → (i : ℕ) → i < s .count
-    → Fits-in (s .worst) (s .span) (s .padding) (streamAt s i .reserved) (streamAt s i .period)
-reservation s q i l =
-    rw (List·getD-map (λ (x : Stream). x .reserved) (s .streams) i noStream, List·getD-map (λ (x : Stream). x .period) (s .streams) i noStream)
-    at (admits s q .each i l)
-
 granted-low : (worst k e : ℕ) → (e ≡ 0 → ⊥) → 1 ≤ grantedOf worst k e
 unfolding grantedOf
 granted-low worst k e ne = omega arith
 
-pub bounded : (s : Session) → Sound s → (i : ℕ) → i < s .count → Bounded (s .worst) (horizon s) (streamAt s i)
-unfolding horizon
-bounded s q i l =
-    let x = q .each i l in
-    let b = reservation s q i l in
-    let n = admits s q .numbers in
+-- the part of a sound session that says what its streams' numbers are
+pub record Used (s : Session) : Type 0 where
+  pub admitted : admissionOf (tableOf s) ≡ 0
+  pub each : (i : ℕ) → i < s .count → InOrder (s .worst) (s .padding) (horizon s) (streamAt s i)
+
+pub used-of : (s : Session) → admissionOf (tableOf s) ≡ 0 → usedStreams s ≡ true → Used s
+unfolding usedStreams
+used-of s a t =
     record {
-      worst-low = n .worst-low;
-      worst-high = n .worst-high;
-      period-low = b .period-low;
-      period-high = b .period-high;
-      budget-low = rw (x .budget) (granted-low (s .worst) (s .padding) (streamAt s i .reserved) (b .reserved-low));
-      budget-high = rw (x .budget) (b .budget);
-      due = x .due;
-      deadline-high = x .deadline-high;
-      released = x .released;
-      ahead = smallest-le (λ j. streamAt s j .deadline .0) (s .count) i l;
-      charge-high = x .charge-high;
-      expiries = x .expiries;
-      queued-high = x .queue .queued-high;
+      admitted = a;
+      each = λ i l. stream-of (s .worst) (s .padding) (horizon s) (streamAt s i) (all-at _ (s .count) t i l);
     }
+
+abbrev pub used : (s : Session) → Sound s → Used s
+used s q = record { admitted = q .admitted; each = q .each }
+
+-- the table's facts, read off the session
+pub admits : (s : Session) → Sound s → Admits (tableOf s)
+admits s q = admits-of (tableOf s) (q .admitted)
+
+module _ (s : Session) (q : Used s) where
+  abbrev booked : Admits (tableOf s)
+  booked = admits-of (tableOf s) (q .admitted)
+
+  pub used-reservation : (i : ℕ) → i < s .count → Fits-in (s .worst) (s .span) (s .padding) (streamAt s i .reserved) (streamAt s i .period)
+  used-reservation i l =
+      rw (List·getD-map (λ (x : Stream). x .reserved) (s .streams) i noStream, List·getD-map (λ (x : Stream). x .period) (s .streams) i noStream)
+      at (booked .each i l)
+
+  pub used-bounded : (i : ℕ) → i < s .count → Bounded (s .worst) (horizon s) (streamAt s i)
+  unfolding horizon
+  used-bounded i l =
+      let x = q .each i l in
+      let b = used-reservation i l in
+      let n = booked .numbers in
+      record {
+        worst-low = n .worst-low;
+        worst-high = n .worst-high;
+        period-low = b .period-low;
+        period-high = b .period-high;
+        budget-low = rw (x .budget) (granted-low (s .worst) (s .padding) (streamAt s i .reserved) (b .reserved-low));
+        budget-high = rw (x .budget) (b .budget);
+        due = x .due;
+        deadline-high = x .deadline-high;
+        released = x .released;
+        ahead = smallest-le (λ j. streamAt s j .deadline .0) (s .count) i l;
+        charge-high = x .charge-high;
+        expiries = x .expiries;
+        queued-high = x .queue .queued-high;
+      }
+
+pub reservation : (s : Session) → Sound s → (i : ℕ) → i < s .count
+    → Fits-in (s .worst) (s .span) (s .padding) (streamAt s i .reserved) (streamAt s i .period)
+reservation s q = used-reservation s (used s q)
+
+pub bounded : (s : Session) → Sound s → (i : ℕ) → i < s .count → Bounded (s .worst) (horizon s) (streamAt s i)
+bounded s q = used-bounded s (used s q)

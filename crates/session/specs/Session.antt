@@ -61,17 +61,20 @@ unfoldable pub latest : Session → ℕ
 latest s =
     ((horizon s + sumTo (λ i. streamAt s i .charge .0) (s .count)) * s .span - sumTo (scaledPart s) (s .count)) / s .span
 
--- the table that a session was opened with
-abbrev pub tableOf : Session → Table
-tableOf s =
+-- the table of W, H, k and the count that streams were opened with
+abbrev pub tableWith : ℕ → ℕ → ℕ → ℕ → List Stream → Table
+tableWith worst span k count streams =
     record {
-      worst = s .worst;
-      span = s .span;
-      padding = s .padding;
-      count = s .count;
-      reserved = map (λ x. x .reserved) (s .streams);
-      period = map (λ x. x .period) (s .streams);
+      worst = worst;
+      span = span;
+      padding = k;
+      count = count;
+      reserved = map (λ x. x .reserved) streams;
+      period = map (λ x. x .period) streams;
     }
+
+abbrev pub tableOf : Session → Table
+tableOf s = tableWith (s .worst) (s .span) (s .padding) (s .count) (s .streams)
 
 -- "the stream at the disk, if any, exists and has a slot"; "every unused cell is 0 (.. the place while nothing is at the disk)"
 unfoldable pub soundDisk : Session → Bool
@@ -84,11 +87,15 @@ soundRest streams count =
     eqb (length streams) streams-max
     && allTo (λ i. ltb i count || unusedStream (getD streams i noStream)) streams-max
 
+-- the streams up to the count are each sound
+unfoldable pub usedStreams : Session → Bool
+usedStreams s = allTo (λ i. soundStream (s .worst) (s .padding) (horizon s) (streamAt s i)) (s .count)
+
 -- "A session is sound if its table numbers are ones that opening admits; [...]"
 unfoldable pub sound : Session → Bool
 sound s =
     eqb (admissionOf (tableOf s)) 0
-    && allTo (λ i. soundStream (s .worst) (s .padding) (horizon s) (streamAt s i)) (s .count)
+    && usedStreams s
     && soundRest (s .streams) (s .count)
     && leb (s .clock .0) session-end
     && soundDisk s

@@ -2,17 +2,17 @@
 use mathlib.Core.Bool.{Bool, true, false, _||_, or-true, false≢true}
 use mathlib.Core.Path.{_≡_, refl, sym}
 use mathlib.Core.Logic.{⊎-elim}
-use Prim.Native.Nat.{ℕ, zero, suc, min, _≤_, _<_}
+use Prim.Native.Nat.{ℕ, zero, suc, _+_, min, _≤_, _<_}
 use native.Mathlib.Nat.{not-suc-le-zero}
 use native.Mathlib.Omega.{arith}
 use lib.Dec.{leb, eqb}
 use borrow.Author.Tests.{eqb-false, le-leb}
-use Rattle.table.specs.Fold.{if, smallestTo, allTo, someTo, countTo}
+use Rattle.table.specs.Fold.{if, sumTo, smallestTo, allTo, someTo, countTo}
 use Rattle.table.specs.Refusal.{_or-next_, firstTo}
 use Rattle.table.proofs.Tests.{le-or-lt, both, neither, or-next-none, or-next-first}
 
 -- a fold's last step, or one before it
-at-or-below : (P : ℕ → Type 0) {n : ℕ} (i : ℕ) → i < suc n → P n → (i < n → P i) → P i
+pub at-or-below : (P : ℕ → Type 0) {n : ℕ} (i : ℕ) → i < suc n → P n → (i < n → P i) → P i
 at-or-below P {n} i l last rest =
     ⊎-elim (λ (u : n ≤ i). let e : i ≡ n = omega arith in rw e last) rest (le-or-lt n i)
 
@@ -96,3 +96,22 @@ count-below f k yeses noes (suc m) =
     (λ (u : k ≤ m). rw (noes m u, count-below f k yeses noes m) (omega arith))
     (λ (u : m < k). rw (yeses m u, count-below f k yeses noes m) (omega arith))
     (le-or-lt k m)
+
+-- a fold reads only what is below its count: where two functions agree there, so do their folds
+agree : (fold : (ℕ → ℕ) → ℕ → ℕ) (step : ℕ → ℕ → ℕ) → ((f : ℕ → ℕ) (n : ℕ) → fold f (suc n) ≡ step (fold f n) (f n))
+    → (f g : ℕ → ℕ) → fold f 0 ≡ fold g 0 → (n : ℕ) → ((i : ℕ) → i < n → f i ≡ g i) → fold f n ≡ fold g n
+agree fold step law f g e zero h = e
+agree fold step law f g e (suc n) h =
+    rw (law f n, law g n, agree fold step law f g e n (λ i l. h i (omega arith)), h n (omega arith))
+
+pub sum-agree : (f g : ℕ → ℕ) (n : ℕ) → ((i : ℕ) → i < n → f i ≡ g i) → sumTo f n ≡ sumTo g n
+unfolding sumTo
+sum-agree f g = agree sumTo _+_ (λ f n. refl) f g refl
+
+pub smallest-agree : (f g : ℕ → ℕ) (n : ℕ) → 1 ≤ n → ((i : ℕ) → i < n → f i ≡ g i) → smallestTo f n ≡ smallestTo g n
+unfolding smallestTo
+smallest-agree f g n some h = agree smallestTo min (λ f n. refl) f g (h 0 some) n h
+
+pub first-agree : (f g : ℕ → ℕ) (n : ℕ) → ((i : ℕ) → i < n → f i ≡ g i) → firstTo f n ≡ firstTo g n
+unfolding firstTo
+first-agree f g = agree firstTo _or-next_ (λ f n. refl) f g refl

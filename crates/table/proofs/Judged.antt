@@ -1,16 +1,18 @@
 -- What is known of a table once 1 to 6 are judged.
 use mathlib.Core.Bool.{Bool, true, false, not, _||_}
 use mathlib.Core.Path.{_≡_, refl, sym, _∙_}
+use mathlib.Core.List.{List}
 use Prim.Native.Nat.{ℕ, zero, suc, _+_, _*_, _/_, _%_, _≤_, _<_}
 use native.Mathlib.Nat.{mul-le-mul-right, mul-div-le, le-trans}
 use native.Mathlib.Omega.{arith}
+use lib.ListN.{getD}
 use lib.Dec.{ltb, eqb}
 use borrow.Author.Tests.{ltb-false, eqb-true, eqb-false, not-false}
 use Rattle.table.specs.Refusal.{given, _or-next_, outside, firstTo}
-use Rattle.table.specs.Admission.{reservedAt, periodAt, grantedOf, shareOf, numbersRefusal, streamRefusal, streamRefusalAt, streamsRefusal, loadOf, admissionOf}
+use Rattle.table.specs.Admission.{reservedAt, periodAt, grantedOf, shareOf, shareAt, sharesOf, smallestPeriod, numbersRefusal, streamRefusal, streamRefusalAt, streamsRefusal, loadOf, admissionOf}
 use Rattle.table.specs.declared.Table.{Table}
 use Rattle.table.proofs.Tests.{within, neither, given-none, or-next-none}
-use Rattle.table.proofs.Folds.{first-none}
+use Rattle.table.proofs.Folds.{first-none, sum-agree, smallest-agree, first-agree}
 
 -- the numbers of the whole table are in their ranges
 pub record Numbers (t : Table) : Type 0 where
@@ -92,3 +94,19 @@ admits-of t h =
       each = streams-of t (b .0);
       fits = ltb-false (t .span) (loadOf t) (given-none _ 6 (b .1));
     }
+
+-- admission reads the arrays below the count only: with others that agree there, a table that is admitted still is
+pub admits-alike : (t : Table) (reserved period : List ℕ) → admissionOf t ≡ 0
+    → ((i : ℕ) → i < t .count → getD reserved i 0 ≡ reservedAt t i)
+    → ((i : ℕ) → i < t .count → getD period i 0 ≡ periodAt t i)
+    → admissionOf (record { worst = t .worst; span = t .span; padding = t .padding; count = t .count; reserved = reserved; period = period }) ≡ 0
+unfolding admissionOf numbersRefusal streamsRefusal loadOf sharesOf smallestPeriod
+admits-alike t reserved period h es ps =
+    let refusals = first-agree
+    (λ i. streamRefusal (t .worst) (t .span) (t .padding) (getD reserved i 0) (getD period i 0)) (streamRefusalAt t) (t .count)
+    (λ i l. rw (es i l, ps i l)) in
+    let shares = sum-agree
+    (λ i. shareOf (t .worst) (t .span) (t .padding) (getD reserved i 0) (getD period i 0)) (shareAt t) (t .count)
+    (λ i l. rw (es i l, ps i l)) in
+    let least = smallest-agree (λ i. getD period i 0) (periodAt t) (t .count) (admits-of t h .numbers .count-low) ps in
+    rw (refusals, shares, least) h

@@ -1,12 +1,16 @@
--- An array that a loop fills from its front.
-use mathlib.Core.List.{List, [], _∷_, _++_, map, map-append}
-use mathlib.Core.Path.{_≡_, refl, sym, _∙_, ap}
-use Prim.Native.Nat.{ℕ, zero, suc, _+_, _≤_, _<_}
+-- An array that a loop fills from its front, and how a list reads after a change.
+use mathlib.Core.List.{List, [], _∷_, _++_, map, map-map, map-append}
+use mathlib.Core.Path.{_≡_, refl, sym, _∙_, ap, fun-ext}
+use mathlib.Core.Logic.{⊎-elim}
+use Prim.Native.Nat.{ℕ, zero, suc, _+_, _-_, _≤_, _<_}
+use native.Mathlib.Nat.{not-suc-le-zero}
 use native.Mathlib.Numerals.{add-one}
 use native.Mathlib.Omega.{arith}
-use lib.ListN.{length, getD, take, set, length-set}
-use lib.Seq.{take-all, take-length, take-suc, take-suc-set}
+use lib.ListN.{length, getD, take, drop, set, length-append, length-take, length-drop, length-set, List·getD-append, List·getD-map}
+use lib.Seq.{length-take-le, take-all, take-suc, take-suc-set, getD-set-same, getD-set-other, map-set-same, getD-drop, getD-at, getD-append-add}
 use Rattle.table.specs.Fold.{listTo}
+use Rattle.table.proofs.Tests.{le-or-lt}
+use Rattle.table.proofs.Folds.{at-or-below}
 
 module _ {A : Type 0} (f : ℕ → A) where
   -- of n cells those below i are filled
@@ -22,6 +26,76 @@ module _ {A : Type 0} (f : ℕ → A) where
 
   pub filled-all : (xs : List A) (n : ℕ) → Filled xs n n → xs ≡ listTo f n
   filled-all xs n q = sym (take-all n xs (omega (arith, q .cells))) ∙ q .front
+
+  -- the list of f 0, .., f (n - 1) has n elements, and f i at i
+  pub length-listTo : (n : ℕ) → length (listTo f n) ≡ n
+  unfolding listTo
+  length-listTo zero = refl
+  length-listTo (suc n) = rw (length-append (listTo f n) (f n ∷ []), length-listTo n) (omega arith)
+
+  pub getD-listTo : (d : A) (n i : ℕ) → i < n → getD (listTo f n) i d ≡ f i
+  unfolding listTo
+  getD-listTo d zero i l = absurd (not-suc-le-zero l)
+  getD-listTo d (suc n) i l =
+      at-or-below (λ j. getD (listTo f n ++ (f n ∷ [])) j d ≡ f j) i l
+      (getD-at (listTo f n) (f n) [] d n (length-listTo n))
+      (λ u. List·getD-append (listTo f n) (f n ∷ []) d i (omega (arith, length-listTo n)) ∙ getD-listTo d n i u)
+
+module _ {A : Type 0} (xs : List A) (i : ℕ) (y d : A) where
+  -- what holds of a new element, and of the others, holds at each place
+  pub set-each : (P : A → Type 0) → i < length xs → P y → (j : ℕ) → P (getD xs j d) → P (getD (set xs i y) j d)
+  set-each P l new j old =
+      ⊎-elim
+      (λ (u : j ≤ i).
+      ⊎-elim
+      (λ (v : i ≤ j). let e : j ≡ i = omega arith in rw (e, getD-set-same xs i y d l) new)
+      (λ (v : j < i). rw (getD-set-other xs i j y d (λ e. omega arith)) old)
+      (le-or-lt i j))
+      (λ (u : i < j). rw (getD-set-other xs i j y d (λ e. omega arith)) old)
+      (le-or-lt j i)
+
+  -- what a new element has in common with the old one is as it was at each place
+  pub set-alike : {B : Type 0} (f : A → B) → f y ≡ f (getD xs i d) → (j : ℕ) → f (getD (set xs i y) j d) ≡ f (getD xs j d)
+  set-alike f e j =
+      sym (List·getD-map f (set xs i y) j d) ∙ ap (λ l. getD l j (f d)) (map-set-same f xs i y d e) ∙ List·getD-map f xs j d
+
+-- what a change of each element leaves is left of the list
+pub map-alike : {A B : Type 0} (f : A → B) (g : A → A) → ((x : A) → f (g x) ≡ f x) → (xs : List A) → map f (map g xs) ≡ map f xs
+map-alike f g e xs = map-map f g xs ∙ ap (λ h. map h xs) (fun-ext e)
+
+-- reading past the end of a list gives the default, also where that is put there
+pub getD-padded : {A : Type 0} (xs : List A) (d : A) (n : ℕ) → getD (xs ++ (d ∷ [])) n d ≡ getD xs n d
+getD-padded [] d zero = refl
+getD-padded [] d (suc n) = refl
+getD-padded (x ∷ xs) d zero = refl
+getD-padded (x ∷ xs) d (suc n) = getD-padded xs d n
+
+-- a list that loses the element at j, and gets the default at its end
+module _ {A : Type 0} (xs : List A) (d : A) (j : ℕ) (l : j < length xs) where
+  abbrev closed-up : List A
+  closed-up = take j xs ++ (drop (suc j) xs ++ (d ∷ []))
+
+  pub length-closed-up : length closed-up ≡ length xs
+  length-closed-up =
+      rw (
+        length-append (take j xs) (drop (suc j) xs ++ (d ∷ [])),
+        length-append (drop (suc j) xs) (d ∷ []),
+        length-take j xs,
+        length-drop (suc j) xs,
+      )
+      (omega arith)
+
+  -- from j on the elements stand one place lower
+  pub getD-closed-up : (k : ℕ) → j ≤ k → getD closed-up k d ≡ getD xs (suc k) d
+  getD-closed-up k le =
+      let n = k - j in
+      let here : k ≡ length (take j xs) + n = omega (arith, length-take-le j xs (omega arith)) in
+      let there : suc j + n ≡ suc k = omega arith in
+      ap (λ m. getD closed-up m d) here
+      ∙ getD-append-add (take j xs) (drop (suc j) xs ++ (d ∷ [])) n d
+      ∙ getD-padded (drop (suc j) xs) d n
+      ∙ getD-drop (suc j) xs n d
+      ∙ ap (λ m. getD xs m d) there
 
 -- a list that is mapped, by its indices
 module _ {A B : Type 0} (f : A → B) (xs : List A) (d : A) where

@@ -2,6 +2,7 @@ pub mod Rules
 pub mod Worked
 pub mod Slots
 pub mod Rounding
+pub mod Queue
 pub mod Fits
 pub mod Sound
 pub mod Best

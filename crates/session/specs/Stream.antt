@@ -65,8 +65,11 @@ unfoldable pub arrived : ℕ → Stream → Stream
 arrived place x = withQueue x (x .queued + 1) (set (x .places) (x .queued) place)
 
 -- "The request leaves its queue, the others keep their order"; the cell set free is 0
+abbrev pub closedUp : ℕ → List ℕ → List ℕ
+closedUp j places = take j places ++ (drop (suc j) places ++ (0 ∷ []))
+
 unfoldable pub without : ℕ → Stream → Stream
-without j x = withQueue x (x .queued - 1) (take j (x .places) ++ (drop (suc j) (x .places) ++ (0 ∷ [])))
+without j x = withQueue x (x .queued - 1) (closedUp j (x .places))
 
 -- a stream with another charge and expired count
 abbrev pub withCharge : Stream → ℕ → ℕ → Stream

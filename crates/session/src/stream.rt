@@ -3,9 +3,7 @@ use crate::time::Charge;
 use crate::time::Clock;
 ghost use mathlib.Core.Path.{_≡_};
 ghost use Prim.Native.Nat.{_≤_, _<_};
-ghost use lib.Dec.{leb};
-ghost use Rattle.table.specs.Ranges.{worst-max, padding-max};
-ghost use Rattle.session.specs.Stream.{queue-max, slots, filled, soundQueue, soundStream, zeroJob, unusedStream, arrived, without, charged, lapsed, closed, moved};
+ghost use Rattle.session.specs.Stream.{slots, filled, soundQueue, soundStream, zeroJob, unusedStream, arrived, closedUp, without, charged, lapsed, closed, moved};
 ghost use Rattle.session.specs.Time.{session-end};
 ghost use Rattle.session.specs.Bounds.{Bounded};
 ghost use Rattle.session.specs.Opening.{freshStream};
@@ -130,6 +128,90 @@ impl Stream {
             & queue
             & last
     }
+
+    // With a place at the queue's end.
+    pub(crate) fn arrived(self, place: u64) -> Stream
+        requires { ⌜ self .queued < 16 ⌝ }
+        ensures { λ r. ⌜ r ≡ arrived place self ⌝ }
+    {
+        let n = self.queued;
+        let mut x = self;
+        x.places[n] = place;
+        x.queued = n + 1;
+        x
+    }
+
+    // Without the request at an index of its queue.
+    pub(crate) fn without(self, j: usize) -> Stream
+        requires { ⌜ (j < 16) × (1 ≤ self .queued) ⌝ }
+        ensures { λ r. ⌜ r ≡ without j self ⌝ }
+    {
+        let places = self.places;
+        let left = closed_up(places, j);
+        let mut x = self;
+        x.places = left;
+        x.queued = self.queued - 1;
+        x
+    }
+
+    // With a completion charged.
+    pub(crate) fn charged(self, duration: Charge) -> Stream
+        requires { ⌜ (self .charge .0 ≤ session-end) × (duration .0 ≤ session-end) ⌝ }
+        ensures { λ r. ⌜ r ≡ charged (duration .0) self ⌝ }
+    {
+        let charge = self.charge.plus(duration);
+        let mut x = self;
+        x.charge = charge;
+        x
+    }
+
+    // With a slot expired.
+    pub(crate) fn lapsed(self, worst: u32) -> Stream
+        requires { ⌜ (self .charge .0 ≤ session-end) × (self .expired ≤ session-end) ⌝ }
+        ensures { λ r. ⌜ r ≡ lapsed worst self ⌝ }
+    {
+        let charge = self.charge.plus(Charge::of(worst as u64));
+        let mut x = self;
+        x.charge = charge;
+        x.expired = self.expired + 1;
+        x
+    }
+
+    // At a move: its job is closed if it is due at the horizon.
+    pub(crate) fn moved(self, now: Clock, h: Clock) -> Stream
+        requires { ⌜ self .deadline .0 ≤ session-end ⌝ }
+        ensures { λ r. ⌜ r ≡ moved now (h .0) self ⌝ }
+    {
+        if self.deadline.is(h) {
+            self.closed(now)
+        } else {
+            self
+        }
+    }
+
+    // With its job closed and the next one begun.
+    fn closed(self, now: Clock) -> Stream
+        requires { ⌜ self .deadline .0 ≤ session-end ⌝ }
+        ensures { λ r. ⌜ r ≡ closed now self ⌝ }
+    {
+        let deadline = self.deadline;
+        let charge = self.charge;
+        let last = Job {
+            charge: charge,
+            closed: now,
+            deadline: deadline,
+            expired: self.expired,
+        };
+        let next = deadline.plus(self.period);
+        let nothing = Charge::of(0);
+        let mut x = self;
+        x.release = deadline;
+        x.deadline = next;
+        x.charge = nothing;
+        x.expired = 0;
+        x.last = last;
+        x
+    }
 }
 
 impl Job {
@@ -156,4 +238,19 @@ fn queue_is_sound(places: [u64; 16], queued: usize) -> bool
         j += 1;
     }
     (queued <= Stream::QUEUE_MAX) & ok
+}
+
+// The queue without its place j: those behind it close up.
+fn closed_up(places: [u64; 16], j: usize) -> [u64; 16]
+    requires { ⌜ j < 16 ⌝ }
+    ensures { λ r. ⌜ r ≡ closedUp j places ⌝ }
+{
+    let mut left = places;
+    let mut i = j;
+    while i < 15 {
+        left[i] = places[i + 1];
+        i += 1;
+    }
+    left[15] = 0;
+    left
 }

@@ -1,5 +1,5 @@
 -- An array that a loop fills from its front, and how a list reads after a change.
-use mathlib.Core.List.{List, [], _∷_, _++_, map, map-map, map-append}
+use mathlib.Core.List.{List, [], _∷_, _++_, map, map-id, map-map, map-append}
 use mathlib.Core.Path.{_≡_, refl, sym, _∙_, ap, fun-ext}
 use mathlib.Core.Logic.{⊎-elim}
 use Prim.Native.Nat.{ℕ, zero, suc, _+_, _-_, _≤_, _<_}
@@ -99,7 +99,7 @@ module _ {A : Type 0} (xs : List A) (d : A) (j : ℕ) (l : j < length xs) where
 
 -- a list that is mapped, by its indices
 module _ {A B : Type 0} (f : A → B) (xs : List A) (d : A) where
-  front-mapped : (n : ℕ) → n ≤ length xs → listTo (λ i. f (getD xs i d)) n ≡ map f (take n xs)
+  pub front-mapped : (n : ℕ) → n ≤ length xs → listTo (λ i. f (getD xs i d)) n ≡ map f (take n xs)
   unfolding listTo
   front-mapped zero le = refl
   front-mapped (suc n) le =
@@ -107,3 +107,7 @@ module _ {A B : Type 0} (f : A → B) (xs : List A) (d : A) where
 
   pub mapped : (n : ℕ) → length xs ≡ n → listTo (λ i. f (getD xs i d)) n ≡ map f xs
   mapped n e = front-mapped n (omega (arith, e)) ∙ ap (map f) (take-all n xs (omega (arith, e)))
+
+-- a list, by its indices
+pub relisted : {A : Type 0} (xs : List A) (d : A) (n : ℕ) → length xs ≡ n → listTo (λ i. getD xs i d) n ≡ xs
+relisted xs d n e = mapped (λ x. x) xs d n e ∙ map-id xs

@@ -32,6 +32,7 @@ pub same-test : (a b : Bool) → (a ≡ true → b ≡ true) → (b ≡ true →
 same-test true b f g = sym (f refl)
 same-test false true f g = g refl
 same-test false false f g = refl
+
 -- what holds of either side of a choice, where its test says so, holds of the choice
 pub by-if : {A : Type 0} (P : A → Type 0) (b : Bool) (x y : A) → (b ≡ true → P x) → (b ≡ false → P y) → P (if b x y)
 unfolding if

@@ -1,0 +1,17 @@
+-- `Stream::charged` adds a completion to the charge.
+use Rattle.session.specs.Stream.{charged}
+use native.Mathlib.Omega.{arith}
+use mathlib.Core.Path.{_≡_, refl, sym, ap, _∙_}
+use borrow.Author.Needs.{needs}
+use Rattle.session.proofs.stream.Stream.charged.Statement.{statement}
+use Rattle.session.proofs.stream.Stream.charged.Tie as tie
+
+plus-requires : tie.Need-plus-requires
+plus-requires c κs = search needs
+
+returns : tie.Need-returns
+unfolding charged
+returns c = rw (c .plus .ensures)
+
+pub charged-spec : {M : Type 1} → statement M
+charged-spec = tie.close (tie.spec plus-requires returns)

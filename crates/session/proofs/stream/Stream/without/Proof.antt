@@ -1,0 +1,20 @@
+-- `Stream::without` closes the queue up over the request.
+use Rattle.session.specs.Stream.{without}
+use native.Mathlib.Omega.{arith}
+use mathlib.Core.Path.{_≡_, refl, sym, ap, _∙_}
+use borrow.Author.Needs.{needs}
+use Rattle.session.proofs.stream.Stream.without.Statement.{statement}
+use Rattle.session.proofs.stream.Stream.without.Tie as tie
+
+closed-up-requires : tie.Need-closed-up-requires
+closed-up-requires c κs = search needs
+
+sub-x : tie.Need-sub-x
+sub-x c = search needs
+
+returns : tie.Need-returns
+unfolding without
+returns c = rw (c .before .closed-up .ensures)
+
+pub without-spec : {M : Type 1} → statement M
+without-spec = tie.close (tie.spec closed-up-requires sub-x returns)

@@ -3,6 +3,7 @@ pub mod Worked
 pub mod Slots
 pub mod Rounding
 pub mod Queue
+pub mod Picks
 pub mod Fits
 pub mod Sound
 pub mod Best

@@ -5,8 +5,11 @@ use Prim.Native.Nat.{ℕ, zero, suc, _-_}
 use lib.ListN.{getD}
 use lib.Dec.{leb, ltb, eqb}
 use Rattle.table.specs.Fold.{if}
-use Rattle.session.specs.Stream.{less, same, microDeadline}
+use Rattle.session.specs.Stream.{filled, less, same, microDeadline}
 use Rattle.session.specs.Session.{streamAt, slotsAt, filledAt}
+use Rattle.session.specs.declared.choice.Near.{Near}
+use Rattle.session.specs.declared.choice.Pick.{Pick}
+use Rattle.session.specs.declared.stream.Stream.{Stream}
 use Rattle.session.specs.declared.Session.{Session}
 
 -- of the indices below n that pass, the first that no other beats: of equals the lower one; 0 where none passes
@@ -52,3 +55,20 @@ expiresBefore s a b =
 -- the stream that loses a slot: "then the lower number"
 unfoldable pub expiring : Session → ℕ
 expiring s = firstBest (λ i. leb 1 (slotsAt s i)) (expiresBefore s) (s .count)
+
+-- What the search for the request to send keeps of the streams passed so far, and one step of it. The first of equals stays, which is the tie rule.
+abbrev pub near : ℕ → List ℕ → ℕ → Near
+near head places m =
+    record { index = nearest head places m; distance = distance head (getD places (nearest head places m) 0) }
+
+unfoldable pub nearer : Near → ℕ → ℕ → Near
+nearer best j far = if (ltb far (best .distance)) (record { index = j; distance = far }) best
+
+unfoldable pub considered : ℕ → ℕ → ℕ → Pick → Stream → ℕ → Pick
+considered worst h head best x i =
+    let request = near head (x .places) (filled worst h x) in
+    let sooner = ltb (x .deadline .0) (best .deadline .0) in
+    let alike = eqb (x .deadline .0) (best .deadline .0) in
+    if (eqb (filled worst h x) 0) best
+    (if (best .found && not (sooner || (alike && ltb (request .distance) (best .distance)))) best
+    (record { found = true; stream = i; index = request .index; deadline = x .deadline; distance = request .distance }))

@@ -7,3 +7,4 @@ pub mod Picks
 pub mod Fits
 pub mod Sound
 pub mod Best
+pub mod Grounds

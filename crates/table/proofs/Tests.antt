@@ -58,6 +58,17 @@ unfolding _or-next_
 or-next-none zero m h = (refl, h)
 or-next-none (suc n) m h = absurd (let z : suc n ≡ 0 = h in omega arith)
 
+-- a refusal is at most a bound that each of its parts keeps
+pub given-high : (b : Bool) (n top : ℕ) → n ≤ top → given b n ≤ top
+unfolding given
+given-high true n top l = l
+given-high false n top l = omega arith
+
+pub or-next-high : (n m top : ℕ) → n ≤ top → m ≤ top → (n or-next m) ≤ top
+unfolding _or-next_
+or-next-high zero m top l k = k
+or-next-high (suc n) m top l k = l
+
 -- the first refusal stands
 pub or-next-first : (n m : ℕ) → (n ≡ 0 → ⊥) → n or-next m ≡ n
 unfolding _or-next_

@@ -8,3 +8,6 @@ pub mod Fits
 pub mod Sound
 pub mod Best
 pub mod Grounds
+pub mod Queues
+pub mod Changes
+pub mod Moves

@@ -3,7 +3,7 @@ use mathlib.Core.Bool.{Bool, true, false}
 use mathlib.Core.Path.{_≡_, refl, sym, _∙_, ap}
 use mathlib.Core.Logic.{⊎-elim, _↔_}
 use Prim.Native.Nat.{ℕ, zero, suc, _+_, _-_, _*_, _/_, min, _≤_, _<_}
-use native.Mathlib.Nat.{le-div-iff-mul-le, mul-pos}
+use native.Mathlib.Nat.{le-div-iff-mul-le, mul-pos, mul-le-mul-right, le-of-mul-le-mul-right}
 use native.Mathlib.Omega.{arith}
 use lib.Dec.{leb}
 use borrow.Author.Tests.{le-leb, lt-leb}
@@ -11,6 +11,7 @@ use Rattle.table.specs.Fold.{if, countTo}
 use Rattle.table.proofs.Folds.{count-below}
 use Rattle.table.proofs.Tests.{le-or-lt}
 use Rattle.session.specs.Stream.{slots, microDeadline, shifted, charged}
+use Rattle.session.specs.Bounds.{Bounded}
 use Rattle.session.specs.Laws.{SlotsAreCounted, MinusSign}
 use Rattle.session.specs.declared.stream.Stream.{Stream}
 
@@ -59,3 +60,11 @@ slots-are-counted worst h x m hw hp le =
     (fails worst h x hw hp)
     m
     ∙ omega arith
+
+-- a stream with a slot has been charged at most its budget less W: the span from release to horizon is at most a period
+pub slot-room : (worst h : ℕ) (x : Stream) → Bounded worst h x → 1 ≤ slots worst h x → x .charge .0 + worst ≤ x .granted .0
+slot-room worst h x b slot =
+    let pos : 0 < x .period = omega (arith, b .period-low) in
+    let fits = slot-fits worst h x (b .worst-low) pos 1 (omega arith) .0 slot in
+    let span : h - x .release .0 ≤ x .period = omega (arith, b .ahead, b .due) in
+    le-of-mul-le-mul-right {k = x .period} (omega (arith, mul-le-mul-right (x .granted .0) span)) pos

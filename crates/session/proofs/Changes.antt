@@ -1,0 +1,109 @@
+-- A session stays sound with one stream changed, and with another clock or request at the disk.
+use mathlib.Core.Bool.{true, _&&_}
+use mathlib.Core.List.{List, map}
+use mathlib.Core.Path.{_≡_, refl, sym, _∙_, ap, fun-ext, subst}
+use Prim.Native.Nat.{ℕ, _+_, _-_, _*_, _≤_, _<_}
+use native.Mathlib.Omega.{arith}
+use lib.ListN.{length, set, length-set}
+use lib.Dec.{leb, eqb}
+use lib.Seq.{getD-set-other, map-set-same}
+use borrow.Author.Tests.{le-leb, eq-eqb, ne-eqb}
+use Rattle.table.specs.Fold.{if, smallestTo}
+use Rattle.table.specs.Admission.{admissionOf}
+use Rattle.table.proofs.Lists.{set-each, set-alike}
+use Rattle.session.specs.Time.{session-end, duration-max}
+use Rattle.session.specs.Stream.{slots, withQueue, withCharge}
+use Rattle.session.specs.Session.{noStream, streamAt, horizon, slotsAt, tableOf, soundDisk, withStreams, withStream, withDisk}
+use Rattle.session.specs.declared.time.Clock.{Clock}
+use Rattle.session.specs.declared.stream.Stream.{Stream}
+use Rattle.session.specs.declared.Session.{Session}
+use Rattle.session.proofs.Sound.{Queue, InOrder, Sound, admits}
+
+-- the table of a session is as it was, where no stream's reservation changes
+pub table-kept : (s : Session) (xs : List Stream)
+    → map (λ (x : Stream). x .reserved) xs ≡ map (λ (x : Stream). x .reserved) (s .streams)
+    → map (λ (x : Stream). x .period) xs ≡ map (λ (x : Stream). x .period) (s .streams)
+    → tableOf (withStreams s xs) ≡ tableOf s
+table-kept s xs es ps i =
+    record { worst = s .worst; span = s .span; padding = s .padding; count = s .count; reserved = es i; period = ps i }
+
+-- the disk stays in order while it is idle, whatever the streams
+pub idle-kept : (s : Session) (xs : List Stream) → Sound s → s .served ≡ 0 → soundDisk (withStreams s xs) ≡ true
+unfolding soundDisk if
+idle-kept s xs q idle = rw (eq-eqb (s .served) 0 idle) (rw (eq-eqb (s .served) 0 idle) at (q .disk))
+
+-- a stream with another charge and another queue
+abbrev worked : Stream → ℕ → ℕ → ℕ → List ℕ → Stream
+worked x charge expired queued places = withQueue (withCharge x charge expired) queued places
+
+module _ (s : Session) (q : Sound s) (i : ℕ) (l : i < s .count) (charge expired queued : ℕ) (places : List ℕ) where
+  abbrev y : Stream
+  y = worked (streamAt s i) charge expired queued places
+
+  -- its horizon is as it was
+  horizon-kept : horizon (withStream s i y) ≡ horizon s
+  unfolding horizon
+  horizon-kept =
+      ap (λ (f : ℕ → ℕ). smallestTo f (s .count)) (fun-ext (set-alike (s .streams) i y noStream (λ x. x .deadline .0) refl))
+
+  -- such a stream at i keeps a session sound, if its charge, its queue and the disk are in order
+  pub stream-kept : charge ≤ streamAt s i .granted .0 + duration-max → s .worst * expired ≤ charge → Queue y
+      → soundDisk (withStream s i y) ≡ true → Sound (withStream s i y)
+  stream-kept high low queue disk =
+      let x = q .each i l in
+      let xs = s .streams in
+      let here : i < length xs = omega (arith, q .eight, admits s q .numbers .count-high) in
+      let order : InOrder (s .worst) (s .padding) (horizon s) y = record {
+        budget = x .budget;
+        due = x .due;
+        released = x .released;
+        deadline-high = x .deadline-high;
+        charge-high = high;
+        expiries = low;
+        queue = queue;
+      } in
+      record {
+        admitted = ap admissionOf (table-kept s (set xs i y) (map-set-same _ xs i y noStream refl) (map-set-same _ xs i y noStream refl)) ∙ q .admitted;
+        eight = length-set xs i y ∙ q .eight;
+        each = λ j m.
+            subst (λ (h : ℕ). InOrder (s .worst) (s .padding) h (streamAt (withStream s i y) j)) (sym horizon-kept)
+            (set-each xs i y noStream (InOrder (s .worst) (s .padding) (horizon s)) here order j (q .each j m));
+        others = λ j past m. rw (getD-set-other xs i j y noStream (λ e. omega arith)) (q .others j past m);
+        clock-high = q .clock-high;
+        disk = disk;
+      }
+
+  -- where the charge stays, so do the slots of each stream, and the disk in order
+  pub slots-kept : charge ≡ streamAt s i .charge .0 → (j : ℕ) → slotsAt (withStream s i y) j ≡ slotsAt s j
+  unfolding slots
+  slots-kept e j =
+      ap (λ (h : ℕ). slots (s .worst) h (streamAt (withStream s i y) j)) horizon-kept
+      ∙ set-alike (s .streams) i y noStream (slots (s .worst) (horizon s)) (rw e) j
+
+  pub disk-kept : charge ≡ streamAt s i .charge .0 → soundDisk (withStream s i y) ≡ true
+  unfolding soundDisk
+  disk-kept e =
+      ap (λ (n : ℕ). if (eqb (s .served) 0) (eqb (s .place) 0) (leb (s .served) (s .count) && leb 1 n)) (slots-kept e (s .served - 1))
+      ∙ q .disk
+
+-- another clock and another request at the disk
+pub clock-kept : (s : Session) → Sound s → (clock : Clock) (head served place : ℕ) → clock .0 ≤ session-end
+    → soundDisk (withDisk s clock head served place) ≡ true → Sound (withDisk s clock head served place)
+unfolding horizon
+clock-kept s q clock head served place high disk =
+    record {
+      admitted = q .admitted;
+      eight = q .eight;
+      each = q .each;
+      others = q .others;
+      clock-high = high;
+      disk = disk;
+    }
+
+-- a stream with a slot may have its request at the disk
+pub disk-served : (s : Session) (clock : Clock) (head i place : ℕ) → i < s .count → 1 ≤ slotsAt s i
+    → soundDisk (withDisk s clock head (i + 1) place) ≡ true
+unfolding soundDisk horizon if
+disk-served s clock head i place l slot =
+    let back : i + 1 - 1 ≡ i = omega arith in
+    rw (back, ne-eqb (i + 1) 0 (λ e. omega arith), le-leb (i + 1) (s .count) (omega arith), le-leb 1 (slotsAt s i) slot)

@@ -1,0 +1,123 @@
+-- A move keeps a session sound: deadlines only grow, and each job that closes begins anew at the horizon that was.
+use mathlib.Core.Bool.{Bool, true, false, and-false, false≢true}
+use mathlib.Core.List.{map}
+use mathlib.Core.Path.{_≡_, refl, sym, _∙_, ap}
+use Prim.Native.Nat.{ℕ, _+_, _≤_, _<_}
+use native.Mathlib.Omega.{arith}
+use lib.ListN.{getD, length-map, List·getD-map}
+use lib.Dec.{eqb}
+use borrow.Author.Tests.{eqb-true, ne-eqb}
+use Rattle.table.specs.Fold.{if}
+use Rattle.table.specs.Admission.{admissionOf}
+use Rattle.table.proofs.Tests.{by-if}
+use Rattle.table.proofs.Folds.{smallest-is}
+use Rattle.table.proofs.Lists.{map-alike}
+use Rattle.session.specs.Time.{session-end}
+use Rattle.session.specs.Stream.{closed, moved, unusedStream}
+use Rattle.session.specs.Session.{noStream, streamAt, horizon, withStreams}
+use Rattle.session.specs.Calls.{move}
+use Rattle.session.specs.declared.time.Clock.{Clock}
+use Rattle.session.specs.declared.stream.Stream.{Stream}
+use Rattle.session.specs.declared.Session.{Session}
+use Rattle.session.proofs.Sound.{InOrder, Sound, admits, bounded}
+use Rattle.session.proofs.Grounds.{Grounds}
+use Rattle.session.proofs.Changes.{table-kept, idle-kept}
+
+module _ (now : Clock) (h : ℕ) where
+  -- what a stream keeps as its job closes, it keeps in a move
+  moved-keeps : {A : Type 0} (f : Stream → A) → ((x : Stream) → f (closed now x) ≡ f x) → (x : Stream) → f (moved now h x) ≡ f x
+  unfolding moved
+  moved-keeps f e x = by-if (λ y. f y ≡ f x) _ (closed now x) x (λ c. e x) (λ c. refl)
+
+  -- a stream with another deadline keeps its job
+  pub moved-other : (x : Stream) → (x .deadline .0 ≡ h → ⊥) → moved now h x ≡ x
+  unfolding moved if
+  moved-other x other = rw (ne-eqb (x .deadline .0) h other)
+
+  -- a deadline does not fall
+  moved-later : (x : Stream) → x .deadline .0 ≤ moved now h x .deadline .0
+  unfolding moved closed
+  moved-later x =
+      by-if (λ (y : Stream). x .deadline .0 ≤ y .deadline .0) _ (closed now x) x (λ c. omega arith) (λ c. omega arith)
+
+  -- a stream in order is in order at a later horizon, if its deadline does not pass the end
+  moved-order : (worst k later : ℕ) (x : Stream) → h ≤ later → InOrder worst k h x
+      → (x .deadline .0 ≡ h → x .deadline .0 + x .period ≤ session-end) → InOrder worst k later (moved now h x)
+  unfolding moved closed
+  moved-order worst k later x le q inTime =
+      by-if (InOrder worst k later) _ (closed now x) x
+      (λ c.
+      let due = eqb-true (x .deadline .0) h c in
+      record {
+        budget = q .budget;
+        due = refl;
+        released = omega arith;
+        deadline-high = inTime due;
+        charge-high = omega arith;
+        expiries = omega arith;
+        queue = record { queued-high = q .queue .queued-high; cells = q .queue .cells; unused = q .queue .unused };
+      })
+      (λ c.
+      record {
+        budget = q .budget;
+        due = q .due;
+        released = omega (arith, q .released);
+        deadline-high = q .deadline-high;
+        charge-high = q .charge-high;
+        expiries = q .expiries;
+        queue = q .queue;
+      })
+
+-- an unused stream has the deadline 0
+unused-deadline : (x : Stream) → unusedStream x ≡ true → x .deadline .0 ≡ 0
+unfolding unusedStream
+unused-deadline x t = go (eqb (x .deadline .0) 0) refl
+  where
+    go : (b : Bool) → eqb (x .deadline .0) 0 ≡ b → x .deadline .0 ≡ 0
+    go true e = eqb-true (x .deadline .0) 0 e
+    go false e = absurd (false≢true (simp (e, and-false) at t))
+
+module _ (s : Session) (q : Sound s) where
+  -- the horizon is past the opening
+  horizon-low : 1000 ≤ horizon s
+  unfolding horizon
+  horizon-low =
+      smallest-is (λ d. 1000 ≤ d) (λ i. streamAt s i .deadline .0) (s .count) (admits s q .numbers .count-low)
+      (λ i l. let b = bounded s q i l in omega (arith, b .due, b .period-low))
+
+  abbrev f : Stream → Stream
+  f = moved (s .clock) (horizon s)
+
+  abbrev next : Session
+  next = withStreams s (map f (s .streams))
+
+  stays : (x : Stream) → x .deadline .0 ≡ 0 → f x ≡ x
+  stays x zero-deadline = moved-other (s .clock) (horizon s) x (λ e. let low = horizon-low in omega arith)
+
+  -- each stream moves
+  moved-at : (i : ℕ) → streamAt next i ≡ f (streamAt s i)
+  moved-at i = ap (getD (map f (s .streams)) i) (sym (stays noStream refl)) ∙ List·getD-map f (s .streams) i noStream
+
+  horizon-later : horizon s ≤ horizon next
+  unfolding horizon
+  horizon-later =
+      smallest-is (λ h. horizon s ≤ h) (λ i. streamAt next i .deadline .0) (s .count) (admits s q .numbers .count-low)
+      (λ i l. rw (moved-at i) (omega (arith, bounded s q i l .ahead, moved-later (s .clock) (horizon s) (streamAt s i))))
+
+  pub move-kept : Grounds s move → Sound next
+  unfolding closed
+  move-kept g =
+      let xs = s .streams in
+      let keeps = moved-keeps (s .clock) (horizon s) in
+      record {
+        admitted = ap admissionOf (table-kept s (map f xs) (map-alike _ f (keeps (λ x. x .reserved) (λ x. refl)) xs) (map-alike _ f (keeps (λ x. x .period) (λ x. refl)) xs)) ∙ q .admitted;
+        eight = length-map xs f ∙ q .eight;
+        each = λ i l.
+            rw (moved-at i)
+            (moved-order (s .clock) (horizon s) (s .worst) (s .padding) (horizon next) (streamAt s i) horizon-later (q .each i l) (g .inTime i l));
+        others = λ i past l.
+            let unused = q .others i past l in
+            rw (moved-at i, stays (streamAt s i) (unused-deadline (streamAt s i) unused)) unused;
+        clock-high = q .clock-high;
+        disk = idle-kept s (map f xs) q (g .idle);
+      }

@@ -86,6 +86,27 @@ module _ (s : Session) (q : Sound s) (i : ℕ) (l : i < s .count) (charge expire
       ap (λ (n : ℕ). if (eqb (s .served) 0) (eqb (s .place) 0) (leb (s .served) (s .count) && leb 1 n)) (slots-kept e (s .served - 1))
       ∙ q .disk
 
+module _ (s : Session) (q : Sound s) (i : ℕ) (l : i < s .count) where
+  abbrev x : Stream
+  x = streamAt s i
+
+  -- another queue
+  pub queue-kept : (queued : ℕ) (places : List ℕ) → Queue (withQueue x queued places)
+      → Sound (withStream s i (withQueue x queued places))
+  queue-kept queued places queue =
+      let o = q .each i l in
+      stream-kept s q i l (x .charge .0) (x .expired) queued places (o .charge-high) (o .expiries) queue
+      (disk-kept s q i l (x .charge .0) (x .expired) queued places refl)
+
+  -- another charge, while the disk is idle
+  pub charge-kept : (charge expired : ℕ) → charge ≤ x .granted .0 + duration-max → s .worst * expired ≤ charge → s .served ≡ 0
+      → Sound (withStream s i (withCharge x charge expired))
+  charge-kept charge expired high low idle =
+      let queue = q .each i l .queue in
+      stream-kept s q i l charge expired (x .queued) (x .places) high low
+      (record { queued-high = queue .queued-high; cells = queue .cells; unused = queue .unused })
+      (idle-kept s _ q idle)
+
 -- another clock and another request at the disk
 pub clock-kept : (s : Session) → Sound s → (clock : Clock) (head served place : ℕ) → clock .0 ≤ session-end
     → soundDisk (withDisk s clock head served place) ≡ true → Sound (withDisk s clock head served place)

@@ -41,7 +41,7 @@ Grounds s (finish i a) =
       short : a ≤ duration-max;
       inTime : s .clock .0 + a ≤ session-end;
     }
-Grounds s (set-clock t) = record { idle : s .served ≡ 0; inTime : t ≤ session-end }
+Grounds s (set-clock t) = t ≤ session-end
 
 -- a stream number that is none of 0 and those above the count
 named : (s : Session) (n : ℕ) → noSuchStream s n ≡ false → n - 1 < s .count
@@ -146,10 +146,7 @@ call-grounds s q (Call.Done a) h =
 call-grounds s q (Call.Clock t) h =
     let a = or-next-none _ _ h in
     let b = or-next-none _ _ (a .1) in
-    record {
-      idle = idle-of s (given-none _ 9 (a .0));
-      inTime = ltb-false session-end t (given-none _ 13 (b .1));
-    }
+    ltb-false session-end t (given-none _ 13 (b .1))
 
 -- the refusals of calls are at most 15
 call-refusal-high : (s : Session) (k : Call) → callRefusal s k ≤ 15

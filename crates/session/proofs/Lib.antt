@@ -11,3 +11,4 @@ pub mod Grounds
 pub mod Queues
 pub mod Changes
 pub mod Moves
+pub mod Keeps

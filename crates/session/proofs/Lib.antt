@@ -12,3 +12,4 @@ pub mod Queues
 pub mod Changes
 pub mod Moves
 pub mod Keeps
+pub mod Opened

@@ -1,0 +1,120 @@
+-- Opening makes a sound session, and so 31 is never answered after it.
+use mathlib.Core.Bool.{true}
+use mathlib.Core.List.{List, [], _∷_, map}
+use mathlib.Core.Path.{_≡_, refl, sym, _∙_, ap}
+use Prim.Native.Nat.{ℕ, _+_, _*_, _≤_, _<_}
+use native.Mathlib.Omega.{arith}
+use lib.ListN.{getD, replicate, length-replicate, getD-replicate, List·getD-map}
+use lib.Dec.{lit<}
+use borrow.Author.Tests.{lt-ltb, le-ltb, eq-eqb}
+use Rattle.table.specs.Fold.{if, allTo, listTo}
+use Rattle.table.specs.Ranges.{streams-max}
+use Rattle.table.specs.Admission.{reservedAt, periodAt, grantedOf, admissionOf}
+use Rattle.table.specs.declared.Table.{Table}
+use Rattle.table.proofs.Tests.{by-if}
+use Rattle.table.proofs.Lists.{length-listTo, getD-listTo}
+use Rattle.table.proofs.Judged.{Numbers, Admits, admits-of, admits-alike}
+use Rattle.session.specs.Stream.{queue-max, soundQueue, unusedStream}
+use Rattle.session.specs.Session.{noStream, streamAt, horizon, tableOf, soundDisk, sound}
+use Rattle.session.specs.Calls.{Verdict, refuse, append, send, move, wait, expire, finish, set-clock, verdict, apply, overlong, late, replyTo, numberOf, answerTo, after}
+use Rattle.session.specs.Opening.{freshStream, openedStream, freshSession, zeroSession, openingOf}
+use Rattle.session.specs.Laws.{OpeningIsSound, NeverUnsound}
+use Rattle.session.specs.declared.stream.Stream.{Stream}
+use Rattle.session.specs.declared.Session.{Session}
+use Rattle.session.specs.declared.call.Call.{Call}
+use Rattle.session.specs.declared.call.Reply.{Reply}
+use Rattle.session.proofs.Rules.{rules}
+use Rattle.session.proofs.Sound.{InOrder, Sound, sound-of, of-sound}
+use Rattle.session.proofs.Grounds.{Grounds, verdict-grounds}
+use Rattle.session.proofs.Keeps.{calls-keep-sound}
+
+module _ (t : Table) (admitted : admissionOf t ≡ 0) where
+  abbrev a : Admits t
+  a = admits-of t admitted
+
+  -- the stream at i, for each of the eight
+  opened-at : (i : ℕ) → i < streams-max → streamAt (freshSession t) i ≡ openedStream t i
+  unfolding freshSession
+  opened-at i l = getD-listTo (openedStream t) noStream streams-max i l
+
+  -- those below the count hold their reservations
+  fresh-at : (i : ℕ) → i < t .count
+      → streamAt (freshSession t) i ≡ freshStream (reservedAt t i) (periodAt t i) (grantedOf (t .worst) (t .padding) (reservedAt t i))
+  unfolding openedStream if
+  fresh-at i l = opened-at i (omega (arith, a .numbers .count-high)) ∙ rw (lt-ltb i (t .count) l)
+
+  fresh-order : (h i : ℕ) → i < t .count → InOrder (t .worst) (t .padding) h (streamAt (freshSession t) i)
+  unfolding freshStream
+  fresh-order h i l =
+      rw (fresh-at i l)
+      (record {
+        budget = refl;
+        due = omega arith;
+        released = omega arith;
+        deadline-high = omega (arith, a .each i l .period-high);
+        charge-high = omega arith;
+        expiries = omega arith;
+        queue = record {
+          queued-high = omega arith;
+          cells = refl;
+          unused = λ j past m. getD-replicate queue-max j 0 0 m;
+        };
+      })
+
+  -- the table of the session is the one that was admitted, as far as it is used
+  fresh-admitted : admissionOf (tableOf (freshSession t)) ≡ 0
+  unfolding freshSession freshStream
+  fresh-admitted =
+      admits-alike t (tableOf (freshSession t) .reserved) (tableOf (freshSession t) .period) admitted
+      (λ i l. List·getD-map (λ (x : Stream). x .reserved) (freshSession t .streams) i noStream ∙ ap (λ x. x .reserved) (fresh-at i l))
+      (λ i l. List·getD-map (λ (x : Stream). x .period) (freshSession t .streams) i noStream ∙ ap (λ x. x .period) (fresh-at i l))
+
+  fresh-others : (i : ℕ) → t .count ≤ i → i < streams-max → unusedStream (streamAt (freshSession t) i) ≡ true
+  unfolding openedStream freshStream unusedStream soundQueue allTo if
+  fresh-others i past l = rw (opened-at i l, le-ltb i (t .count) past)
+
+  fresh-sound : Sound (freshSession t)
+  unfolding freshSession soundDisk if
+  fresh-sound =
+      record {
+        admitted = fresh-admitted;
+        eight = length-listTo (openedStream t) streams-max;
+        each = fresh-order (horizon (freshSession t));
+        others = fresh-others;
+        clock-high = omega arith;
+        disk = refl;
+      }
+
+opened-sound : (t : Table) → admissionOf t ≡ 0 → sound (openingOf t .session) ≡ true
+unfolding openingOf if
+opened-sound t admitted = rw (eq-eqb (admissionOf t) 0 admitted) (of-sound (freshSession t) (fresh-sound t admitted))
+
+pub opening-is-sound : OpeningIsSound
+unfolding rules
+opening-is-sound = ((λ t admitted. opened-sound t admitted), refl)
+
+-- after any calls the session is sound
+pub sound-after : (s : Session) (ks : List Call) → sound s ≡ true → sound (after s ks) ≡ true
+unfolding after
+sound-after s [] t = t
+sound-after s (k ∷ ks) t = sound-after (answerTo s k .session) ks (calls-keep-sound s k t)
+
+-- a reply that is no refusal has a number from 20 to 28
+number-low : (s : Session) (v : Verdict) → Grounds s v → numberOf (replyTo s v) < 31
+unfolding replyTo numberOf
+number-low s (refuse n) g = g
+number-low s (append i place) g = lit< tt
+number-low s (send i j) g = lit< tt
+number-low s move g = lit< tt
+number-low s wait g = lit< tt
+number-low s (expire i) g = lit< tt
+number-low s (finish i a) g = by-if (λ (r : Reply). numberOf r < 31) _ _ _ (λ b. lit< tt) (λ b. lit< tt)
+number-low s (set-clock t) g = by-if (λ (r : Reply). numberOf r < 31) _ _ _ (λ b. lit< tt) (λ b. lit< tt)
+
+pub never-unsound : NeverUnsound
+unfolding answerTo
+never-unsound t before k admitted is-31 =
+    let s = after (openingOf t .session) before in
+    let q = sound-of s (sound-after (openingOf t .session) before (opening-is-sound .0 t admitted)) in
+    let low = number-low s (verdict s k) (verdict-grounds s q k) in
+    omega arith

@@ -3,6 +3,8 @@ use mathlib.Core.Bool.{Bool, true, false, false≢true}
 use mathlib.Core.Path.{_≡_, refl}
 use Prim.Native.Nat.{ℕ, zero, suc, _≤_, _<_}
 use native.Mathlib.Omega.{arith}
+use lib.Dec.{leb}
+use borrow.Author.Tests.{leb-true}
 use Rattle.table.specs.Fold.{if, someTo}
 use Rattle.table.proofs.Tests.{by-if}
 use Rattle.table.proofs.Folds.{some-none}
@@ -50,6 +52,7 @@ module _ (passes : ℕ → Bool) (beats : ℕ → ℕ → Bool) where
       go false fails true e before = rw (best-skips n fails) (before e)
       go false fails false e before = absurd (false≢true (rw (e, fails) at some))
 
+  -- and it is below the count
   pub best-below : (n : ℕ) → someTo passes n ≡ true → best n < n
   unfolding someTo
   best-below zero some = absurd (false≢true some)
@@ -58,3 +61,9 @@ module _ (passes : ℕ → Bool) (beats : ℕ → ℕ → Bool) where
   -- a later one that passes, where one did before
   pub best-next : (n : ℕ) → passes n ≡ true → someTo passes n ≡ true → best (suc n) ≡ if (beats n (best n)) n (best n)
   best-next n here some = best-meets n here (best-passes n some)
+
+-- where some one has 1 or more, so has the best of those
+pub best-positive : (f : ℕ → ℕ) (beats : ℕ → ℕ → Bool) (n : ℕ) → someTo (λ i. leb 1 (f i)) n ≡ true
+    → (firstBest (λ i. leb 1 (f i)) beats n < n) × (1 ≤ f (firstBest (λ i. leb 1 (f i)) beats n))
+best-positive f beats n some =
+    (best-below (λ i. leb 1 (f i)) beats n some, leb-true 1 _ (best-passes (λ i. leb 1 (f i)) beats n some))

@@ -12,20 +12,23 @@ use Rattle.table.specs.Fold.{if, smallestTo}
 use Rattle.table.specs.Admission.{admissionOf}
 use Rattle.table.proofs.Lists.{set-each, set-alike}
 use Rattle.session.specs.Time.{session-end, duration-max}
-use Rattle.session.specs.Stream.{slots, withQueue, withCharge}
+use Rattle.session.specs.Stream.{slots, withQueue, withCharge, soundQueue}
 use Rattle.session.specs.Session.{noStream, streamAt, horizon, slotsAt, tableOf, soundDisk, withStreams, withStream, withDisk}
 use Rattle.session.specs.declared.time.Clock.{Clock}
 use Rattle.session.specs.declared.stream.Stream.{Stream}
 use Rattle.session.specs.declared.Session.{Session}
-use Rattle.session.proofs.Sound.{Queue, InOrder, Sound, admits}
+use Rattle.session.proofs.Sound.{Queue, queue-of, of-queue, InOrder, Sound, admits}
 
--- the table of a session is as it was, where no stream's reservation changes
-pub table-kept : (s : Session) (xs : List Stream)
+-- the table of a session is admitted as it was, where no stream's reservation changes
+pub table-kept : (s : Session) → Sound s → (xs : List Stream)
     → map (λ (x : Stream). x .reserved) xs ≡ map (λ (x : Stream). x .reserved) (s .streams)
     → map (λ (x : Stream). x .period) xs ≡ map (λ (x : Stream). x .period) (s .streams)
-    → tableOf (withStreams s xs) ≡ tableOf s
-table-kept s xs es ps i =
-    record { worst = s .worst; span = s .span; padding = s .padding; count = s .count; reserved = es i; period = ps i }
+    → admissionOf (tableOf (withStreams s xs)) ≡ 0
+table-kept s q xs es ps = ap admissionOf same ∙ q .admitted
+  where
+    same : tableOf (withStreams s xs) ≡ tableOf s
+    same i =
+        record { worst = s .worst; span = s .span; padding = s .padding; count = s .count; reserved = es i; period = ps i }
 
 -- the disk stays in order while it is idle, whatever the streams
 pub idle-kept : (s : Session) (xs : List Stream) → Sound s → s .served ≡ 0 → soundDisk (withStreams s xs) ≡ true
@@ -37,23 +40,23 @@ abbrev worked : Stream → ℕ → ℕ → ℕ → List ℕ → Stream
 worked x charge expired queued places = withQueue (withCharge x charge expired) queued places
 
 module _ (s : Session) (q : Sound s) (i : ℕ) (l : i < s .count) (charge expired queued : ℕ) (places : List ℕ) where
-  abbrev y : Stream
-  y = worked (streamAt s i) charge expired queued places
+  abbrev new : Stream
+  new = worked (streamAt s i) charge expired queued places
 
   -- its horizon is as it was
-  horizon-kept : horizon (withStream s i y) ≡ horizon s
+  horizon-kept : horizon (withStream s i new) ≡ horizon s
   unfolding horizon
   horizon-kept =
-      ap (λ (f : ℕ → ℕ). smallestTo f (s .count)) (fun-ext (set-alike (s .streams) i y noStream (λ x. x .deadline .0) refl))
+      ap (λ (f : ℕ → ℕ). smallestTo f (s .count)) (fun-ext (set-alike (s .streams) i new noStream (λ x. x .deadline .0) refl))
 
   -- such a stream at i keeps a session sound, if its charge, its queue and the disk are in order
-  pub stream-kept : charge ≤ streamAt s i .granted .0 + duration-max → s .worst * expired ≤ charge → Queue y
-      → soundDisk (withStream s i y) ≡ true → Sound (withStream s i y)
+  pub stream-kept : charge ≤ streamAt s i .granted .0 + duration-max → s .worst * expired ≤ charge → Queue new
+      → soundDisk (withStream s i new) ≡ true → Sound (withStream s i new)
   stream-kept high low queue disk =
       let x = q .each i l in
       let xs = s .streams in
       let here : i < length xs = omega (arith, q .eight, admits s q .numbers .count-high) in
-      let order : InOrder (s .worst) (s .padding) (horizon s) y = record {
+      let order : InOrder (s .worst) (s .padding) (horizon s) new = record {
         budget = x .budget;
         due = x .due;
         released = x .released;
@@ -63,48 +66,49 @@ module _ (s : Session) (q : Sound s) (i : ℕ) (l : i < s .count) (charge expire
         queue = queue;
       } in
       record {
-        admitted = ap admissionOf (table-kept s (set xs i y) (map-set-same _ xs i y noStream refl) (map-set-same _ xs i y noStream refl)) ∙ q .admitted;
-        eight = length-set xs i y ∙ q .eight;
+        admitted = table-kept s q (set xs i new) (map-set-same _ xs i new noStream refl) (map-set-same _ xs i new noStream refl);
+        eight = length-set xs i new ∙ q .eight;
         each = λ j m.
-            subst (λ (h : ℕ). InOrder (s .worst) (s .padding) h (streamAt (withStream s i y) j)) (sym horizon-kept)
-            (set-each xs i y noStream (InOrder (s .worst) (s .padding) (horizon s)) here order j (q .each j m));
-        others = λ j past m. rw (getD-set-other xs i j y noStream (λ e. omega arith)) (q .others j past m);
+            subst (λ (h : ℕ). InOrder (s .worst) (s .padding) h (streamAt (withStream s i new) j)) (sym horizon-kept)
+            (set-each xs i new noStream (InOrder (s .worst) (s .padding) (horizon s)) here order j (q .each j m));
+        others = λ j past m. rw (getD-set-other xs i j new noStream (λ e. omega arith)) (q .others j past m);
         clock-high = q .clock-high;
         disk = disk;
       }
 
-  -- where the charge stays, so do the slots of each stream, and the disk in order
-  pub slots-kept : charge ≡ streamAt s i .charge .0 → (j : ℕ) → slotsAt (withStream s i y) j ≡ slotsAt s j
+  -- where the charge stays, so do the slots of each stream
+  pub slots-kept : charge ≡ streamAt s i .charge .0 → (j : ℕ) → slotsAt (withStream s i new) j ≡ slotsAt s j
   unfolding slots
   slots-kept e j =
-      ap (λ (h : ℕ). slots (s .worst) h (streamAt (withStream s i y) j)) horizon-kept
-      ∙ set-alike (s .streams) i y noStream (slots (s .worst) (horizon s)) (rw e) j
+      ap (λ (h : ℕ). slots (s .worst) h (streamAt (withStream s i new) j)) horizon-kept
+      ∙ set-alike (s .streams) i new noStream (slots (s .worst) (horizon s)) (rw e) j
 
-  pub disk-kept : charge ≡ streamAt s i .charge .0 → soundDisk (withStream s i y) ≡ true
+  -- and the disk stays in order
+  pub disk-kept : charge ≡ streamAt s i .charge .0 → soundDisk (withStream s i new) ≡ true
   unfolding soundDisk
   disk-kept e =
       ap (λ (n : ℕ). if (eqb (s .served) 0) (eqb (s .place) 0) (leb (s .served) (s .count) && leb 1 n)) (slots-kept e (s .served - 1))
       ∙ q .disk
 
 module _ (s : Session) (q : Sound s) (i : ℕ) (l : i < s .count) where
-  abbrev x : Stream
-  x = streamAt s i
+  abbrev old : Stream
+  old = streamAt s i
 
   -- another queue
-  pub queue-kept : (queued : ℕ) (places : List ℕ) → Queue (withQueue x queued places)
-      → Sound (withStream s i (withQueue x queued places))
+  pub queue-kept : (queued : ℕ) (places : List ℕ) → Queue (withQueue old queued places)
+      → Sound (withStream s i (withQueue old queued places))
   queue-kept queued places queue =
       let o = q .each i l in
-      stream-kept s q i l (x .charge .0) (x .expired) queued places (o .charge-high) (o .expiries) queue
-      (disk-kept s q i l (x .charge .0) (x .expired) queued places refl)
+      stream-kept s q i l (old .charge .0) (old .expired) queued places (o .charge-high) (o .expiries) queue
+      (disk-kept s q i l (old .charge .0) (old .expired) queued places refl)
 
   -- another charge, while the disk is idle
-  pub charge-kept : (charge expired : ℕ) → charge ≤ x .granted .0 + duration-max → s .worst * expired ≤ charge → s .served ≡ 0
-      → Sound (withStream s i (withCharge x charge expired))
+  pub charge-kept : (charge expired : ℕ) → charge ≤ old .granted .0 + duration-max → s .worst * expired ≤ charge → s .served ≡ 0
+      → Sound (withStream s i (withCharge old charge expired))
+  unfolding soundQueue
   charge-kept charge expired high low idle =
-      let queue = q .each i l .queue in
-      stream-kept s q i l charge expired (x .queued) (x .places) high low
-      (record { queued-high = queue .queued-high; cells = queue .cells; unused = queue .unused })
+      stream-kept s q i l charge expired (old .queued) (old .places) high low
+      (queue-of (withCharge old charge expired) (of-queue old (q .each i l .queue)))
       (idle-kept s _ q idle)
 
 -- another clock and another request at the disk

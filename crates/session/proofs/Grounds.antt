@@ -1,24 +1,24 @@
 -- What each verdict on a sound session rests on: no call comes to an effect whose grounds do not hold.
-use mathlib.Core.Bool.{Bool, true, false, not, _&&_, _||_}
-use mathlib.Core.Path.{_≡_, refl, sym, _∙_}
+use mathlib.Core.Bool.{true, false, not, _&&_}
+use mathlib.Core.Path.{_≡_, refl}
 use mathlib.Core.List.{List}
 use Prim.Native.Nat.{ℕ, zero, suc, _+_, _-_, _≤_, _<_}
 use native.Mathlib.Nat.{not-suc-le-zero, suc-le-suc-iff}
 use native.Mathlib.Omega.{arith}
 use lib.Dec.{lit≤, leb, ltb, eqb}
 use borrow.Author.Tests.{ltb-true, ltb-false, leb-true, eqb-true, eqb-false, not-true, not-false, eq-eqb, ne-eqb}
-use Rattle.table.specs.Fold.{if, someTo}
+use Rattle.table.specs.Fold.{if}
 use Rattle.table.specs.Refusal.{given, _or-next_}
 use Rattle.table.proofs.Tests.{by-if, both, neither, within, given-none, or-next-none, given-high, or-next-high}
 use Rattle.table.proofs.Folds.{some-none, some-positive}
 use Rattle.session.specs.Time.{session-end, duration-max}
-use Rattle.session.specs.Stream.{queue-max, filled}
-use Rattle.session.specs.Session.{streamAt, horizon, slotsAt, filledAt, someFilled, noSlot, latest, soundDisk, sound}
+use Rattle.session.specs.Stream.{queue-max}
+use Rattle.session.specs.Session.{streamAt, horizon, slotsAt, filledAt, someFilled, noSlot, latest, soundDisk}
 use Rattle.session.specs.Choice.{nearest, nearestAt, chosen, sentBefore, expiring, expiresBefore}
 use Rattle.session.specs.Calls.{Verdict, refuse, append, send, move, wait, expire, finish, set-clock, noSuchStream, busy, movePassesEnd, callRefusal, refusal, turnEffect, effect, ruled, verdict}
 use Rattle.session.specs.declared.Session.{Session}
 use Rattle.session.specs.declared.call.Call.{Call}
-use Rattle.session.proofs.Best.{best-low, best-passes, best-below}
+use Rattle.session.proofs.Best.{best-low, best-positive}
 use Rattle.session.proofs.Sound.{Sound, of-sound}
 
 -- of a refusal: it is not 31. Of an effect: its stream exists, the disk is as the call asks, and nothing passes its bound.
@@ -43,7 +43,7 @@ Grounds s (finish i a) =
     }
 Grounds s (set-clock t) = t ≤ session-end
 
--- a stream number that is none of 0 and those above the count
+-- a stream number that is neither 0 nor above the count names a stream
 named : (s : Session) (n : ℕ) → noSuchStream s n ≡ false → n - 1 < s .count
 unfolding noSuchStream
 named s n h =
@@ -52,6 +52,7 @@ named s n h =
     let high = ltb-false (s .count) n (a .1) in
     omega arith
 
+-- nothing is at the disk where 10 is not given, and something where 11 is not
 idle-of : (s : Session) → busy s ≡ false → s .served ≡ 0
 unfolding busy
 idle-of s h = eqb-true (s .served) 0 (not-false (eqb (s .served) 0) h)
@@ -73,27 +74,25 @@ unfolding nearest
 nearest-in head places zero h = absurd (not-suc-le-zero h)
 nearest-in head places (suc m) h = suc-le-suc-iff .1 (best-low _ _ m)
 
--- in a turn the stream chosen has a filled slot, the one that expires has a slot, and a move passes no bound
+-- the stream that a turn serves has a filled slot
 chosen-grounds : (s : Session) → s .served ≡ 0 → someFilled s ≡ true → Grounds s (send (chosen s) (nearestAt s (chosen s)))
 unfolding someFilled chosen
 chosen-grounds s idle some =
-    let n : 1 ≤ filledAt s (chosen s) = leb-true 1 _ (best-passes (λ i. leb 1 (filledAt s i)) (sentBefore s) (s .count) some) in
+    let best = best-positive (filledAt s) (sentBefore s) (s .count) some in
     record {
       idle = idle;
-      exists = best-below (λ i. leb 1 (filledAt s i)) (sentBefore s) (s .count) some;
-      inSet = nearest-in (s .head) (streamAt s (chosen s) .places) (filledAt s (chosen s)) n;
+      exists = best .0;
+      inSet = nearest-in (s .head) (streamAt s (chosen s) .places) (filledAt s (chosen s)) (best .1);
     }
 
+-- the stream that loses one has a slot
 expiring-grounds : (s : Session) → s .served ≡ 0 → noSlot s ≡ false → Grounds s (expire (expiring s))
 unfolding noSlot expiring
 expiring-grounds s idle h =
-    let some = some-positive (slotsAt s) (s .count) h in
-    record {
-      idle = idle;
-      exists = best-below (λ i. leb 1 (slotsAt s i)) (expiresBefore s) (s .count) some;
-      slot = leb-true 1 _ (best-passes (λ i. leb 1 (slotsAt s i)) (expiresBefore s) (s .count) some);
-    }
+    let best = best-positive (slotsAt s) (expiresBefore s) (s .count) (some-positive (slotsAt s) (s .count) h) in
+    record { idle = idle; exists = best .0; slot = best .1 }
 
+-- no deadline of a move passes the end
 move-grounds : (s : Session) → s .served ≡ 0 → movePassesEnd s ≡ false → Grounds s move
 unfolding movePassesEnd
 move-grounds s idle h =
@@ -104,6 +103,7 @@ move-grounds s idle h =
           ltb-false session-end _ (rw closes at (some-none _ (s .count) h i l));
     }
 
+-- what a turn comes to
 turn-grounds : (s : Session) → s .served ≡ 0 → (noSlot s && movePassesEnd s) ≡ false → Grounds s (turnEffect s)
 unfolding turnEffect
 turn-grounds s idle h =
@@ -113,7 +113,7 @@ turn-grounds s idle h =
     (λ left.
     by-if (Grounds s) (ltb (s .clock .0) (latest s)) _ _ (λ early. tt) (λ due. expiring-grounds s idle left)))
 
--- what a call comes to where nothing refuses it
+-- what each call comes to where nothing refuses it
 call-grounds : (s : Session) → Sound s → (k : Call) → callRefusal s k ≡ 0 → Grounds s (effect s k)
 unfolding callRefusal effect
 call-grounds s q (Call.Arrival n place) h =
@@ -160,9 +160,10 @@ call-refusal-high s (Call.Clock t) = search (or-next-high, given-high, lit≤)
 -- a verdict is a refusal, or an effect where nothing refuses
 pub ruled-by : (P : Verdict → Type 0) (n : ℕ) (v : Verdict) → P (refuse n) → (n ≡ 0 → P v) → P (ruled n v)
 unfolding ruled
-ruled-by P zero v no-call go-on = go-on refl
-ruled-by P (suc n) v no-call go-on = no-call
+ruled-by P zero v refused effective = effective refl
+ruled-by P (suc n) v refused effective = refused
 
+-- what each call comes to
 pub verdict-grounds : (s : Session) → Sound s → (k : Call) → Grounds s (verdict s k)
 unfolding verdict refusal given _or-next_
 verdict-grounds s q k =

@@ -1,11 +1,11 @@
 -- Each effect of a call keeps a session sound, so every call does.
-use mathlib.Core.Path.{_≡_, refl, sym, subst}
-use Prim.Native.Nat.{ℕ, _+_, _-_, min, _≤_}
+use mathlib.Core.Path.{refl, sym, subst}
+use Prim.Native.Nat.{ℕ, _+_, _≤_, _<_}
 use native.Mathlib.Omega.{arith}
 use lib.ListN.{getD}
 use Rattle.table.specs.Fold.{if}
 use Rattle.session.specs.Time.{moment}
-use Rattle.session.specs.Stream.{slots, filled, arrived, without, charged, lapsed}
+use Rattle.session.specs.Stream.{filled, arrived, without, charged, lapsed}
 use Rattle.session.specs.Session.{streamAt, horizon, slotsAt, soundDisk, withStream, withDisk}
 use Rattle.session.specs.Calls.{Verdict, refuse, append, send, move, wait, expire, finish, set-clock, verdict, apply, answerTo}
 use Rattle.session.specs.Laws.{CallsKeepSound}
@@ -17,12 +17,13 @@ use Rattle.session.proofs.Grounds.{Grounds, verdict-grounds}
 use Rattle.session.proofs.Changes.{slots-kept, queue-kept, charge-kept, clock-kept, disk-served}
 use Rattle.session.proofs.Moves.{move-kept}
 
+-- an arrival
 append-kept : (s : Session) → Sound s → (i place : ℕ) → Grounds s (append i place) → Sound (apply s (append i place))
 unfolding apply arrived
 append-kept s q i place g =
     queue-kept s q i (g .exists) _ _ (arrived-queue place (streamAt s i) (q .each i (g .exists) .queue) (g .space))
 
--- the stream of the request that is sent keeps its slots, and so has one while that is at the disk
+-- a request sent: its stream keeps its slots, and so has one while it is at the disk
 send-kept : (s : Session) → Sound s → (i j : ℕ) → Grounds s (send i j) → Sound (apply s (send i j))
 unfolding apply without filled
 send-kept s q i j g =
@@ -36,27 +37,32 @@ send-kept s q i j g =
     clock-kept (withStream s i y) left (s .clock) place (i + 1) place (q .clock-high)
     (disk-served (withStream s i y) (s .clock) place i place l slot)
 
+-- a stream with a slot has room for W
+room : (s : Session) → Sound s → (i : ℕ) → i < s .count → 1 ≤ slotsAt s i → streamAt s i .charge .0 + s .worst ≤ streamAt s i .granted .0
+room s q i l slot = slot-room (s .worst) (horizon s) (streamAt s i) (bounded s q i l) slot
+
+-- a slot that expires
 expire-kept : (s : Session) → Sound s → (i : ℕ) → Grounds s (expire i) → Sound (apply s (expire i))
 unfolding apply lapsed
 expire-kept s q i g =
-    let b = bounded s q i (g .exists) in
-    let room = slot-room (s .worst) (horizon s) (streamAt s i) b (g .slot) in
-    charge-kept s q i (g .exists) _ _ (omega arith) (omega (arith, b .expiries)) (g .idle)
+    let l = g .exists in
+    charge-kept s q i l _ _ (omega (arith, room s q i l (g .slot))) (omega (arith, q .each i l .expiries)) (g .idle)
 
--- with nothing at the disk the stream that was served may be charged what its slot does not cover
+-- a completion: nothing is at the disk any more, so the charge may pass what the slot covers
 finish-kept : (s : Session) → Sound s → (i a : ℕ) → Grounds s (finish i a) → Sound (apply s (finish i a))
 unfolding apply charged soundDisk if
 finish-kept s q i a g =
-    let b = bounded s q i (g .exists) in
-    let room = slot-room (s .worst) (horizon s) (streamAt s i) b (g .slot) in
+    let l = g .exists in
     let clock = moment (s .clock .0 + a) in
-    charge-kept (withDisk s clock (s .head) 0 0) (clock-kept s q clock (s .head) 0 0 (g .inTime) refl) i (g .exists) _ _
-    (omega (arith, g .short)) (omega (arith, b .expiries)) refl
+    charge-kept (withDisk s clock (s .head) 0 0) (clock-kept s q clock (s .head) 0 0 (g .inTime) refl) i l _ _
+    (omega (arith, g .short, room s q i l (g .slot))) (omega (arith, q .each i l .expiries)) refl
 
+-- a clock report
 set-clock-kept : (s : Session) → Sound s → (t : ℕ) → Grounds s (set-clock t) → Sound (apply s (set-clock t))
 unfolding apply soundDisk horizon
 set-clock-kept s q t inTime = clock-kept s q (moment t) (s .head) (s .served) (s .place) inTime (q .disk)
 
+-- whatever a call comes to
 pub effect-kept : (s : Session) → Sound s → (v : Verdict) → Grounds s v → Sound (apply s v)
 unfolding apply
 effect-kept s q (refuse n) g = q
@@ -68,6 +74,7 @@ effect-kept s q (expire i) g = expire-kept s q i g
 effect-kept s q (finish i a) g = finish-kept s q i a g
 effect-kept s q (set-clock t) g = set-clock-kept s q t g
 
+-- every call
 pub calls-keep-sound : CallsKeepSound
 unfolding answerTo
 calls-keep-sound s k t =

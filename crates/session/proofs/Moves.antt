@@ -2,24 +2,24 @@
 use mathlib.Core.Bool.{Bool, true, false, and-false, false≢true}
 use mathlib.Core.List.{map}
 use mathlib.Core.Path.{_≡_, refl, sym, _∙_, ap}
-use Prim.Native.Nat.{ℕ, _+_, _≤_, _<_}
+use Prim.Native.Nat.{ℕ, _+_, _≤_}
 use native.Mathlib.Omega.{arith}
 use lib.ListN.{getD, length-map, List·getD-map}
 use lib.Dec.{eqb}
 use borrow.Author.Tests.{eqb-true, ne-eqb}
 use Rattle.table.specs.Fold.{if}
-use Rattle.table.specs.Admission.{admissionOf}
+use Rattle.table.specs.Ranges.{period-min}
 use Rattle.table.proofs.Tests.{by-if}
 use Rattle.table.proofs.Folds.{smallest-is}
 use Rattle.table.proofs.Lists.{map-alike}
 use Rattle.session.specs.Time.{session-end}
-use Rattle.session.specs.Stream.{closed, moved, unusedStream}
+use Rattle.session.specs.Stream.{closed, moved, soundQueue, unusedStream}
 use Rattle.session.specs.Session.{noStream, streamAt, horizon, withStreams}
 use Rattle.session.specs.Calls.{move}
 use Rattle.session.specs.declared.time.Clock.{Clock}
 use Rattle.session.specs.declared.stream.Stream.{Stream}
 use Rattle.session.specs.declared.Session.{Session}
-use Rattle.session.proofs.Sound.{InOrder, Sound, admits, bounded}
+use Rattle.session.proofs.Sound.{queue-of, of-queue, InOrder, Sound, admits, bounded}
 use Rattle.session.proofs.Grounds.{Grounds}
 use Rattle.session.proofs.Changes.{table-kept, idle-kept}
 
@@ -43,7 +43,7 @@ module _ (now : Clock) (h : ℕ) where
   -- a stream in order is in order at a later horizon, if its deadline does not pass the end
   moved-order : (worst k later : ℕ) (x : Stream) → h ≤ later → InOrder worst k h x
       → (x .deadline .0 ≡ h → x .deadline .0 + x .period ≤ session-end) → InOrder worst k later (moved now h x)
-  unfolding moved closed
+  unfolding moved closed soundQueue
   moved-order worst k later x le q inTime =
       by-if (InOrder worst k later) _ (closed now x) x
       (λ c.
@@ -55,7 +55,7 @@ module _ (now : Clock) (h : ℕ) where
         deadline-high = inTime due;
         charge-high = omega arith;
         expiries = omega arith;
-        queue = record { queued-high = q .queue .queued-high; cells = q .queue .cells; unused = q .queue .unused };
+        queue = queue-of (closed now x) (of-queue x (q .queue));
       })
       (λ c.
       record {
@@ -78,40 +78,44 @@ unused-deadline x t = go (eqb (x .deadline .0) 0) refl
     go false e = absurd (false≢true (simp (e, and-false) at t))
 
 module _ (s : Session) (q : Sound s) where
-  -- the horizon is past the opening
-  horizon-low : 1000 ≤ horizon s
+  -- the horizon is a period at least
+  horizon-low : period-min ≤ horizon s
   unfolding horizon
   horizon-low =
-      smallest-is (λ d. 1000 ≤ d) (λ i. streamAt s i .deadline .0) (s .count) (admits s q .numbers .count-low)
+      smallest-is (λ d. period-min ≤ d) (λ i. streamAt s i .deadline .0) (s .count) (admits s q .numbers .count-low)
       (λ i l. let b = bounded s q i l in omega (arith, b .due, b .period-low))
 
-  abbrev f : Stream → Stream
-  f = moved (s .clock) (horizon s)
+  abbrev moving : Stream → Stream
+  moving = moved (s .clock) (horizon s)
 
   abbrev next : Session
-  next = withStreams s (map f (s .streams))
+  next = withStreams s (map moving (s .streams))
 
-  stays : (x : Stream) → x .deadline .0 ≡ 0 → f x ≡ x
+  -- what has no deadline stays as it is
+  stays : (x : Stream) → x .deadline .0 ≡ 0 → moving x ≡ x
   stays x zero-deadline = moved-other (s .clock) (horizon s) x (λ e. let low = horizon-low in omega arith)
 
   -- each stream moves
-  moved-at : (i : ℕ) → streamAt next i ≡ f (streamAt s i)
-  moved-at i = ap (getD (map f (s .streams)) i) (sym (stays noStream refl)) ∙ List·getD-map f (s .streams) i noStream
+  moved-at : (i : ℕ) → streamAt next i ≡ moving (streamAt s i)
+  moved-at i = ap (getD (map moving (s .streams)) i) (sym (stays noStream refl)) ∙ List·getD-map moving (s .streams) i noStream
 
+  -- the horizon does not fall
   horizon-later : horizon s ≤ horizon next
   unfolding horizon
   horizon-later =
       smallest-is (λ h. horizon s ≤ h) (λ i. streamAt next i .deadline .0) (s .count) (admits s q .numbers .count-low)
       (λ i l. rw (moved-at i) (omega (arith, bounded s q i l .ahead, moved-later (s .clock) (horizon s) (streamAt s i))))
 
+  -- a move keeps the session sound
   pub move-kept : Grounds s move → Sound next
   unfolding closed
   move-kept g =
       let xs = s .streams in
-      let keeps = moved-keeps (s .clock) (horizon s) in
+      let kept : (g : Stream → ℕ) → ((x : Stream) → g (closed (s .clock) x) ≡ g x) → map g (map moving xs) ≡ map g xs =
+      λ g e. map-alike g moving (moved-keeps (s .clock) (horizon s) g e) xs in
       record {
-        admitted = ap admissionOf (table-kept s (map f xs) (map-alike _ f (keeps (λ x. x .reserved) (λ x. refl)) xs) (map-alike _ f (keeps (λ x. x .period) (λ x. refl)) xs)) ∙ q .admitted;
-        eight = length-map xs f ∙ q .eight;
+        admitted = table-kept s q (map moving xs) (kept (λ x. x .reserved) (λ x. refl)) (kept (λ x. x .period) (λ x. refl));
+        eight = length-map xs moving ∙ q .eight;
         each = λ i l.
             rw (moved-at i)
             (moved-order (s .clock) (horizon s) (s .worst) (s .padding) (horizon next) (streamAt s i) horizon-later (q .each i l) (g .inTime i l));
@@ -119,5 +123,5 @@ module _ (s : Session) (q : Sound s) where
             let unused = q .others i past l in
             rw (moved-at i, stays (streamAt s i) (unused-deadline (streamAt s i) unused)) unused;
         clock-high = q .clock-high;
-        disk = idle-kept s (map f xs) q (g .idle);
+        disk = idle-kept s (map moving xs) q (g .idle);
       }

@@ -1,23 +1,23 @@
 -- Opening makes a sound session, and so 31 is never answered after it.
 use mathlib.Core.Bool.{true}
 use mathlib.Core.List.{List, [], _∷_, map}
-use mathlib.Core.Path.{_≡_, refl, sym, _∙_, ap}
-use Prim.Native.Nat.{ℕ, _+_, _*_, _≤_, _<_}
+use mathlib.Core.Path.{_≡_, refl, _∙_, ap}
+use Prim.Native.Nat.{ℕ, _≤_, _<_}
 use native.Mathlib.Omega.{arith}
-use lib.ListN.{getD, replicate, length-replicate, getD-replicate, List·getD-map}
+use lib.ListN.{getD, getD-replicate, List·getD-map}
 use lib.Dec.{lit<}
 use borrow.Author.Tests.{lt-ltb, le-ltb, eq-eqb}
-use Rattle.table.specs.Fold.{if, allTo, listTo}
+use Rattle.table.specs.Fold.{if, allTo}
 use Rattle.table.specs.Ranges.{streams-max}
 use Rattle.table.specs.Admission.{reservedAt, periodAt, grantedOf, admissionOf}
 use Rattle.table.specs.declared.Table.{Table}
 use Rattle.table.proofs.Tests.{by-if}
 use Rattle.table.proofs.Lists.{length-listTo, getD-listTo}
-use Rattle.table.proofs.Judged.{Numbers, Admits, admits-of, admits-alike}
+use Rattle.table.proofs.Judged.{Admits, admits-of, admits-alike}
 use Rattle.session.specs.Stream.{queue-max, soundQueue, unusedStream}
 use Rattle.session.specs.Session.{noStream, streamAt, horizon, tableOf, soundDisk, sound}
-use Rattle.session.specs.Calls.{Verdict, refuse, append, send, move, wait, expire, finish, set-clock, verdict, apply, overlong, late, replyTo, numberOf, answerTo, after}
-use Rattle.session.specs.Opening.{freshStream, openedStream, freshSession, zeroSession, openingOf}
+use Rattle.session.specs.Calls.{Verdict, refuse, append, send, move, wait, expire, finish, set-clock, verdict, replyTo, numberOf, answerTo, after}
+use Rattle.session.specs.Opening.{freshStream, openedStream, freshSession, openingOf}
 use Rattle.session.specs.Laws.{OpeningIsSound, NeverUnsound}
 use Rattle.session.specs.declared.stream.Stream.{Stream}
 use Rattle.session.specs.declared.Session.{Session}
@@ -29,8 +29,8 @@ use Rattle.session.proofs.Grounds.{Grounds, verdict-grounds}
 use Rattle.session.proofs.Keeps.{calls-keep-sound}
 
 module _ (t : Table) (admitted : admissionOf t ≡ 0) where
-  abbrev a : Admits t
-  a = admits-of t admitted
+  abbrev judged : Admits t
+  judged = admits-of t admitted
 
   -- the stream at i, for each of the eight
   opened-at : (i : ℕ) → i < streams-max → streamAt (freshSession t) i ≡ openedStream t i
@@ -41,8 +41,9 @@ module _ (t : Table) (admitted : admissionOf t ≡ 0) where
   fresh-at : (i : ℕ) → i < t .count
       → streamAt (freshSession t) i ≡ freshStream (reservedAt t i) (periodAt t i) (grantedOf (t .worst) (t .padding) (reservedAt t i))
   unfolding openedStream if
-  fresh-at i l = opened-at i (omega (arith, a .numbers .count-high)) ∙ rw (lt-ltb i (t .count) l)
+  fresh-at i l = opened-at i (omega (arith, judged .numbers .count-high)) ∙ rw (lt-ltb i (t .count) l)
 
+  -- and are in order
   fresh-order : (h i : ℕ) → i < t .count → InOrder (t .worst) (t .padding) h (streamAt (freshSession t) i)
   unfolding freshStream
   fresh-order h i l =
@@ -51,7 +52,7 @@ module _ (t : Table) (admitted : admissionOf t ≡ 0) where
         budget = refl;
         due = omega arith;
         released = omega arith;
-        deadline-high = omega (arith, a .each i l .period-high);
+        deadline-high = omega (arith, judged .each i l .period-high);
         charge-high = omega arith;
         expiries = omega arith;
         queue = record {
@@ -66,13 +67,19 @@ module _ (t : Table) (admitted : admissionOf t ≡ 0) where
   unfolding freshSession freshStream
   fresh-admitted =
       admits-alike t (tableOf (freshSession t) .reserved) (tableOf (freshSession t) .period) admitted
-      (λ i l. List·getD-map (λ (x : Stream). x .reserved) (freshSession t .streams) i noStream ∙ ap (λ x. x .reserved) (fresh-at i l))
-      (λ i l. List·getD-map (λ (x : Stream). x .period) (freshSession t .streams) i noStream ∙ ap (λ x. x .period) (fresh-at i l))
+      (cell (λ x. x .reserved))
+      (cell (λ x. x .period))
+    where
+      cell : (f : Stream → ℕ) (i : ℕ) → i < t .count → getD (map f (freshSession t .streams)) i (f noStream)
+          ≡ f (freshStream (reservedAt t i) (periodAt t i) (grantedOf (t .worst) (t .padding) (reservedAt t i)))
+      cell f i l = List·getD-map f (freshSession t .streams) i noStream ∙ ap f (fresh-at i l)
 
+  -- the others are 0
   fresh-others : (i : ℕ) → t .count ≤ i → i < streams-max → unusedStream (streamAt (freshSession t) i) ≡ true
   unfolding openedStream freshStream unusedStream soundQueue allTo if
   fresh-others i past l = rw (opened-at i l, le-ltb i (t .count) past)
 
+  -- the session of an admitted table is sound
   fresh-sound : Sound (freshSession t)
   unfolding freshSession soundDisk if
   fresh-sound =
@@ -85,13 +92,15 @@ module _ (t : Table) (admitted : admissionOf t ≡ 0) where
         disk = refl;
       }
 
+-- opening gives that session where the table is admitted
 opened-sound : (t : Table) → admissionOf t ≡ 0 → sound (openingOf t .session) ≡ true
 unfolding openingOf if
 opened-sound t admitted = rw (eq-eqb (admissionOf t) 0 admitted) (of-sound (freshSession t) (fresh-sound t admitted))
 
+-- the all-zero session is judged by computing
 pub opening-is-sound : OpeningIsSound
 unfolding rules
-opening-is-sound = ((λ t admitted. opened-sound t admitted), refl)
+opening-is-sound = (opened-sound, refl)
 
 -- after any calls the session is sound
 pub sound-after : (s : Session) (ks : List Call) → sound s ≡ true → sound (after s ks) ≡ true
@@ -99,7 +108,7 @@ unfolding after
 sound-after s [] t = t
 sound-after s (k ∷ ks) t = sound-after (answerTo s k .session) ks (calls-keep-sound s k t)
 
--- a reply that is no refusal has a number from 20 to 28
+-- a reply has the number of its refusal, or one from 20 to 28
 number-low : (s : Session) (v : Verdict) → Grounds s v → numberOf (replyTo s v) < 31
 unfolding replyTo numberOf
 number-low s (refuse n) g = g
@@ -111,6 +120,7 @@ number-low s (expire i) g = lit< tt
 number-low s (finish i a) g = by-if (λ (r : Reply). numberOf r < 31) _ _ _ (λ b. lit< tt) (λ b. lit< tt)
 number-low s (set-clock t) g = by-if (λ (r : Reply). numberOf r < 31) _ _ _ (λ b. lit< tt) (λ b. lit< tt)
 
+-- so 31 is never answered
 pub never-unsound : NeverUnsound
 unfolding answerTo
 never-unsound t before k admitted is-31 =

@@ -1,7 +1,7 @@
 -- A queue stays in order as a request arrives or leaves.
 use mathlib.Core.Path.{_≡_, _∙_}
 use mathlib.Core.Logic.{⊎-elim}
-use Prim.Native.Nat.{ℕ, suc, _+_, _≤_, _<_}
+use Prim.Native.Nat.{ℕ, suc, _≤_, _<_}
 use native.Mathlib.Omega.{arith}
 use lib.ListN.{length, getD, length-set, List·getD-eq-default}
 use lib.Seq.{getD-set-other}
@@ -11,6 +11,7 @@ use Rattle.session.specs.Stream.{queue-max, arrived, without}
 use Rattle.session.specs.declared.stream.Stream.{Stream}
 use Rattle.session.proofs.Sound.{Queue}
 
+-- a request that arrives takes the cell at the end
 pub arrived-queue : (place : ℕ) (x : Stream) → Queue x → x .queued < queue-max → Queue (arrived place x)
 unfolding arrived
 arrived-queue place x q space =
@@ -28,6 +29,7 @@ past-requests x q j past =
     (λ (l : j < queue-max). q .unused j past l)
     (le-or-lt queue-max j)
 
+-- a request that leaves sets the last cell free
 pub without-queue : (j : ℕ) (x : Stream) → Queue x → j < x .queued → Queue (without j x)
 unfolding without
 without-queue j x q l =

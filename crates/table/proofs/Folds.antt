@@ -22,25 +22,32 @@ smallest-le f zero i l = absurd (not-suc-le-zero l)
 smallest-le f (suc n) i l =
     at-or-below (λ j. min (smallestTo f n) (f n) ≤ f j) i l (omega arith) (λ u. omega (arith, smallest-le f n i u))
 
+-- where a fold comes to a value only if each part does, so does each function value below its count
+each-at : {A : Type 0} (fold : (ℕ → A) → ℕ → A) (value : A)
+    → ((f : ℕ → A) (n : ℕ) → fold f (suc n) ≡ value → (fold f n ≡ value) × (f n ≡ value))
+    → (f : ℕ → A) (n : ℕ) → fold f n ≡ value → (i : ℕ) → i < n → f i ≡ value
+each-at fold value parts f zero h i l = absurd (not-suc-le-zero l)
+each-at fold value parts f (suc n) h i l =
+    let k = parts f n h in
+    at-or-below (λ j. f j ≡ value) i l (k .1) (λ u. each-at fold value parts f n (k .0) i u)
+
 pub all-at : (f : ℕ → Bool) (n : ℕ) → allTo f n ≡ true → (i : ℕ) → i < n → f i ≡ true
 unfolding allTo
-all-at f zero h i l = absurd (not-suc-le-zero l)
-all-at f (suc n) h i l =
-    let k = both (allTo f n) (f n) h in
-    at-or-below (λ j. f j ≡ true) i l (k .1) (λ u. all-at f n (k .0) i u)
+all-at = each-at allTo true (λ f n. both (allTo f n) (f n))
+
+-- where not one passes, each fails
+pub some-none : (f : ℕ → Bool) (n : ℕ) → someTo f n ≡ false → (i : ℕ) → i < n → f i ≡ false
+unfolding someTo
+some-none = each-at someTo false (λ f n. neither (someTo f n) (f n))
+
+pub first-none : (f : ℕ → ℕ) (n : ℕ) → firstTo f n ≡ 0 → (i : ℕ) → i < n → f i ≡ 0
+unfolding firstTo
+first-none = each-at firstTo 0 (λ f n. or-next-none (firstTo f n) (f n))
 
 pub all-of : (f : ℕ → Bool) (n : ℕ) → ((i : ℕ) → i < n → f i ≡ true) → allTo f n ≡ true
 unfolding allTo
 all-of f zero h = refl
 all-of f (suc n) h = rw (all-of f n (λ i l. h i (omega arith)), h n (omega arith))
-
--- where not one passes, each fails
-pub some-none : (f : ℕ → Bool) (n : ℕ) → someTo f n ≡ false → (i : ℕ) → i < n → f i ≡ false
-unfolding someTo
-some-none f zero h i l = absurd (not-suc-le-zero l)
-some-none f (suc n) h i l =
-    let k = neither (someTo f n) (f n) h in
-    at-or-below (λ j. f j ≡ false) i l (k .1) (λ u. some-none f n (k .0) i u)
 
 -- where not all pass one test, some one passes the test that those pass which fail it
 pub some-of : (f g : ℕ → Bool) → ((i : ℕ) → f i ≡ false → g i ≡ true) → (n : ℕ) → allTo f n ≡ false → someTo g n ≡ true
@@ -69,13 +76,6 @@ smallest-is P f n pos h = go n (h 0 pos) h
     go : (n : ℕ) → P (f 0) → ((i : ℕ) → i < n → P (f i)) → P (smallestTo f n)
     go zero first h = first
     go (suc n) first h = pick (smallestTo f n) (f n) (go n first (λ i l. h i (omega arith))) (h n (omega arith))
-
-pub first-none : (f : ℕ → ℕ) (n : ℕ) → firstTo f n ≡ 0 → (i : ℕ) → i < n → f i ≡ 0
-unfolding firstTo
-first-none f zero h i l = absurd (not-suc-le-zero l)
-first-none f (suc n) h i l =
-    let k = or-next-none (firstTo f n) (f n) h in
-    at-or-below (λ j. f j ≡ 0) i l (k .1) (λ u. first-none f n (k .0) i u)
 
 -- where nothing is refused before i, and i is refused, that is the first refusal
 pub first-at : (f : ℕ → ℕ) (n i : ℕ) → i < n → firstTo f i ≡ 0 → (f i ≡ 0 → ⊥) → firstTo f n ≡ f i

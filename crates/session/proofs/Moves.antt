@@ -111,8 +111,8 @@ module _ (s : Session) (q : Sound s) where
   unfolding closed
   move-kept g =
       let xs = s .streams in
-      let kept : (g : Stream → ℕ) → ((x : Stream) → g (closed (s .clock) x) ≡ g x) → map g (map moving xs) ≡ map g xs =
-      λ g e. map-alike g moving (moved-keeps (s .clock) (horizon s) g e) xs in
+      let kept : (cell : Stream → ℕ) → ((x : Stream) → cell (closed (s .clock) x) ≡ cell x) → map cell (map moving xs) ≡ map cell xs =
+      λ cell e. map-alike cell moving (moved-keeps (s .clock) (horizon s) cell e) xs in
       record {
         admitted = table-kept s q (map moving xs) (kept (λ x. x .reserved) (λ x. refl)) (kept (λ x. x .period) (λ x. refl));
         eight = length-map xs moving ∙ q .eight;

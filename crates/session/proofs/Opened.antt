@@ -14,7 +14,7 @@ use Rattle.table.specs.declared.Table.{Table}
 use Rattle.table.proofs.Tests.{by-if}
 use Rattle.table.proofs.Lists.{length-listTo, getD-listTo}
 use Rattle.table.proofs.Judged.{Admits, admits-of, admits-alike}
-use Rattle.session.specs.Stream.{queue-max, soundQueue, unusedStream}
+use Rattle.session.specs.Stream.{queue-max, soundQueue, unusedStream, zeroJob}
 use Rattle.session.specs.Session.{noStream, streamAt, horizon, tableOf, soundDisk, sound}
 use Rattle.session.specs.Calls.{Verdict, refuse, append, send, move, wait, expire, finish, set-clock, verdict, replyTo, numberOf, answerTo, after}
 use Rattle.session.specs.Opening.{freshStream, openedStream, freshSession, openingOf}
@@ -76,7 +76,7 @@ module _ (t : Table) (admitted : admissionOf t ≡ 0) where
 
   -- the others are 0
   fresh-others : (i : ℕ) → t .count ≤ i → i < streams-max → unusedStream (streamAt (freshSession t) i) ≡ true
-  unfolding openedStream freshStream unusedStream soundQueue allTo if
+  unfolding openedStream freshStream unusedStream zeroJob soundQueue allTo if
   fresh-others i past l = rw (opened-at i l, le-ltb i (t .count) past)
 
   -- the session of an admitted table is sound

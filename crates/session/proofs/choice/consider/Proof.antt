@@ -1,42 +1,43 @@
+-- `consider` gives one step of the search: each way out rewrites the tests that led there.
+use mathlib.Core.Bool.{not}
+use borrow.Author.Tests.{eq-eqb, ne-eqb}
+use Rattle.table.specs.Fold.{if}
+use Rattle.session.specs.Stream.{filled}
+use Rattle.session.specs.Choice.{considered}
 use native.Mathlib.Omega.{arith}
 use mathlib.Core.Path.{_≡_, refl, sym, ap, _∙_}
 use borrow.Author.Needs.{needs}
 use Rattle.session.proofs.choice.consider.Statement.{statement}
 use Rattle.session.proofs.choice.consider.Tie as tie
-use Rattle.session.proofs.choice.consider.Reads as reads
-use Rattle.session.proofs.choice.consider.Lts as lts
-use Rattle.session.proofs.choice.nearest.Reads as nearest-reads
-use Rattle.session.proofs.stream.Stream.filled.Reads as filled-reads
-use Rattle.session.proofs.time.Clock.is.Reads as is-reads
-use Rattle.session.proofs.time.Clock.is_after.Reads as is-after-reads
 
--- src/choice.rt:56:9
 filled-requires : tie.Need-filled-requires
 filled-requires c κs = search needs
 
--- src/choice.rt:58:9
 returns : tie.Need-returns
-returns c = ?
+unfolding considered if
+returns c = rw (eq-eqb _ _ (sym (c .before .filled .ensures) ∙ c .if1 .taken))
 
--- src/choice.rt:61:9
 nearest-requires : tie.Need-nearest-requires
-nearest-requires c κs = ?
+unfolding filled
+nearest-requires c κs = rw (c .before .before .filled .ensures) (omega (arith, c .before .before .before .pre))
 
--- src/choice.rt:63:9
 is-after-requires : tie.Need-is-after-requires
 is-after-requires c κs = search needs
 
--- src/choice.rt:64:9
 is-requires : tie.Need-is-requires
 is-requires c κs = search needs
 
--- src/choice.rt:66:9
 returns-2 : tie.Need-returns-2
-returns-2 c = ?
+unfolding considered if
+returns-2 c =
+    let test = rw (c .before .before .before .before .before .is-after .ensures, c .before .before .before .before .is .ensures, c .before .before .before .before .before .before .before .nearest .ensures, c .before .before .before .before .before .before .before .before .before .before .filled .ensures) at (c .if2 .taken) in
+    rw (ne-eqb _ _ (λ e. c .before .before .before .before .before .before .before .before .before .if1 .left (c .before .before .before .before .before .before .before .before .before .before .filled .ensures ∙ e)), test)
 
--- src/choice.rt:52:1
 returns-3 : tie.Need-returns-3
-returns-3 c = ?
+unfolding considered if
+returns-3 c =
+    let test = rw (c .before .before .before .before .before .is-after .ensures, c .before .before .before .before .is .ensures, c .before .before .before .before .before .before .before .nearest .ensures, c .before .before .before .before .before .before .before .before .before .before .filled .ensures) at (c .if2 .left) in
+    rw (c .before .before .before .before .before .before .before .nearest .ensures, c .before .before .before .before .before .before .before .before .before .before .filled .ensures, ne-eqb _ _ (λ e. c .before .before .before .before .before .before .before .before .before .if1 .left (c .before .before .before .before .before .before .before .before .before .before .filled .ensures ∙ e)), test)
 
 pub consider-spec : {M : Type 1} → statement M
 consider-spec =

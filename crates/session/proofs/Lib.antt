@@ -4,3 +4,4 @@ pub mod Slots
 pub mod Rounding
 pub mod Fits
 pub mod Sound
+pub mod Best

@@ -1,13 +1,15 @@
 -- Laws of the folds, over any count.
-use mathlib.Core.Bool.{Bool, true, false}
-use mathlib.Core.Path.{_≡_, refl}
+use mathlib.Core.Bool.{Bool, true, false, _||_, or-true, false≢true}
+use mathlib.Core.Path.{_≡_, refl, sym}
 use mathlib.Core.Logic.{⊎-elim}
 use Prim.Native.Nat.{ℕ, zero, suc, min, _≤_, _<_}
 use native.Mathlib.Nat.{not-suc-le-zero}
 use native.Mathlib.Omega.{arith}
-use Rattle.table.specs.Fold.{if, smallestTo, allTo, countTo}
+use lib.Dec.{leb, eqb}
+use borrow.Author.Tests.{eqb-false, le-leb}
+use Rattle.table.specs.Fold.{if, smallestTo, allTo, someTo, countTo}
 use Rattle.table.specs.Refusal.{_or-next_, firstTo}
-use Rattle.table.proofs.Tests.{le-or-lt, both, or-next-none, or-next-first}
+use Rattle.table.proofs.Tests.{le-or-lt, both, neither, or-next-none, or-next-first}
 
 -- a fold's last step, or one before it
 at-or-below : (P : ℕ → Type 0) {n : ℕ} (i : ℕ) → i < suc n → P n → (i < n → P i) → P i
@@ -31,6 +33,29 @@ pub all-of : (f : ℕ → Bool) (n : ℕ) → ((i : ℕ) → i < n → f i ≡ t
 unfolding allTo
 all-of f zero h = refl
 all-of f (suc n) h = rw (all-of f n (λ i l. h i (omega arith)), h n (omega arith))
+
+-- where not one passes, each fails
+pub some-none : (f : ℕ → Bool) (n : ℕ) → someTo f n ≡ false → (i : ℕ) → i < n → f i ≡ false
+unfolding someTo
+some-none f zero h i l = absurd (not-suc-le-zero l)
+some-none f (suc n) h i l =
+    let k = neither (someTo f n) (f n) h in
+    at-or-below (λ j. f j ≡ false) i l (k .1) (λ u. some-none f n (k .0) i u)
+
+-- where not all pass one test, some one passes the test that those pass which fail it
+pub some-of : (f g : ℕ → Bool) → ((i : ℕ) → f i ≡ false → g i ≡ true) → (n : ℕ) → allTo f n ≡ false → someTo g n ≡ true
+unfolding allTo someTo
+some-of f g k zero h = absurd (false≢true (sym h))
+some-of f g k (suc n) h = go (allTo f n) refl (some-of f g k n)
+  where
+    go : (b : Bool) → allTo f n ≡ b → (allTo f n ≡ false → someTo g n ≡ true) → (someTo g n || g n) ≡ true
+    go true e before = rw (k n (rw e at h)) (or-true (someTo g n))
+    go false e before = rw (before e)
+
+-- where not all are 0, some one is 1 or more
+pub some-positive : (f : ℕ → ℕ) (n : ℕ) → allTo (λ i. eqb (f i) 0) n ≡ false → someTo (λ i. leb 1 (f i)) n ≡ true
+some-positive f =
+    some-of (λ i. eqb (f i) 0) (λ i. leb 1 (f i)) (λ i h. le-leb 1 (f i) (let ne = eqb-false (f i) 0 h in omega arith))
 
 -- what each number passes, the smallest of them passes
 pub smallest-is : (P : ℕ → Type 0) (f : ℕ → ℕ) (n : ℕ) → 1 ≤ n → ((i : ℕ) → i < n → P (f i)) → P (smallestTo f n)

@@ -7,6 +7,7 @@ use native.Mathlib.Decide.{decLe}
 use native.Mathlib.Omega.{arith}
 use lib.Dec.{ltb}
 use borrow.Author.Tests.{ltb-false}
+use Rattle.table.specs.Fold.{if}
 use Rattle.table.specs.Refusal.{given, _or-next_, outside}
 use Rattle.table.specs.Admission.{answered}
 use Rattle.table.specs.declared.Admission.the-variants.{Admitted, Refused}
@@ -25,6 +26,12 @@ both false b h = absurd (false≢true h)
 pub neither : (a b : Bool) → (a || b) ≡ false → (a ≡ false) × (b ≡ false)
 neither true b h = absurd (false≢true (sym h))
 neither false b h = (refl, h)
+
+-- what holds of either side of a choice, where its test says so, holds of the choice
+pub by-if : {A : Type 0} (P : A → Type 0) (b : Bool) (x y : A) → (b ≡ true → P x) → (b ≡ false → P y) → P (if b x y)
+unfolding if
+by-if P true x y p q = p refl
+by-if P false x y p q = q refl
 
 -- a number that is not outside its range is within it
 pub within : (low high n : ℕ) → outside low high n ≡ false → (low ≤ n) × (n ≤ high)

@@ -5,3 +5,5 @@ pub mod Rounding
 pub mod Fits
 pub mod Sound
 pub mod Best
+pub mod Remainders
+pub mod Fractions

@@ -1,12 +1,13 @@
 -- Which request the house sends, and which slot expires.
 use mathlib.Core.Bool.{Bool, true, not, _&&_, _||_}
 use mathlib.Core.List.{List}
-use Prim.Native.Nat.{ℕ, zero, suc, _-_}
+use Prim.Native.Nat.{ℕ, zero, suc, _+_, _-_, _*_}
 use lib.ListN.{getD}
 use lib.Dec.{leb, ltb, eqb}
 use Rattle.table.specs.Fold.{if}
-use Rattle.session.specs.Stream.{less, same, microDeadline}
+use Rattle.session.specs.Stream.{Fraction, less, same}
 use Rattle.session.specs.Session.{streamAt, slotsAt, filledAt}
+use Rattle.session.specs.declared.stream.Stream.{Stream}
 use Rattle.session.specs.declared.Session.{Session}
 
 -- of the indices below n that pass, the first that no other beats: of equals the lower one; 0 where none passes
@@ -42,13 +43,17 @@ sentBefore s a b =
 unfoldable pub chosen : Session → ℕ
 chosen s = firstBest (λ i. leb 1 (filledAt s i)) (sentBefore s) (s .count)
 
--- "the stream whose r + c × p / g is least among those with a slot; ties go to the earlier deadline": the fraction is the micro-deadline of slot 0
-unfoldable pub expiresBefore : Session → ℕ → ℕ → Bool
-expiresBefore s a b =
-    let from = microDeadline (s .worst) (streamAt s a) 0 in
-    let other = microDeadline (s .worst) (streamAt s b) 0 in
-    less from other || (same from other && ltb (streamAt s a .deadline .0) (streamAt s b .deadline .0))
+-- "r + c × p / g", where the micro-deadlines of a stream start; a fraction, never rounded
+abbrev pub expiryOf : Stream → Fraction
+expiryOf x =
+    record { above = x .release .0 * x .granted .0 + x .charge .0 * x .period; below = x .granted .0 }
+
+-- "the stream whose r + c × p / g is least among those with a slot; ties go to the earlier deadline"
+unfoldable pub expiresBefore : Stream → Stream → Bool
+expiresBefore a b =
+    less (expiryOf a) (expiryOf b)
+    || (same (expiryOf a) (expiryOf b) && ltb (a .deadline .0) (b .deadline .0))
 
 -- the stream that loses a slot: "then the lower number"
 unfoldable pub expiring : Session → ℕ
-expiring s = firstBest (λ i. leb 1 (slotsAt s i)) (expiresBefore s) (s .count)
+expiring s = firstBest (λ i. leb 1 (slotsAt s i)) (λ a b. expiresBefore (streamAt s a) (streamAt s b)) (s .count)

@@ -1,5 +1,6 @@
 // A session: one disk, up to eight streams, and the calls that share it among them.
 mod call;
+mod expiry;
 mod stream;
 mod time;
 

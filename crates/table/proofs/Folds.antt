@@ -2,12 +2,12 @@
 use mathlib.Core.Bool.{Bool, true, false, _||_, or-true, false≢true}
 use mathlib.Core.Path.{_≡_, refl, sym}
 use mathlib.Core.Logic.{⊎-elim}
-use Prim.Native.Nat.{ℕ, zero, suc, min, _≤_, _<_}
-use native.Mathlib.Nat.{not-suc-le-zero}
+use Prim.Native.Nat.{ℕ, zero, suc, _*_, min, _≤_, _<_}
+use native.Mathlib.Nat.{not-suc-le-zero, mul-add}
 use native.Mathlib.Omega.{arith}
 use lib.Dec.{leb, eqb}
 use borrow.Author.Tests.{eqb-false, le-leb}
-use Rattle.table.specs.Fold.{if, smallestTo, allTo, someTo, countTo}
+use Rattle.table.specs.Fold.{if, sumTo, smallestTo, allTo, someTo, countTo}
 use Rattle.table.specs.Refusal.{_or-next_, firstTo}
 use Rattle.table.proofs.Tests.{le-or-lt, both, neither, or-next-none, or-next-first}
 
@@ -96,3 +96,21 @@ count-below f k yeses noes (suc m) =
     (λ (u : k ≤ m). rw (noes m u, count-below f k yeses noes m) (omega arith))
     (λ (u : m < k). rw (yeses m u, count-below f k yeses noes m) (omega arith))
     (le-or-lt k m)
+
+-- a sum that is at most another, term by term
+pub sum-le : (f g : ℕ → ℕ) (n : ℕ) → ((i : ℕ) → i < n → f i ≤ g i) → sumTo f n ≤ sumTo g n
+unfolding sumTo
+sum-le f g zero h = omega arith
+sum-le f g (suc n) h = omega (arith, sum-le f g n (λ i l. h i (omega arith)), h n (omega arith))
+
+-- a factor of every term is one of the sum
+pub sum-scaled : (k : ℕ) (f : ℕ → ℕ) (n : ℕ) → sumTo (λ i. k * f i) n ≡ k * sumTo f n
+unfolding sumTo
+sum-scaled k f zero = omega arith
+sum-scaled k f (suc n) = rw (sum-scaled k f n) (sym (mul-add k (sumTo f n) (f n)))
+
+-- a sum whose terms are at most b
+pub sum-high : (b : ℕ) (f : ℕ → ℕ) (n : ℕ) → ((i : ℕ) → i < n → f i ≤ b) → sumTo f n ≤ n * b
+unfolding sumTo
+sum-high b f zero h = omega arith
+sum-high b f (suc n) h = omega (arith, sum-high b f n (λ i l. h i (omega arith)), h n (omega arith))

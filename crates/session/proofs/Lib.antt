@@ -7,3 +7,4 @@ pub mod Sound
 pub mod Best
 pub mod Remainders
 pub mod Fractions
+pub mod Lapses

@@ -6,9 +6,10 @@ use lib.ListN.{getD}
 use lib.Dec.{leb, ltb, eqb}
 use Rattle.table.specs.Fold.{if}
 use Rattle.session.specs.Stream.{Fraction, less, same}
-use Rattle.session.specs.Session.{streamAt, slotsAt, filledAt}
+use Rattle.session.specs.Session.{streamAt, slotsAt, filledAt, noSlot}
 use Rattle.session.specs.declared.stream.Stream.{Stream}
 use Rattle.session.specs.declared.Session.{Session}
+use Rattle.session.specs.declared.expiry.Lapse.{Lapse}
 
 -- of the indices below n that pass, the first that no other beats: of equals the lower one; 0 where none passes
 unfoldable pub firstBest : (ℕ → Bool) → (ℕ → ℕ → Bool) → ℕ → ℕ
@@ -43,17 +44,23 @@ sentBefore s a b =
 unfoldable pub chosen : Session → ℕ
 chosen s = firstBest (λ i. leb 1 (filledAt s i)) (sentBefore s) (s .count)
 
--- "r + c × p / g", where the micro-deadlines of a stream start; a fraction, never rounded
+-- "r + c × p / g", where the micro-deadlines of a stream start: a fraction, never rounded
 abbrev pub expiryOf : Stream → Fraction
 expiryOf x =
     record { above = x .release .0 * x .granted .0 + x .charge .0 * x .period; below = x .granted .0 }
 
 -- "the stream whose r + c × p / g is least among those with a slot; ties go to the earlier deadline"
-unfoldable pub expiresBefore : Stream → Stream → Bool
-expiresBefore a b =
-    less (expiryOf a) (expiryOf b)
-    || (same (expiryOf a) (expiryOf b) && ltb (a .deadline .0) (b .deadline .0))
+unfoldable pub expiresFirst : Stream → Stream → Bool
+expiresFirst a b =
+    less (expiryOf a) (expiryOf b) || (same (expiryOf a) (expiryOf b) && ltb (a .deadline .0) (b .deadline .0))
+
+abbrev pub expiresBefore : Session → ℕ → ℕ → Bool
+expiresBefore s a b = expiresFirst (streamAt s a) (streamAt s b)
 
 -- the stream that loses a slot: "then the lower number"
 unfoldable pub expiring : Session → ℕ
-expiring s = firstBest (λ i. leb 1 (slotsAt s i)) (λ a b. expiresBefore (streamAt s a) (streamAt s b)) (s .count)
+expiring s = firstBest (λ i. leb 1 (slotsAt s i)) (expiresBefore s) (s .count)
+
+-- whether some stream has a slot, and the one that loses it
+unfoldable pub lapseOf : Session → Lapse
+lapseOf s = record { found = not (noSlot s); stream = expiring s }

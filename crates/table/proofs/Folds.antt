@@ -1,12 +1,12 @@
 -- Laws of the folds, over any count.
-use mathlib.Core.Bool.{Bool, true, false, _||_, or-true, false≢true}
-use mathlib.Core.Path.{_≡_, refl, sym}
+use mathlib.Core.Bool.{Bool, true, false, not, _&&_, _||_}
+use mathlib.Core.Path.{_≡_, refl, sym, _∙_, ap}
 use mathlib.Core.Logic.{⊎-elim}
 use Prim.Native.Nat.{ℕ, zero, suc, _*_, min, _≤_, _<_}
 use native.Mathlib.Nat.{not-suc-le-zero, mul-add}
 use native.Mathlib.Omega.{arith}
 use lib.Dec.{leb, eqb}
-use borrow.Author.Tests.{eqb-false, le-leb}
+use borrow.Author.Tests.{le-leb, ne-eqb}
 use Rattle.table.specs.Fold.{if, sumTo, smallestTo, allTo, someTo, countTo}
 use Rattle.table.specs.Refusal.{_or-next_, firstTo}
 use Rattle.table.proofs.Tests.{le-or-lt, both, neither, or-next-none, or-next-first}
@@ -42,20 +42,19 @@ some-none f (suc n) h i l =
     let k = neither (someTo f n) (f n) h in
     at-or-below (λ j. f j ≡ false) i l (k .1) (λ u. some-none f n (k .0) i u)
 
--- where not all pass one test, some one passes the test that those pass which fail it
-pub some-of : (f g : ℕ → Bool) → ((i : ℕ) → f i ≡ false → g i ≡ true) → (n : ℕ) → allTo f n ≡ false → someTo g n ≡ true
+-- some one is 1 or more exactly where not all are 0
+pub some-not-all : (f : ℕ → ℕ) (n : ℕ) → someTo (λ i. leb 1 (f i)) n ≡ not (allTo (λ i. eqb (f i) 0) n)
 unfolding allTo someTo
-some-of f g k zero h = absurd (false≢true (sym h))
-some-of f g k (suc n) h = go (allTo f n) refl (some-of f g k n)
+some-not-all f zero = refl
+some-not-all f (suc n) = rw (some-not-all f n) (go (allTo (λ i. eqb (f i) 0) n) (f n))
   where
-    go : (b : Bool) → allTo f n ≡ b → (allTo f n ≡ false → someTo g n ≡ true) → (someTo g n || g n) ≡ true
-    go true e before = rw (k n (rw e at h)) (or-true (someTo g n))
-    go false e before = rw (before e)
+    go : (b : Bool) (m : ℕ) → (not b || leb 1 m) ≡ not (b && eqb m 0)
+    go true zero = refl
+    go true (suc m) = rw (le-leb 1 (suc m) (omega arith), ne-eqb (suc m) 0 (λ e. omega arith))
+    go false m = refl
 
--- where not all are 0, some one is 1 or more
 pub some-positive : (f : ℕ → ℕ) (n : ℕ) → allTo (λ i. eqb (f i) 0) n ≡ false → someTo (λ i. leb 1 (f i)) n ≡ true
-some-positive f =
-    some-of (λ i. eqb (f i) 0) (λ i. leb 1 (f i)) (λ i h. le-leb 1 (f i) (let ne = eqb-false (f i) 0 h in omega arith))
+some-positive f n h = some-not-all f n ∙ ap not h
 
 -- what each number passes, the smallest of them passes
 pub smallest-is : (P : ℕ → Type 0) (f : ℕ → ℕ) (n : ℕ) → 1 ≤ n → ((i : ℕ) → i < n → P (f i)) → P (smallestTo f n)

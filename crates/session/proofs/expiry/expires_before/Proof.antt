@@ -4,7 +4,7 @@ use Prim.Native.Nat.{_*_}
 use lib.Dec.{ltb}
 use borrow.Author.Needs.{needs}
 use Rattle.session.specs.Stream.{less, same}
-use Rattle.session.specs.Choice.{expiresBefore}
+use Rattle.session.specs.Choice.{expiresFirst}
 use Rattle.session.proofs.Fits.{used-fits, whole-fits, rest-fits}
 use Rattle.session.proofs.Fractions.{fraction-before}
 use Rattle.session.proofs.expiry.expires_before.Statement.{statement}
@@ -76,7 +76,7 @@ is-after-requires : tie.Need-is-after-requires
 is-after-requires c κs = search needs
 
 returns : tie.Need-returns
-unfolding expiresBefore less same
+unfolding expiresFirst less same
 returns c =
     let s = c .before .before .before .before .before .before .before .before .before in
     let a = s .args .a in

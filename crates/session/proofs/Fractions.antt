@@ -3,12 +3,24 @@ use mathlib.Core.Bool.{Bool, true, false, _&&_, _||_}
 use mathlib.Core.Path.{_≡_, refl, sym, _∙_, ap}
 use mathlib.Core.Logic.{⊎-elim}
 use Prim.Native.Nat.{ℕ, suc, _+_, _*_, _/_, _%_, _≤_, _<_}
-use native.Mathlib.Nat.{mul-le-mul-right, mul-comm, mul-assoc, add-mul, one-mul, div-add-mod', mod-lt, mul-lt-mul-of-pos-right, le-of-lt, mul-add-div-right, mul-add-mod-self-right}
-use native.Mathlib.Numerals.{add-one}
+use native.Mathlib.Nat.{mul-le-mul-right, mul-comm, mul-assoc, add-mul, div-add-mod', mod-lt, mul-lt-mul-of-pos-right, le-of-lt, mul-add-div-right, mul-add-mod-self-right}
 use native.Mathlib.Omega.{arith}
 use lib.Dec.{ltb, eqb}
 use borrow.Author.Tests.{lt-ltb, le-ltb, ne-eqb, eq-eqb}
 use Rattle.table.proofs.Tests.{le-or-lt}
+
+-- of two numbers one is less, or they are the same: what both tests then say
+three : (a b : ℕ) {P : Type 0} → (a < b → P) → (a ≡ b → P) → (b < a → P) → P
+three a b less same more = ⊎-elim (λ (l : a ≤ b). ⊎-elim (λ (k : b ≤ a). same (omega arith)) less (le-or-lt b a)) more (le-or-lt a b)
+
+less-tests : (a b : ℕ) → a < b → (ltb a b ≡ true) × (eqb a b ≡ false)
+less-tests a b l = (lt-ltb a b l, ne-eqb a b (λ e. omega arith))
+
+same-tests : (a b : ℕ) → a ≡ b → (ltb a b ≡ false) × (eqb a b ≡ true)
+same-tests a b e = (le-ltb a b (omega arith), eq-eqb a b e)
+
+more-tests : (a b : ℕ) → b < a → (ltb a b ≡ false) × (eqb a b ≡ false)
+more-tests a b l = (le-ltb a b (le-of-lt l), ne-eqb a b (λ e. omega arith))
 
 -- two numbers by a common unit u: x × u + v and y × u + w, where v and w are below it
 module _ (u x v y w : ℕ) (hv : v < u) (hw : w < u) where
@@ -22,37 +34,30 @@ module _ (u x v y w : ℕ) (hv : v < u) (hw : w < u) where
 
   below : x < y → Agree
   below l =
-      let s = step l in (
-        rw (lt-ltb x y l, lt-ltb (x * u + v) (y * u + w) (omega arith)),
-        rw (ne-eqb x y (λ e. omega arith), ne-eqb (x * u + v) (y * u + w) (λ e. omega arith)),
-      )
+      let s = step l in
+      let part = less-tests x y l in
+      let all = less-tests (x * u + v) (y * u + w) (omega arith) in
+      rw (part .0, part .1, all .0, all .1) (refl, refl)
 
   above : y < x → Agree
   above l =
-      let s = step l in (
-        rw (le-ltb x y (le-of-lt l), ne-eqb x y (λ e. omega arith), le-ltb (x * u + v) (y * u + w) (omega arith)),
-        rw (ne-eqb x y (λ e. omega arith), ne-eqb (x * u + v) (y * u + w) (λ e. omega arith)),
-      )
+      let s = step l in
+      let part = more-tests x y l in
+      let all = more-tests (x * u + v) (y * u + w) (omega arith) in
+      rw (part .0, part .1, all .0, all .1) (refl, refl)
 
   level : x ≡ y → Agree
   level e =
       let scaled = ap (λ (z : ℕ). z * u) e in
-      rw (le-ltb x y (omega arith), eq-eqb x y e)
-      (⊎-elim
-      (λ (l : w ≤ v).
-      ⊎-elim
-      (λ (k : v ≤ w).
-      let same : v ≡ w = omega arith in
-      (rw (le-ltb v w l, le-ltb (x * u + v) (y * u + w) (omega arith)), rw (eq-eqb v w same, eq-eqb (x * u + v) (y * u + w) (omega arith))))
-      (λ (k : w < v).
-      (rw (le-ltb v w l, le-ltb (x * u + v) (y * u + w) (omega arith)), rw (ne-eqb v w (λ d. omega arith), ne-eqb (x * u + v) (y * u + w) (λ d. omega arith))))
-      (le-or-lt v w))
-      (λ (l : v < w).
-      (rw (lt-ltb v w l, lt-ltb (x * u + v) (y * u + w) (omega arith)), rw (ne-eqb v w (λ d. omega arith), ne-eqb (x * u + v) (y * u + w) (λ d. omega arith))))
-      (le-or-lt w v))
+      let part = same-tests x y e in
+      rw (part .0, part .1)
+      (three v w
+      (λ l. let rest = less-tests v w l in let all = less-tests (x * u + v) (y * u + w) (omega arith) in rw (rest .0, rest .1, all .0, all .1) (refl, refl))
+      (λ k. let rest = same-tests v w k in let all = same-tests (x * u + v) (y * u + w) (omega arith) in rw (rest .0, rest .1, all .0, all .1) (refl, refl))
+      (λ l. let rest = more-tests v w l in let all = more-tests (x * u + v) (y * u + w) (omega arith) in rw (rest .0, rest .1, all .0, all .1) (refl, refl)))
 
   pub by-parts : Agree
-  by-parts = ⊎-elim (λ (l : x ≤ y). ⊎-elim (λ (k : y ≤ x). level (omega arith)) below (le-or-lt y x)) above (le-or-lt x y)
+  by-parts = three x y below level above
 
 -- n / g, scaled by k: its whole part in units of g × k, and its remainder crosswise
 scaled : (n g k : ℕ) → n * k ≡ n / g * (g * k) + n % g * k

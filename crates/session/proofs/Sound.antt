@@ -144,6 +144,9 @@ of-sound s q =
 pub admits : (s : Session) → Sound s → Admits (tableOf s)
 admits s q = admits-of (tableOf s) (q .admitted)
 
+pub count-high : (s : Session) → sound s ≡ true → s .count ≤ 8
+count-high s t = admits s (sound-of s t) .numbers .count-high
+
 pub reservation : (s : Session) → Sound s → (i : ℕ) → i < s .count
     → Fits-in (s .worst) (s .span) (s .padding) (streamAt s i .reserved) (streamAt s i .period)
 reservation s q i l =

@@ -1,5 +1,5 @@
 -- `charges` gives the sum of the charges: the invariant is that it is so of the streams passed.
-use mathlib.Core.Path.{_≡_, refl, sym, ap, _∙_}
+use mathlib.Core.Path.{_≡_, ap, _∙_}
 use Prim.Native.Nat.{ℕ, _≤_, _-_}
 use native.Mathlib.Numerals.{add-one}
 use native.Mathlib.Omega.{arith}
@@ -7,7 +7,7 @@ use Rattle.table.specs.Fold.{sumTo}
 use Rattle.session.specs.Time.{diskTime}
 use Rattle.session.specs.Session.{streamAt}
 use Rattle.session.proofs.Fits.{charge-high}
-use Rattle.session.proofs.Sound.{sound-of, admits, bounded}
+use Rattle.session.proofs.Sound.{sound-of, admits, count-high, bounded}
 use Rattle.session.proofs.Remainders.{charges-high}
 use Rattle.session.proofs.expiry.charges.Statement.{statement}
 use Rattle.session.proofs.expiry.charges.Tie as tie
@@ -26,14 +26,10 @@ unfolding sumTo
 loop-holds c = (omega arith, c .of .ensures)
 
 mul-x : tie.Need-mul-x Inv-loop μ-loop
-mul-x c =
-    let s = c .before .before .before in
-    omega (arith, admits (s .args .t1) (sound-of (s .args .t1) (s .pre)) .numbers)
+mul-x c = omega (arith, count-high _ (c .before .before .before .pre))
 
 element-copy-out-x : tie.Need-element-copy-out-x Inv-loop μ-loop
-element-copy-out-x c =
-    let s = c .before .before .before in
-    omega (arith, admits (s .args .t1) (sound-of (s .args .t1) (s .pre)) .numbers)
+element-copy-out-x c = omega (arith, count-high _ (c .before .before .before .pre))
 
 plus-requires : tie.Need-plus-requires Inv-loop μ-loop
 plus-requires c κs =

@@ -1,5 +1,5 @@
 -- `expires_before` compares whole parts, then remainders: `fraction-before` says that this is the order of the exact fractions.
-use mathlib.Core.Path.{_≡_, sym}
+use mathlib.Core.Path.{sym}
 use Prim.Native.Nat.{_*_}
 use lib.Dec.{ltb}
 use borrow.Author.Needs.{needs}
@@ -81,8 +81,26 @@ returns c =
     let s = c .before .before .before .before .before .before .before .before .before in
     let a = s .args .a in
     let b = s .args .b in
-    rw (c .before .before .before .before .before .before .before .before .micros .ensures, c .before .before .before .before .before .before .micros2 .ensures, c .before .before .before .before .micros3 .ensures, c .before .before .before .micros4 .ensures, c .before .before .micros5 .ensures, c .before .micros6 .ensures, c .is-after .ensures)
-    (sym (fraction-before (a .release .0) (a .charge .0 * a .period) (a .granted .0) (b .release .0) (b .charge .0 * b .period) (b .granted .0) (ltb (a .deadline .0) (b .deadline .0)) (s .pre .2 .budget-low) (s .pre .3 .budget-low)))
+    rw (
+      c .before .before .before .before .before .before .before .before .micros .ensures,
+      c .before .before .before .before .before .before .micros2 .ensures,
+      c .before .before .before .before .micros3 .ensures,
+      c .before .before .before .micros4 .ensures,
+      c .before .before .micros5 .ensures,
+      c .before .micros6 .ensures,
+      c .is-after .ensures,
+    )
+    (sym
+    (fraction-before
+    (a .release .0)
+    (a .charge .0 * a .period)
+    (a .granted .0)
+    (b .release .0)
+    (b .charge .0 * b .period)
+    (b .granted .0)
+    (ltb (a .deadline .0) (b .deadline .0))
+    (s .pre .2 .budget-low)
+    (s .pre .3 .budget-low)))
 
 pub expires-before-spec : {M : Type 1} → statement M
 expires-before-spec =

@@ -1,6 +1,4 @@
 -- `latest` gives the latest safe moment: by admission the parts are at most the horizon times the span.
-use mathlib.Core.Path.{_≡_, refl, sym, ap, _∙_}
-use Prim.Native.Nat.{ℕ, _≤_}
 use native.Mathlib.Omega.{arith}
 use borrow.Author.Needs.{needs}
 use Rattle.session.specs.Session.{latest}

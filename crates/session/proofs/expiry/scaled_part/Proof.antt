@@ -1,6 +1,4 @@
 -- `scaled_part` gives a stream's part: within one period it is at most the budget times the span, which fits.
-use Prim.Native.Nat.{ℕ, _-_, _*_, _/_, _≤_}
-use mathlib.Core.Path.{_≡_, refl, sym, ap, _∙_}
 use native.Mathlib.Nat.{div-le-self}
 use native.Mathlib.Omega.{arith}
 use borrow.Author.Needs.{needs}
@@ -29,10 +27,8 @@ cast-result c =
 mul-result-2 : tie.Need-mul-result-2
 mul-result-2 c =
     let s = c .before .before .before in
-    let x = s .args .x in
-    let b = s .pre .1 .1 in
-    let high = part-high (s .args .h .0 - x .release .0) (x .granted .0) (x .period) (s .args .span) (omega (arith, b .ahead, b .due)) (omega (arith, b .budget-high, b .period-high)) (s .pre .0) in
-    rw (c .before .before .since .ensures, c .before .micros .ensures) (omega arith)
+    rw (c .before .before .since .ensures, c .before .micros .ensures)
+    (omega (arith, part-high (s .pre .1 .1) (s .args .span) (s .pre .0)))
 
 returns : tie.Need-returns
 returns c = rw (c .before .before .since .ensures, c .before .micros .ensures)

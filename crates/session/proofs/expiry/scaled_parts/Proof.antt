@@ -1,11 +1,11 @@
 -- `scaled_parts` gives the sum of the parts: the invariant is that it is so of the streams passed.
-use mathlib.Core.Path.{_≡_, refl, sym, ap, _∙_}
-use Prim.Native.Nat.{ℕ, _+_, _-_, _≤_}
+use mathlib.Core.Path.{_≡_, refl, ap, _∙_}
+use Prim.Native.Nat.{_+_, _-_, _≤_}
 use native.Mathlib.Numerals.{add-one}
 use native.Mathlib.Omega.{arith}
 use Rattle.table.specs.Fold.{sumTo}
 use Rattle.session.specs.Session.{scaledPart}
-use Rattle.session.proofs.Sound.{sound-of, admits, bounded}
+use Rattle.session.proofs.Sound.{sound-of, admits, count-high, bounded}
 use Rattle.session.proofs.Remainders.{parts-high}
 use Rattle.session.proofs.expiry.scaled_parts.Statement.{statement}
 use Rattle.session.proofs.expiry.scaled_parts.Tie as tie
@@ -21,14 +21,10 @@ unfolding sumTo
 loop-holds c = (omega arith, refl)
 
 mul-x : tie.Need-mul-x Inv-loop μ-loop
-mul-x c =
-    let s = c .before .before in
-    omega (arith, admits (s .args .t1) (sound-of (s .args .t1) (s .pre .0)) .numbers)
+mul-x c = omega (arith, count-high _ (c .before .before .pre .0))
 
 element-copy-out-x : tie.Need-element-copy-out-x Inv-loop μ-loop
-element-copy-out-x c =
-    let s = c .before .before in
-    omega (arith, admits (s .args .t1) (sound-of (s .args .t1) (s .pre .0)) .numbers)
+element-copy-out-x c = omega (arith, count-high _ (c .before .before .pre .0))
 
 scaled-part-requires : tie.Need-scaled-part-requires Inv-loop μ-loop
 scaled-part-requires c κs =

@@ -1,6 +1,6 @@
 -- `to_expire` gives the stream that loses a slot: the invariant is that it is so of the streams passed.
-use mathlib.Core.Path.{_≡_, refl, sym, ap, _∙_}
-use Prim.Native.Nat.{ℕ, _≤_, _<_, _-_}
+use mathlib.Core.Path.{_≡_, refl, sym}
+use Prim.Native.Nat.{_≤_, _<_, _-_}
 use native.Mathlib.Numerals.{add-one}
 use native.Mathlib.Omega.{arith}
 use lib.Dec.{leb}
@@ -8,7 +8,7 @@ use Rattle.table.specs.Fold.{someTo}
 use Rattle.table.proofs.Folds.{some-not-all}
 use Rattle.session.specs.Session.{slotsAt, noSlot}
 use Rattle.session.specs.Choice.{firstBest, expiresBefore, expiring, lapseOf}
-use Rattle.session.proofs.Sound.{sound-of, admits, bounded}
+use Rattle.session.proofs.Sound.{sound-of, admits, count-high, bounded}
 use Rattle.session.proofs.Lapses.{lapseTo, lapse-in, lapse-more}
 use Rattle.session.proofs.expiry.to_expire.Statement.{statement}
 use Rattle.session.proofs.expiry.to_expire.Tie as tie
@@ -31,20 +31,17 @@ pointed c =
     let numbers = admits s (sound-of s (c .before .before .pre .0)) .numbers in
     rw (at .inv .1) (lapse-in (λ j. leb 1 (slotsAt s j)) (expiresBefore s) (at .i) (s .count) (at .inv .0) (numbers .count-low))
 
-eight : (c : tie.In-loop Inv-loop μ-loop) → c .before .before .args .t1 .count ≤ 8
-eight c = admits _ (sound-of _ (c .before .before .pre .0)) .numbers .count-high
-
 mul-other : tie.Need-mul-other Inv-loop μ-loop
-mul-other c = omega (arith, pointed c, eight c)
+mul-other c = omega (arith, pointed c, count-high _ (c .before .before .pre .0))
 
 element-copy-out-other : tie.Need-element-copy-out-other Inv-loop μ-loop
-element-copy-out-other c = omega (arith, pointed c, eight c)
+element-copy-out-other c = omega (arith, pointed c, count-high _ (c .before .before .pre .0))
 
 mul-x : tie.Need-mul-x Inv-loop μ-loop
-mul-x c = omega (arith, eight (c .before))
+mul-x c = omega (arith, count-high _ (c .before .before .before .pre .0))
 
 element-copy-out-x : tie.Need-element-copy-out-x Inv-loop μ-loop
-element-copy-out-x c = omega (arith, eight (c .before))
+element-copy-out-x c = omega (arith, count-high _ (c .before .before .before .pre .0))
 
 better-requires : tie.Need-better-requires Inv-loop μ-loop
 better-requires c κs =

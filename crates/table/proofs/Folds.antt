@@ -16,6 +16,24 @@ at-or-below : (P : ℕ → Type 0) {n : ℕ} (i : ℕ) → i < suc n → P n →
 at-or-below P {n} i l last rest =
     ⊎-elim (λ (u : n ≤ i). let e : i ≡ n = omega arith in rw e last) rest (le-or-lt n i)
 
+-- a sum that is at most another, term by term
+pub sum-le : (f g : ℕ → ℕ) (n : ℕ) → ((i : ℕ) → i < n → f i ≤ g i) → sumTo f n ≤ sumTo g n
+unfolding sumTo
+sum-le f g zero h = omega arith
+sum-le f g (suc n) h = omega (arith, sum-le f g n (λ i l. h i (omega arith)), h n (omega arith))
+
+-- a factor of every term is one of the sum
+pub sum-scaled : (k : ℕ) (f : ℕ → ℕ) (n : ℕ) → sumTo (λ i. k * f i) n ≡ k * sumTo f n
+unfolding sumTo
+sum-scaled k f zero = omega arith
+sum-scaled k f (suc n) = rw (sum-scaled k f n) (sym (mul-add k (sumTo f n) (f n)))
+
+-- a sum whose terms are at most b
+pub sum-high : (b : ℕ) (f : ℕ → ℕ) (n : ℕ) → ((i : ℕ) → i < n → f i ≤ b) → sumTo f n ≤ n * b
+unfolding sumTo
+sum-high b f zero h = omega arith
+sum-high b f (suc n) h = omega (arith, sum-high b f n (λ i l. h i (omega arith)), h n (omega arith))
+
 pub smallest-le : (f : ℕ → ℕ) (n i : ℕ) → i < n → smallestTo f n ≤ f i
 unfolding smallestTo
 smallest-le f zero i l = absurd (not-suc-le-zero l)
@@ -95,21 +113,3 @@ count-below f k yeses noes (suc m) =
     (λ (u : k ≤ m). rw (noes m u, count-below f k yeses noes m) (omega arith))
     (λ (u : m < k). rw (yeses m u, count-below f k yeses noes m) (omega arith))
     (le-or-lt k m)
-
--- a sum that is at most another, term by term
-pub sum-le : (f g : ℕ → ℕ) (n : ℕ) → ((i : ℕ) → i < n → f i ≤ g i) → sumTo f n ≤ sumTo g n
-unfolding sumTo
-sum-le f g zero h = omega arith
-sum-le f g (suc n) h = omega (arith, sum-le f g n (λ i l. h i (omega arith)), h n (omega arith))
-
--- a factor of every term is one of the sum
-pub sum-scaled : (k : ℕ) (f : ℕ → ℕ) (n : ℕ) → sumTo (λ i. k * f i) n ≡ k * sumTo f n
-unfolding sumTo
-sum-scaled k f zero = omega arith
-sum-scaled k f (suc n) = rw (sum-scaled k f n) (sym (mul-add k (sumTo f n) (f n)))
-
--- a sum whose terms are at most b
-pub sum-high : (b : ℕ) (f : ℕ → ℕ) (n : ℕ) → ((i : ℕ) → i < n → f i ≤ b) → sumTo f n ≤ n * b
-unfolding sumTo
-sum-high b f zero h = omega arith
-sum-high b f (suc n) h = omega (arith, sum-high b f n (λ i l. h i (omega arith)), h n (omega arith))

@@ -1,7 +1,7 @@
 -- Bounds on the numbers of a sound session, by which 64 bits are enough.
 use mathlib.Core.Path.{_≡_}
-use Prim.Native.Nat.{ℕ, _+_, _-_, _*_, _^_, _≤_, _<_}
-use native.Mathlib.Nat.{mul-le-mul, lt-of-le-of-lt}
+use Prim.Native.Nat.{ℕ, _+_, _-_, _*_, _/_, _%_, _^_, _≤_, _<_}
+use native.Mathlib.Nat.{mul-le-mul, lt-of-le-of-lt, div-le-self, mod-lt}
 use native.Mathlib.Omega.{arith}
 use lib.Dec.{T, ltb, lit<}
 use mir.Syntax.{w64}
@@ -28,3 +28,15 @@ module _ {worst h : ℕ} {x : Stream} (q : Bounded worst h x) where
 
   pub step-fits : Fits w64 (worst * x .period)
   step-fits = mul-fits 1000000 60000000 (q .worst-high) (q .period-high) tt
+
+  pub whole-fits : Fits w64 (x .release .0 + x .charge .0 * x .period / x .granted .0)
+  whole-fits =
+      let used : x .charge .0 * x .period ≤ 4200000000000000 = mul-le-mul {n₂ = 70000000} {m₂ = 60000000} charge-high (q .period-high) in
+      omega (arith, q .due, q .deadline-high, div-le-self (x .charge .0 * x .period) (x .granted .0))
+
+  pub rest-fits : {y : Stream} → Bounded worst h y → (n : ℕ) → Fits w64 (n % x .granted .0 * y .granted .0)
+  rest-fits other n =
+      mul-fits 60000000 60000000
+      (omega (arith, mod-lt n (q .budget-low), q .budget-high, q .period-high))
+      (omega (arith, other .budget-high, other .period-high))
+      tt

@@ -7,6 +7,9 @@ pub mod Picks
 pub mod Fits
 pub mod Sound
 pub mod Best
+pub mod Remainders
+pub mod Fractions
+pub mod Lapses
 pub mod Grounds
 pub mod Queues
 pub mod Changes

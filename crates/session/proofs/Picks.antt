@@ -10,7 +10,8 @@ use borrow.Author.Tests.{eq-eqb, ne-eqb, le-leb, lt-leb}
 use Rattle.table.specs.Fold.{if, someTo}
 use Rattle.session.specs.Stream.{filled}
 use Rattle.session.specs.Session.{streamAt, horizon, filledAt}
-use Rattle.session.specs.Choice.{firstBest, distance, nearest, nearestAt, distanceAt, sentBefore, near, nearer, considered}
+use Rattle.session.specs.Choice.{firstBest, distance, nearest, nearestAt, distanceAt, sentBefore}
+use Rattle.session.specs.Search.{near, nearer, considered}
 use Rattle.session.specs.declared.choice.Near.{Near}
 use Rattle.session.specs.declared.choice.Pick.{Pick}
 use Rattle.session.specs.declared.Session.{Session}

@@ -164,6 +164,9 @@ used s q = record { admitted = q .admitted; each = q .each }
 pub admits : (s : Session) → Sound s → Admits (tableOf s)
 admits s q = admits-of (tableOf s) (q .admitted)
 
+pub count-high : (s : Session) → sound s ≡ true → s .count ≤ 8
+count-high s t = admits s (sound-of s t) .numbers .count-high
+
 module _ (s : Session) (q : Used s) where
   abbrev booked : Admits (tableOf s)
   booked = admits-of (tableOf s) (q .admitted)

@@ -1,14 +1,12 @@
 -- Which request the house sends, and which slot expires.
 use mathlib.Core.Bool.{Bool, true, not, _&&_, _||_}
 use mathlib.Core.List.{List}
-use Prim.Native.Nat.{ℕ, zero, suc, _-_}
+use Prim.Native.Nat.{ℕ, zero, suc, _+_, _-_, _*_}
 use lib.ListN.{getD}
 use lib.Dec.{leb, ltb, eqb}
 use Rattle.table.specs.Fold.{if}
-use Rattle.session.specs.Stream.{filled, less, same, microDeadline}
+use Rattle.session.specs.Stream.{Fraction, less, same}
 use Rattle.session.specs.Session.{streamAt, slotsAt, filledAt}
-use Rattle.session.specs.declared.choice.Near.{Near}
-use Rattle.session.specs.declared.choice.Pick.{Pick}
 use Rattle.session.specs.declared.stream.Stream.{Stream}
 use Rattle.session.specs.declared.Session.{Session}
 
@@ -45,30 +43,19 @@ sentBefore s a b =
 unfoldable pub chosen : Session → ℕ
 chosen s = firstBest (λ i. leb 1 (filledAt s i)) (sentBefore s) (s .count)
 
--- "the stream whose r + c × p / g is least among those with a slot; ties go to the earlier deadline": the fraction is the micro-deadline of slot 0
-unfoldable pub expiresBefore : Session → ℕ → ℕ → Bool
-expiresBefore s a b =
-    let from = microDeadline (s .worst) (streamAt s a) 0 in
-    let other = microDeadline (s .worst) (streamAt s b) 0 in
-    less from other || (same from other && ltb (streamAt s a .deadline .0) (streamAt s b .deadline .0))
+-- "r + c × p / g", where the micro-deadlines of a stream start: a fraction, never rounded
+abbrev pub expiryOf : Stream → Fraction
+expiryOf x =
+    record { above = x .release .0 * x .granted .0 + x .charge .0 * x .period; below = x .granted .0 }
+
+-- "the stream whose r + c × p / g is least among those with a slot; ties go to the earlier deadline"
+unfoldable pub expiresFirst : Stream → Stream → Bool
+expiresFirst a b =
+    less (expiryOf a) (expiryOf b) || (same (expiryOf a) (expiryOf b) && ltb (a .deadline .0) (b .deadline .0))
+
+abbrev pub expiresBefore : Session → ℕ → ℕ → Bool
+expiresBefore s a b = expiresFirst (streamAt s a) (streamAt s b)
 
 -- the stream that loses a slot: "then the lower number"
 unfoldable pub expiring : Session → ℕ
 expiring s = firstBest (λ i. leb 1 (slotsAt s i)) (expiresBefore s) (s .count)
-
--- What the search for the request to send keeps of the streams passed so far, and one step of it. The first of equals stays, which is the tie rule.
-abbrev pub near : ℕ → List ℕ → ℕ → Near
-near head places m =
-    record { index = nearest head places m; distance = distance head (getD places (nearest head places m) 0) }
-
-unfoldable pub nearer : Near → ℕ → ℕ → Near
-nearer best j far = if (ltb far (best .distance)) (record { index = j; distance = far }) best
-
-unfoldable pub considered : ℕ → ℕ → ℕ → Pick → Stream → ℕ → Pick
-considered worst h head best x i =
-    let request = near head (x .places) (filled worst h x) in
-    let sooner = ltb (x .deadline .0) (best .deadline .0) in
-    let alike = eqb (x .deadline .0) (best .deadline .0) in
-    if (eqb (filled worst h x) 0) best
-    (if (best .found && not (sooner || (alike && ltb (request .distance) (best .distance)))) best
-    (record { found = true; stream = i; index = request .index; deadline = x .deadline; distance = request .distance }))

@@ -1,6 +1,7 @@
 // A session: one disk, up to eight streams, and the calls that share it among them.
 mod call;
 mod choice;
+mod expiry;
 mod soundness;
 mod stream;
 mod time;

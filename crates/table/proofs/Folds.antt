@@ -1,12 +1,12 @@
 -- Laws of the folds, over any count.
-use mathlib.Core.Bool.{Bool, true, false, _||_, or-true, false≢true}
-use mathlib.Core.Path.{_≡_, refl, sym}
+use mathlib.Core.Bool.{Bool, true, false, not, _&&_, _||_}
+use mathlib.Core.Path.{_≡_, refl, sym, _∙_, ap}
 use mathlib.Core.Logic.{⊎-elim}
-use Prim.Native.Nat.{ℕ, zero, suc, _+_, min, _≤_, _<_}
-use native.Mathlib.Nat.{not-suc-le-zero}
+use Prim.Native.Nat.{ℕ, zero, suc, _+_, _*_, min, _≤_, _<_}
+use native.Mathlib.Nat.{not-suc-le-zero, mul-add}
 use native.Mathlib.Omega.{arith}
 use lib.Dec.{leb, eqb}
-use borrow.Author.Tests.{eqb-false, le-leb}
+use borrow.Author.Tests.{le-leb, ne-eqb}
 use Rattle.table.specs.Fold.{if, sumTo, smallestTo, allTo, someTo, countTo}
 use Rattle.table.specs.Refusal.{_or-next_, firstTo}
 use Rattle.table.proofs.Tests.{le-or-lt, both, neither, or-next-none, or-next-first}
@@ -15,6 +15,24 @@ use Rattle.table.proofs.Tests.{le-or-lt, both, neither, or-next-none, o
 pub at-or-below : (P : ℕ → Type 0) {n : ℕ} (i : ℕ) → i < suc n → P n → (i < n → P i) → P i
 at-or-below P {n} i l last rest =
     ⊎-elim (λ (u : n ≤ i). let e : i ≡ n = omega arith in rw e last) rest (le-or-lt n i)
+
+-- a sum that is at most another, term by term
+pub sum-le : (f g : ℕ → ℕ) (n : ℕ) → ((i : ℕ) → i < n → f i ≤ g i) → sumTo f n ≤ sumTo g n
+unfolding sumTo
+sum-le f g zero h = omega arith
+sum-le f g (suc n) h = omega (arith, sum-le f g n (λ i l. h i (omega arith)), h n (omega arith))
+
+-- a factor of every term is one of the sum
+pub sum-scaled : (k : ℕ) (f : ℕ → ℕ) (n : ℕ) → sumTo (λ i. k * f i) n ≡ k * sumTo f n
+unfolding sumTo
+sum-scaled k f zero = omega arith
+sum-scaled k f (suc n) = rw (sum-scaled k f n) (sym (mul-add k (sumTo f n) (f n)))
+
+-- a sum whose terms are at most b
+pub sum-high : (b : ℕ) (f : ℕ → ℕ) (n : ℕ) → ((i : ℕ) → i < n → f i ≤ b) → sumTo f n ≤ n * b
+unfolding sumTo
+sum-high b f zero h = omega arith
+sum-high b f (suc n) h = omega (arith, sum-high b f n (λ i l. h i (omega arith)), h n (omega arith))
 
 pub smallest-le : (f : ℕ → ℕ) (n i : ℕ) → i < n → smallestTo f n ≤ f i
 unfolding smallestTo
@@ -49,20 +67,19 @@ unfolding allTo
 all-of f zero h = refl
 all-of f (suc n) h = rw (all-of f n (λ i l. h i (omega arith)), h n (omega arith))
 
--- where not all pass one test, some one passes the test that those pass which fail it
-pub some-of : (f g : ℕ → Bool) → ((i : ℕ) → f i ≡ false → g i ≡ true) → (n : ℕ) → allTo f n ≡ false → someTo g n ≡ true
+-- some one is 1 or more exactly where not all are 0
+pub some-not-all : (f : ℕ → ℕ) (n : ℕ) → someTo (λ i. leb 1 (f i)) n ≡ not (allTo (λ i. eqb (f i) 0) n)
 unfolding allTo someTo
-some-of f g k zero h = absurd (false≢true (sym h))
-some-of f g k (suc n) h = go (allTo f n) refl (some-of f g k n)
+some-not-all f zero = refl
+some-not-all f (suc n) = rw (some-not-all f n) (go (allTo (λ i. eqb (f i) 0) n) (f n))
   where
-    go : (b : Bool) → allTo f n ≡ b → (allTo f n ≡ false → someTo g n ≡ true) → (someTo g n || g n) ≡ true
-    go true e before = rw (k n (rw e at h)) (or-true (someTo g n))
-    go false e before = rw (before e)
+    go : (b : Bool) (m : ℕ) → (not b || leb 1 m) ≡ not (b && eqb m 0)
+    go true zero = refl
+    go true (suc m) = rw (le-leb 1 (suc m) (omega arith), ne-eqb (suc m) 0 (λ e. omega arith))
+    go false m = refl
 
--- where not all are 0, some one is 1 or more
 pub some-positive : (f : ℕ → ℕ) (n : ℕ) → allTo (λ i. eqb (f i) 0) n ≡ false → someTo (λ i. leb 1 (f i)) n ≡ true
-some-positive f =
-    some-of (λ i. eqb (f i) 0) (λ i. leb 1 (f i)) (λ i h. le-leb 1 (f i) (let ne = eqb-false (f i) 0 h in omega arith))
+some-positive f n h = some-not-all f n ∙ ap not h
 
 -- what each number passes, the smallest of them passes
 pub smallest-is : (P : ℕ → Type 0) (f : ℕ → ℕ) (n : ℕ) → 1 ≤ n → ((i : ℕ) → i < n → P (f i)) → P (smallestTo f n)

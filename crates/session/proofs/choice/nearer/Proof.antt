@@ -1,7 +1,7 @@
 -- `nearer` takes the further place only where it is nearer.
 use borrow.Author.Tests.{lt-ltb, le-ltb}
 use Rattle.table.specs.Fold.{if}
-use Rattle.session.specs.Choice.{nearer}
+use Rattle.session.specs.Search.{nearer}
 use borrow.Author.Needs.{needs}
 use native.Mathlib.Omega.{arith}
 use mathlib.Core.Path.{_≡_, refl, sym, ap, _∙_}

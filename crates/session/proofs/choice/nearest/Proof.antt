@@ -1,5 +1,6 @@
 -- `nearest` gives the nearest place and its distance: the invariant is that it is so of the places passed.
-use Rattle.session.specs.Choice.{firstBest, nearest, near}
+use Rattle.session.specs.Choice.{firstBest, nearest}
+use Rattle.session.specs.Search.{near}
 use Rattle.session.proofs.Picks.{near-next}
 use borrow.Author.Needs.{needs}
 use native.Mathlib.Omega.{arith}

@@ -1,0 +1,61 @@
+-- The sums over a sound session's streams: they fit 64 bits, and by admission the parts are at most the horizon times the span.
+use mathlib.Core.Path.{_≡_}
+use Prim.Native.Nat.{ℕ, _-_, _*_, _/_, _≤_, _<_}
+use native.Mathlib.Nat.{mul-le-mul, mul-le-mul-left, mul-le-mul-right, mul-right-comm, mul-assoc, mul-div-le, le-trans}
+use native.Mathlib.Omega.{arith}
+use lib.ListN.{List·getD-map}
+use Rattle.table.specs.Fold.{sumTo}
+use Rattle.table.specs.Admission.{shareOf, shareAt, sharesOf, loadOf}
+use Rattle.table.proofs.Folds.{sum-le, sum-scaled, sum-high}
+use Rattle.session.specs.Bounds.{Bounded}
+use Rattle.session.specs.Session.{noStream, streamAt, horizon, scaledPart, tableOf}
+use Rattle.session.specs.declared.stream.Stream.{Stream}
+use Rattle.session.specs.declared.Session.{Session}
+use Rattle.session.proofs.Fits as fits
+use Rattle.session.proofs.Sound.{Sound, admits, bounded}
+
+part-most : (a g p span : ℕ) → a ≤ p → g ≤ 60000000 → span ≤ 600000000 → a * g * (span / p) ≤ 36000000000000000
+part-most a g p span within budget whole =
+    rw mul-right-comm
+    (mul-le-mul {n₂ = 600000000} {m₂ = 60000000} (le-trans (mul-le-mul-right (span / p) within) (le-trans (mul-div-le span p) whole)) budget)
+
+-- the horizon is within a stream's period, so its part is at most its budget times the span
+pub part-high : {worst h : ℕ} {x : Stream} → Bounded worst h x → (span : ℕ) → span ≤ 600000000
+    → (h - x .release .0) * x .granted .0 * (span / x .period) ≤ 36000000000000000
+part-high {x} b span whole =
+    part-most _ _ (x .period) span (omega (arith, b .ahead, b .due)) (omega (arith, b .budget-high, b .period-high)) whole
+
+part-low : (h r g q : ℕ) → (h - r) * g * q ≤ h * (g * q)
+part-low h r g q = rw mul-assoc (mul-le-mul-right (g * q) (omega arith))
+
+module _ (s : Session) (q : Sound s) where
+  share-is : (i : ℕ) → i < s .count → shareAt (tableOf s) i ≡ streamAt s i .granted .0 * (s .span / streamAt s i .period)
+  unfolding shareOf
+  share-is i l =
+      rw (
+        List·getD-map (λ (x : Stream). x .reserved) (s .streams) i noStream,
+        List·getD-map (λ (x : Stream). x .period) (s .streams) i noStream,
+        q .each i l .budget,
+      )
+
+  pub parts-low : sumTo (scaledPart s) (s .count) ≤ horizon s * s .span
+  unfolding sharesOf loadOf
+  parts-low =
+      let h = horizon s in
+      let each = sum-le (scaledPart s) (λ i. h * shareAt (tableOf s) i) (s .count)
+      (λ i l. rw (share-is i l) (part-low h (streamAt s i .release .0) (streamAt s i .granted .0) (s .span / streamAt s i .period))) in
+      let load = admits s q .fits in
+      le-trans each (rw (sum-scaled h (shareAt (tableOf s)) (s .count)) (mul-le-mul-left h (omega arith)))
+
+  pub parts-high : (n : ℕ) → n ≤ s .count → sumTo (scaledPart s) n ≤ n * 36000000000000000
+  parts-high n le =
+      sum-high 36000000000000000 (scaledPart s) n
+      (λ i l. part-high (bounded s q i (omega arith)) (s .span) (admits s q .numbers .span-high))
+
+  pub charges-high : (n : ℕ) → n ≤ s .count → sumTo (λ i. streamAt s i .charge .0) n ≤ n * 70000000
+  charges-high n le = sum-high 70000000 (λ i. streamAt s i .charge .0) n (λ i l. fits.charge-high (bounded s q i (omega arith)))
+
+  pub horizon-high : horizon s ≤ 1000000000000
+  horizon-high =
+      let first = bounded s q 0 (admits s q .numbers .count-low) in
+      omega (arith, first .ahead, first .deadline-high)

@@ -1,7 +1,7 @@
 -- Bounds on the numbers of a sound session, by which 64 bits are enough.
 use mathlib.Core.Path.{_≡_}
 use Prim.Native.Nat.{ℕ, _+_, _-_, _*_, _/_, _%_, _^_, _≤_, _<_}
-use native.Mathlib.Nat.{mul-le-mul, lt-of-le-of-lt, div-le-self, mod-lt}
+use native.Mathlib.Nat.{mul-le-mul, lt-of-le-of-lt, div-le-self, mod-lt, le-mul-of-pos-right}
 use native.Mathlib.Omega.{arith}
 use lib.Dec.{T, ltb, lit<}
 use mir.Syntax.{w64}
@@ -40,3 +40,6 @@ module _ {worst h : ℕ} {x : Stream} (q : Bounded worst h x) where
       (omega (arith, mod-lt n (q .budget-low), q .budget-high, q .period-high))
       (omega (arith, other .budget-high, other .period-high))
       tt
+
+  pub expired-high : x .expired ≤ 70000000
+  expired-high = omega (arith, charge-high, q .expiries, le-mul-of-pos-right (x .expired) (q .worst-low))

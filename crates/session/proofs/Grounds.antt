@@ -44,16 +44,16 @@ Grounds s (finish i a) =
 Grounds s (set-clock t) = t ≤ session-end
 
 -- a stream number that is neither 0 nor above the count names a stream
-named : (s : Session) (n : ℕ) → noSuchStream s n ≡ false → n - 1 < s .count
+pub named : (s : Session) (n : ℕ) → noSuchStream s n ≡ false → (1 ≤ n) × (n - 1 < s .count)
 unfolding noSuchStream
 named s n h =
     let a = neither (eqb n 0) (ltb (s .count) n) h in
     let low = eqb-false n 0 (a .0) in
     let high = ltb-false (s .count) n (a .1) in
-    omega arith
+    (omega arith, omega arith)
 
 -- nothing is at the disk where 10 is not given, and something where 11 is not
-idle-of : (s : Session) → busy s ≡ false → s .served ≡ 0
+pub idle-of : (s : Session) → busy s ≡ false → s .served ≡ 0
 unfolding busy
 idle-of s h = eqb-true (s .served) 0 (not-false (eqb (s .served) 0) h)
 
@@ -75,7 +75,7 @@ nearest-in head places zero h = absurd (not-suc-le-zero h)
 nearest-in head places (suc m) h = suc-le-suc-iff .1 (best-low _ _ m)
 
 -- the stream that a turn serves has a filled slot
-chosen-grounds : (s : Session) → s .served ≡ 0 → someFilled s ≡ true → Grounds s (send (chosen s) (nearestAt s (chosen s)))
+pub chosen-grounds : (s : Session) → s .served ≡ 0 → someFilled s ≡ true → Grounds s (send (chosen s) (nearestAt s (chosen s)))
 unfolding someFilled chosen
 chosen-grounds s idle some =
     let best = best-positive (filledAt s) (sentBefore s) (s .count) some in
@@ -86,7 +86,7 @@ chosen-grounds s idle some =
     }
 
 -- the stream that loses one has a slot
-expiring-grounds : (s : Session) → s .served ≡ 0 → noSlot s ≡ false → Grounds s (expire (expiring s))
+pub expiring-grounds : (s : Session) → s .served ≡ 0 → noSlot s ≡ false → Grounds s (expire (expiring s))
 unfolding noSlot expiring
 expiring-grounds s idle h =
     let best = best-positive (slotsAt s) (expiresBefore s) (s .count) (some-positive (slotsAt s) (s .count) h) in
@@ -118,7 +118,7 @@ call-grounds : (s : Session) → Sound s → (k : Call) → callRefusal s k ≡ 
 unfolding callRefusal effect
 call-grounds s q (Call.Arrival n place) h =
     let a = or-next-none _ _ h in
-    let exists = named s n (given-none _ 7 (a .0)) in
+    let exists = named s n (given-none _ 7 (a .0)) .1 in
     let more = eqb-false (streamAt s (n - 1) .queued) queue-max (given-none _ 8 (a .1)) in
     record { exists = exists; space = omega (arith, q .each (n - 1) exists .queue .queued-high) }
 call-grounds s q Call.Turn h =
@@ -129,7 +129,7 @@ call-grounds s q (Call.OwnTurn n j) h =
     let b = or-next-none _ _ (a .1) in
     record {
       idle = idle-of s (given-none _ 9 (a .0));
-      exists = named s n (given-none _ 7 (b .0));
+      exists = named s n (given-none _ 7 (b .0)) .1;
       inSet = ltb-true j (filledAt s (n - 1)) (not-false _ (given-none _ 14 (b .1)));
     }
 call-grounds s q (Call.Done a) h =

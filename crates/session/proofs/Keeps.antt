@@ -15,7 +15,7 @@ use Rattle.session.proofs.Sound.{Sound, sound-of, of-sound, bounded}
 use Rattle.session.proofs.Queues.{arrived-queue, without-queue}
 use Rattle.session.proofs.Grounds.{Grounds, verdict-grounds}
 use Rattle.session.proofs.Changes.{slots-kept, queue-kept, charge-kept, clock-kept, disk-served}
-use Rattle.session.proofs.Moves.{move-kept}
+use Rattle.session.proofs.MoveKept.{move-kept}
 
 -- an arrival
 append-kept : (s : Session) → Sound s → (i place : ℕ) → Grounds s (append i place) → Sound (apply s (append i place))

@@ -13,6 +13,7 @@ pub mod Lapses
 pub mod Grounds
 pub mod Queues
 pub mod Changes
-pub mod Moves
+pub mod MoveKept
 pub mod Keeps
 pub mod Opened
+pub mod Answers

@@ -1,5 +1,5 @@
 -- A sound session, test by test: what each test says, and that these facts make it sound.
-use mathlib.Core.Bool.{Bool, true, false, _&&_, _||_}
+use mathlib.Core.Bool.{Bool, true, false, _&&_, _||_, and-false, false≢true}
 use mathlib.Core.List.{List, [], _∷_, map}
 use mathlib.Core.Path.{_≡_, refl, sym, _∙_, ap}
 use mathlib.Core.Logic.{⊎-elim}
@@ -22,7 +22,7 @@ use Rattle.session.specs.declared.Session.{Session}
 
 -- a cell that is used or 0
 used-or-zero : (a b : Bool) → (a || b) ≡ true → a ≡ false → b ≡ true
-used-or-zero true b h n = absurd (mathlib.Core.Bool.false≢true (sym n))
+used-or-zero true b h n = absurd (false≢true (sym n))
 used-or-zero false b h n = h
 
 pub record Queue (x : Stream) : Type 0 where
@@ -204,3 +204,20 @@ reservation s q = used-reservation s (used s q)
 
 pub bounded : (s : Session) → Sound s → (i : ℕ) → i < s .count → Bounded (s .worst) (horizon s) (streamAt s i)
 bounded s q = used-bounded s (used s q)
+
+-- an unused stream has the deadline 0
+pub unused-deadline : (x : Stream) → unusedStream x ≡ true → x .deadline .0 ≡ 0
+unfolding unusedStream
+unused-deadline x t = go (eqb (x .deadline .0) 0) refl
+  where
+    go : (b : Bool) → eqb (x .deadline .0) 0 ≡ b → x .deadline .0 ≡ 0
+    go true e = eqb-true (x .deadline .0) 0 e
+    go false e = absurd (false≢true (simp (e, and-false) at t))
+
+-- no deadline passes the session's end, used or not
+pub deadline-high : (s : Session) → Sound s → (i : ℕ) → i < 8 → streamAt s i .deadline .0 ≤ session-end
+deadline-high s q i l =
+    ⊎-elim
+    (λ (past : s .count ≤ i). let z = unused-deadline (streamAt s i) (q .others i past l) in omega arith)
+    (λ (here : i < s .count). q .each i here .deadline-high)
+    (le-or-lt (s .count) i)

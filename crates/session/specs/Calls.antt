@@ -7,7 +7,7 @@ use lib.Dec.{ltb, eqb}
 use Rattle.table.specs.Fold.{if, someTo}
 use Rattle.table.specs.Refusal.{given, _or-next_, outside}
 use Rattle.session.specs.Time.{session-end, duration-max, moment, diskTime}
-use Rattle.session.specs.Stream.{queue-max, arrived, without, charged, lapsed, moved}
+use Rattle.session.specs.Stream.{queue-max, closesPastEnd, arrived, without, charged, lapsed, moved}
 use Rattle.session.specs.Session.{streamAt, horizon, filledAt, someFilled, noSlot, latest, sound, withStreams, withStream, withDisk}
 use Rattle.session.specs.Choice.{nearestAt, chosen, expiring}
 use Rattle.session.specs.declared.Session.{Session}
@@ -34,12 +34,9 @@ noSuchStream s n = eqb n 0 || ltb (s .count) n
 unfoldable pub busy : Session → Bool
 busy s = not (eqb (s .served) 0)
 
--- 14 "a deadline in a move, would pass 1,000,000,000,000"
+-- some stream would close its job past the session's end
 unfoldable pub movePassesEnd : Session → Bool
-movePassesEnd s =
-    someTo
-    (λ i. eqb (streamAt s i .deadline .0) (horizon s) && ltb session-end (streamAt s i .deadline .0 + streamAt s i .period))
-    (s .count)
+movePassesEnd s = someTo (λ i. closesPastEnd (horizon s) (streamAt s i)) (s .count)
 
 -- "Arrival: 8, 9. Turn: 10, 14 (only in b). Own turn: 10, 8, 15. Done: 11, 12, 14. Clock: 10, 13, 14."
 unfoldable pub callRefusal : Session → Call → ℕ
@@ -171,11 +168,14 @@ streamOf k (Reply.Overlong i charge) = i
 streamOf k (Reply.Clock t) = 0
 streamOf k (Reply.Late t) = 0
 
--- one call, and the run of a list of calls: each answer is the session for the next
+-- what a verdict comes to, and so what a call is answered
+abbrev pub outcome : Session → Verdict → Answer
+outcome s v = record { session = apply s v; reply = replyTo s v }
+
 unfoldable pub answerTo : Session → Call → Answer
-answerTo s k =
-    let v = verdict s k in
-    record { session = apply s v; reply = replyTo s v }
+answerTo s k = outcome s (verdict s k)
+
+-- the run of a list of calls: each answer's session is that of the next call
 
 unfoldable pub run : Session → List Call → List Answer
 run s [] = []

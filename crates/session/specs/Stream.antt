@@ -115,6 +115,10 @@ closed now x =
 unfoldable pub moved : Clock → ℕ → Stream → Stream
 moved now h x = if (eqb (x .deadline .0) h) (closed now x) x
 
+-- 14 "a deadline in a move, would pass 1,000,000,000,000": that of a stream which closes its job
+abbrev pub closesPastEnd : ℕ → Stream → Bool
+closesPastEnd h x = eqb (x .deadline .0) h && ltb session-end (x .deadline .0 + x .period)
+
 -- "at most 16 places are queued"; "every unused cell is 0 (queue places past the length ..)". The array has sixteen cells.
 unfoldable pub soundQueue : List ℕ → ℕ → Bool
 soundQueue places queued =

@@ -1,7 +1,10 @@
 // A session: one disk, up to eight streams, and the calls that share it among them.
 mod call;
+mod calls;
 mod choice;
+mod effects;
 mod expiry;
+mod moves;
 mod soundness;
 mod stream;
 mod time;

@@ -3,7 +3,7 @@ use crate::time::Charge;
 use crate::time::Clock;
 ghost use mathlib.Core.Path.{_≡_};
 ghost use Prim.Native.Nat.{_≤_, _<_};
-ghost use Rattle.session.specs.Stream.{slots, filled, soundQueue, soundStream, zeroJob, unusedStream, arrived, closedUp, without, charged, lapsed, closed, moved};
+ghost use Rattle.session.specs.Stream.{slots, filled, soundQueue, soundStream, zeroJob, unusedStream, arrived, closedUp, without, charged, lapsed, closed, moved, closesPastEnd};
 ghost use Rattle.session.specs.Time.{session-end};
 ghost use Rattle.session.specs.Bounds.{Bounded};
 ghost use Rattle.session.specs.Opening.{freshStream};
@@ -187,6 +187,16 @@ impl Stream {
         } else {
             self
         }
+    }
+
+    // Whether it would close its job at the horizon, and its next deadline pass the session's end.
+    pub(crate) fn closes_past_end(self, h: Clock) -> bool
+        requires { ⌜ self .deadline .0 ≤ session-end ⌝ }
+        ensures { λ r. ⌜ r ≡ closesPastEnd (h .0) self ⌝ }
+    {
+        let due = self.deadline.is(h);
+        let next = self.deadline.plus(self.period);
+        due & next.is_past_end()
     }
 
     // With its job closed and the next one begun.

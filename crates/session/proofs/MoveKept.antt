@@ -1,11 +1,9 @@
 -- A move keeps a session sound: deadlines only grow, and each job that closes begins anew at the horizon that was.
-use mathlib.Core.Bool.{Bool, true, false, and-false, false≢true}
 use mathlib.Core.List.{map}
 use mathlib.Core.Path.{_≡_, refl, sym, _∙_, ap}
 use Prim.Native.Nat.{ℕ, _+_, _≤_}
 use native.Mathlib.Omega.{arith}
 use lib.ListN.{getD, length-map, List·getD-map}
-use lib.Dec.{eqb}
 use borrow.Author.Tests.{eqb-true, ne-eqb}
 use Rattle.table.specs.Fold.{if}
 use Rattle.table.specs.Ranges.{period-min}
@@ -13,13 +11,13 @@ use Rattle.table.proofs.Tests.{by-if}
 use Rattle.table.proofs.Folds.{smallest-is}
 use Rattle.table.proofs.Lists.{map-alike}
 use Rattle.session.specs.Time.{session-end}
-use Rattle.session.specs.Stream.{closed, moved, soundQueue, unusedStream}
+use Rattle.session.specs.Stream.{closed, moved, soundQueue}
 use Rattle.session.specs.Session.{noStream, streamAt, horizon, withStreams}
 use Rattle.session.specs.Calls.{move}
 use Rattle.session.specs.declared.time.Clock.{Clock}
 use Rattle.session.specs.declared.stream.Stream.{Stream}
 use Rattle.session.specs.declared.Session.{Session}
-use Rattle.session.proofs.Sound.{queue-of, of-queue, InOrder, Sound, admits, bounded}
+use Rattle.session.proofs.Sound.{queue-of, of-queue, InOrder, Sound, admits, bounded, unused-deadline}
 use Rattle.session.proofs.Grounds.{Grounds}
 use Rattle.session.proofs.Changes.{table-kept, idle-kept}
 
@@ -67,15 +65,6 @@ module _ (now : Clock) (h : ℕ) where
         expiries = q .expiries;
         queue = q .queue;
       })
-
--- an unused stream has the deadline 0
-unused-deadline : (x : Stream) → unusedStream x ≡ true → x .deadline .0 ≡ 0
-unfolding unusedStream
-unused-deadline x t = go (eqb (x .deadline .0) 0) refl
-  where
-    go : (b : Bool) → eqb (x .deadline .0) 0 ≡ b → x .deadline .0 ≡ 0
-    go true e = eqb-true (x .deadline .0) 0 e
-    go false e = absurd (false≢true (simp (e, and-false) at t))
 
 module _ (s : Session) (q : Sound s) where
   -- the horizon is a period at least

@@ -1,0 +1,72 @@
+-- `Session::call` answers as the call that it is handed.
+use Rattle.session.specs.Calls.{answerTo}
+use native.Mathlib.Omega.{arith}
+use mathlib.Core.Path.{_≡_, refl, sym, ap, _∙_}
+use borrow.Author.Needs.{needs}
+use Rattle.session.proofs.Session.call.Statement.{statement}
+use Rattle.session.proofs.Session.call.Tie as tie
+
+enum-known-call : tie.Need-enum-known-call
+enum-known-call c = search needs
+
+arrival-requires : tie.Need-arrival-requires
+arrival-requires c κs = search needs
+
+enum-told : tie.Need-enum-told
+enum-told c = search needs
+
+turn-requires : tie.Need-turn-requires
+turn-requires c κs = search needs
+
+enum-known-call-2 : tie.Need-enum-known-call-2
+enum-known-call-2 c = search needs
+
+own-turn-requires : tie.Need-own-turn-requires
+own-turn-requires c κs = search needs
+
+enum-known-call-3 : tie.Need-enum-known-call-3
+enum-known-call-3 c = search needs
+
+done-requires : tie.Need-done-requires
+done-requires c κs = search needs
+
+enum-known-call-4 : tie.Need-enum-known-call-4
+enum-known-call-4 c = search needs
+
+clock-requires : tie.Need-clock-requires
+clock-requires c κs = search needs
+
+returns : tie.Need-returns
+returns c = c .arrival .ensures ∙ ap (answerTo _) (sym (c .before .before .call .given .1))
+
+returns-2 : tie.Need-returns-2
+returns-2 c = c .turn .ensures ∙ ap (answerTo _) (sym (c .before .enum-told .given .1))
+
+returns-3 : tie.Need-returns-3
+returns-3 c = c .own-turn .ensures ∙ ap (answerTo _) (sym (c .before .before .call2 .given .1))
+
+returns-4 : tie.Need-returns-4
+returns-4 c = c .done .ensures ∙ ap (answerTo _) (sym (c .before .before .call3 .given .1))
+
+returns-5 : tie.Need-returns-5
+returns-5 c = c .clock .ensures ∙ ap (answerTo _) (sym (c .before .before .call4 .given .1))
+
+pub call-spec : {M : Type 1} → statement M
+call-spec =
+    tie.close
+    (tie.spec
+    enum-known-call
+    arrival-requires
+    enum-told
+    turn-requires
+    enum-known-call-2
+    own-turn-requires
+    enum-known-call-3
+    done-requires
+    enum-known-call-4
+    clock-requires
+    returns
+    returns-2
+    returns-3
+    returns-4
+    returns-5)

@@ -1,0 +1,35 @@
+-- `append` answers an arrival.
+use Rattle.session.specs.Stream.{arrived}
+use Rattle.session.specs.Calls.{apply, replyTo}
+use native.Mathlib.Omega.{arith}
+use mathlib.Core.Path.{_≡_, refl, sym, ap, _∙_}
+use borrow.Author.Needs.{needs}
+use Rattle.session.proofs.effects.append.Statement.{statement}
+use Rattle.session.proofs.effects.append.Tie as tie
+
+mul-x : tie.Need-mul-x
+mul-x c = search needs
+
+element-copy-out-x : tie.Need-element-copy-out-x
+element-copy-out-x c = search needs
+
+arrived-requires : tie.Need-arrived-requires
+arrived-requires c κs = search needs
+
+mul-y : tie.Need-mul-y
+mul-y c = search needs
+
+element-set-from-y : tie.Need-element-set-from-y
+element-set-from-y c = search needs
+
+add-t17 : tie.Need-add-t17
+add-t17 c = search needs
+
+returns : tie.Need-returns
+unfolding apply replyTo arrived
+returns c = rw (c .arrived .ensures)
+
+pub append-spec : {M : Type 1} → statement M
+append-spec =
+    tie.close
+    (tie.spec mul-x element-copy-out-x arrived-requires mul-y element-set-from-y add-t17 returns)

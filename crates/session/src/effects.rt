@@ -1,0 +1,150 @@
+// What each verdict does to the session, and its reply.
+ghost use mathlib.Core.Path.{_≡_};
+ghost use Prim.Native.Nat.{_+_, _≤_, _<_};
+ghost use Rattle.session.specs.Time.{moment, session-end};
+ghost use Rattle.session.specs.Session.{streamAt, latest};
+ghost use Rattle.session.specs.Calls.{refuse, append, send, wait, expire, finish, set-clock, outcome};
+use crate::Answer;
+use crate::Charge;
+use crate::Clock;
+use crate::Reply;
+use crate::Session;
+
+// A refusal hands back the session that it was given.
+pub(crate) fn refuse(s: Session, number: u64) -> Answer
+    ensures { λ r. ⌜ r ≡ outcome s (refuse number) ⌝ }
+{
+    let reply = Reply::Refused { number: number };
+    Answer {
+        session: s,
+        reply: reply,
+    }
+}
+
+// A request is put at the end of the stream's queue.
+pub(crate) fn append(s: Session, i: usize, place: u64) -> Answer
+    requires { ⌜ (i < 8) × (streamAt s i .queued < 16) ⌝ }
+    ensures { λ r. ⌜ r ≡ outcome s (append i place) ⌝ }
+{
+    let x = s.streams[i];
+    let y = x.arrived(place);
+    let mut t = s;
+    t.streams[i] = y;
+    let reply = Reply::Arrived {
+        stream: i as u64 + 1,
+        queued: y.queued as u64,
+    };
+    Answer {
+        session: t,
+        reply: reply,
+    }
+}
+
+// The request at index j of the stream's queue goes to the disk.
+pub(crate) fn send(s: Session, i: usize, j: usize) -> Answer
+    requires { ⌜ (i < 8) × (j < 16) × (1 ≤ streamAt s i .queued) ⌝ }
+    ensures { λ r. ⌜ r ≡ outcome s (send i j) ⌝ }
+{
+    let x = s.streams[i];
+    let places = x.places;
+    let place = places[j];
+    let y = x.without(j);
+    let mut t = s;
+    t.streams[i] = y;
+    t.head = place;
+    t.served = i + 1;
+    t.place = place;
+    let reply = Reply::Sent {
+        stream: i as u64 + 1,
+        place: place,
+    };
+    Answer {
+        session: t,
+        reply: reply,
+    }
+}
+
+// The stream has only empty slots, and there is time until the latest safe moment.
+pub(crate) fn wait(s: Session, until: Clock) -> Answer
+    requires { ⌜ until ≡ moment (latest s) ⌝ }
+    ensures { λ r. ⌜ r ≡ outcome s wait ⌝ }
+{
+    let reply = Reply::Wait { until: until };
+    Answer {
+        session: s,
+        reply: reply,
+    }
+}
+
+// The stream loses a slot, and is charged the worst-case time for it.
+pub(crate) fn expire(s: Session, i: usize) -> Answer
+    requires { ⌜ (i < 8) × (streamAt s i .charge .0 ≤ session-end) × (streamAt s i .expired ≤ session-end) ⌝ }
+    ensures { λ r. ⌜ r ≡ outcome s (expire i) ⌝ }
+{
+    let x = s.streams[i];
+    let y = x.lapsed(s.worst);
+    let charge = y.charge;
+    let mut t = s;
+    t.streams[i] = y;
+    let reply = Reply::Expired {
+        stream: i as u64 + 1,
+        charge: charge,
+    };
+    Answer {
+        session: t,
+        reply: reply,
+    }
+}
+
+// The request at the disk has ended: clock and charge both grow by its duration, and the disk is free.
+pub(crate) fn finish(s: Session, i: usize, duration: Charge) -> Answer
+    requires { ⌜ (i < 8) × (streamAt s i .charge .0 ≤ session-end) × (s .clock .0 ≤ session-end) × (duration .0 ≤ session-end) ⌝ }
+    ensures { λ r. ⌜ r ≡ outcome s (finish i (duration .0)) ⌝ }
+{
+    let x = s.streams[i];
+    let y = x.charged(duration);
+    let charge = y.charge;
+    let now = s.clock.after(duration);
+    let mut t = s;
+    t.streams[i] = y;
+    t.clock = now;
+    t.served = 0;
+    t.place = 0;
+    let stream = i as u64 + 1;
+    let overlong = duration.is_above(Charge::of(s.worst as u64));
+    let reply = if overlong {
+        Reply::Overlong {
+            stream: stream,
+            charge: charge,
+        }
+    } else {
+        Reply::Done {
+            stream: stream,
+            charge: charge,
+        }
+    };
+    Answer {
+        session: t,
+        reply: reply,
+    }
+}
+
+// The clock becomes the time reported.
+pub(crate) fn set_clock(s: Session, time: Clock, until: Clock) -> Answer
+    requires { ⌜ until ≡ moment (latest s) ⌝ }
+    ensures { λ r. ⌜ r ≡ outcome s (set-clock (time .0)) ⌝ }
+{
+    let after_latest = time.is_after(until);
+    let after_now = time.is_after(s.clock);
+    let mut t = s;
+    t.clock = time;
+    let reply = if after_latest & after_now {
+        Reply::Late { time: time }
+    } else {
+        Reply::Clock { time: time }
+    };
+    Answer {
+        session: t,
+        reply: reply,
+    }
+}

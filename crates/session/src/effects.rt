@@ -28,14 +28,14 @@ pub(crate) fn append(s: Session, i: usize, place: u64) -> Answer
 {
     let x = s.streams[i];
     let y = x.arrived(place);
-    let mut t = s;
-    t.streams[i] = y;
+    let mut queued = s;
+    queued.streams[i] = y;
     let reply = Reply::Arrived {
         stream: i as u64 + 1,
         queued: y.queued as u64,
     };
     Answer {
-        session: t,
+        session: queued,
         reply: reply,
     }
 }
@@ -49,17 +49,17 @@ pub(crate) fn send(s: Session, i: usize, j: usize) -> Answer
     let places = x.places;
     let place = places[j];
     let y = x.without(j);
-    let mut t = s;
-    t.streams[i] = y;
-    t.head = place;
-    t.served = i + 1;
-    t.place = place;
+    let mut sent = s;
+    sent.streams[i] = y;
+    sent.head = place;
+    sent.served = i + 1;
+    sent.place = place;
     let reply = Reply::Sent {
         stream: i as u64 + 1,
         place: place,
     };
     Answer {
-        session: t,
+        session: sent,
         reply: reply,
     }
 }
@@ -84,14 +84,14 @@ pub(crate) fn expire(s: Session, i: usize) -> Answer
     let x = s.streams[i];
     let y = x.lapsed(s.worst);
     let charge = y.charge;
-    let mut t = s;
-    t.streams[i] = y;
+    let mut lapsed = s;
+    lapsed.streams[i] = y;
     let reply = Reply::Expired {
         stream: i as u64 + 1,
         charge: charge,
     };
     Answer {
-        session: t,
+        session: lapsed,
         reply: reply,
     }
 }
@@ -101,18 +101,18 @@ pub(crate) fn finish(s: Session, i: usize, duration: Charge) -> Answer
     requires { ⌜ (i < 8) × (streamAt s i .charge .0 ≤ session-end) × (s .clock .0 ≤ session-end) × (duration .0 ≤ session-end) ⌝ }
     ensures { λ r. ⌜ r ≡ outcome s (finish i (duration .0)) ⌝ }
 {
+    let worst = Charge::of(s.worst as u64);
     let x = s.streams[i];
     let y = x.charged(duration);
     let charge = y.charge;
     let now = s.clock.after(duration);
-    let mut t = s;
-    t.streams[i] = y;
-    t.clock = now;
-    t.served = 0;
-    t.place = 0;
+    let mut ended = s;
+    ended.streams[i] = y;
+    ended.clock = now;
+    ended.served = 0;
+    ended.place = 0;
     let stream = i as u64 + 1;
-    let overlong = duration.is_above(Charge::of(s.worst as u64));
-    let reply = if overlong {
+    let reply = if duration.is_above(worst) {
         Reply::Overlong {
             stream: stream,
             charge: charge,
@@ -124,7 +124,7 @@ pub(crate) fn finish(s: Session, i: usize, duration: Charge) -> Answer
         }
     };
     Answer {
-        session: t,
+        session: ended,
         reply: reply,
     }
 }
@@ -136,15 +136,15 @@ pub(crate) fn set_clock(s: Session, time: Clock, until: Clock) -> Answer
 {
     let after_latest = time.is_after(until);
     let after_now = time.is_after(s.clock);
-    let mut t = s;
-    t.clock = time;
+    let mut told = s;
+    told.clock = time;
     let reply = if after_latest & after_now {
         Reply::Late { time: time }
     } else {
         Reply::Clock { time: time }
     };
     Answer {
-        session: t,
+        session: told,
         reply: reply,
     }
 }

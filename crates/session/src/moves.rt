@@ -37,12 +37,12 @@ pub(crate) fn move_on(s: Session, h: Clock) -> Answer
 {
     let streams = s.streams;
     let after = moved_streams(streams, s.clock, h);
-    let mut t = s;
-    t.streams = after;
-    let next = horizon(t);
+    let mut moved = s;
+    moved.streams = after;
+    let next = horizon(moved);
     let reply = Reply::Moved { horizon: next };
     Answer {
-        session: t,
+        session: moved,
         reply: reply,
     }
 }

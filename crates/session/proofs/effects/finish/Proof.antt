@@ -8,6 +8,12 @@ use borrow.Author.Needs.{needs}
 use Rattle.session.proofs.effects.finish.Statement.{statement}
 use Rattle.session.proofs.effects.finish.Tie as tie
 
+cast-of : tie.Need-cast-of
+cast-of c = search needs
+
+of-requires : tie.Need-of-requires
+of-requires c κs = search needs
+
 mul-x : tie.Need-mul-x
 mul-x c = search needs
 
@@ -29,31 +35,27 @@ element-set-from-y c = search needs
 add-stream : tie.Need-add-stream
 add-stream c = search needs
 
-cast-of : tie.Need-cast-of
-cast-of c = search needs
-
-of-requires : tie.Need-of-requires
-of-requires c κs = search needs
-
 is-above-requires : tie.Need-is-above-requires
 is-above-requires c κs = search needs
 
 returns : tie.Need-returns
 unfolding apply replyTo charged overlong if
 returns c =
-    let test = rw (c .before .before .of .ensures) at (sym (c .before .is-above .ensures) ∙ c .if1 .taken) in
-    rw (c .before .before .before .after .ensures, c .before .before .before .before .before .before .charged .ensures, test)
+    let test = rw (c .before .before .before .before .before .before .before .of .ensures) at (sym (c .before .is-above .ensures) ∙ c .if1 .taken) in
+    rw (c .before .before .after .ensures, c .before .before .before .before .before .charged .ensures, test)
 
 returns-2 : tie.Need-returns-2
 unfolding apply replyTo charged overlong if
 returns-2 c =
-    let test = rw (c .before .before .of .ensures) at (sym (c .before .is-above .ensures) ∙ c .if1 .left) in
-    rw (c .before .before .before .after .ensures, c .before .before .before .before .before .before .charged .ensures, test)
+    let test = rw (c .before .before .before .before .before .before .before .of .ensures) at (sym (c .before .is-above .ensures) ∙ c .if1 .left) in
+    rw (c .before .before .after .ensures, c .before .before .before .before .before .charged .ensures, test)
 
 pub finish-spec : {M : Type 1} → statement M
 finish-spec =
     tie.close
     (tie.spec
+    cast-of
+    of-requires
     mul-x
     element-copy-out-x
     charged-requires
@@ -61,8 +63,6 @@ finish-spec =
     mul-y
     element-set-from-y
     add-stream
-    cast-of
-    of-requires
     is-above-requires
     returns
     returns-2)

@@ -27,8 +27,8 @@ mul-y c = search needs
 element-set-from-y : tie.Need-element-set-from-y
 element-set-from-y c = search needs
 
-add-t : tie.Need-add-t
-add-t c = search needs
+add-sent : tie.Need-add-sent
+add-sent c = search needs
 
 add-t21 : tie.Need-add-t21
 add-t21 c = search needs
@@ -48,6 +48,6 @@ send-spec =
     without-requires
     mul-y
     element-set-from-y
-    add-t
+    add-sent
     add-t21
     returns)

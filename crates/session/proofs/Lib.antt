@@ -17,3 +17,4 @@ pub mod MoveKept
 pub mod Keeps
 pub mod Opened
 pub mod Answers
+pub mod Determined

@@ -4,10 +4,10 @@ use mathlib.Core.Path.{refl}
 use Prim.Native.Nat.{ℕ, _≤_, _<_}
 use native.Mathlib.Omega.{arith}
 use lib.ListN.{getD}
-use lib.Dec.{ltb, eqb}
+use lib.Dec.{ltb}
 use borrow.Author.Tests.{ltb-true, ltb-false}
 use Rattle.table.proofs.Folds.{some-positive}
-use Rattle.session.specs.Stream.{Fraction, less, same}
+use Rattle.session.specs.Stream.{Fraction}
 use Rattle.session.specs.Session.{streamAt, slotsAt, filledAt, someFilled, noSlot}
 use Rattle.session.specs.Choice.{distance, nearest, distanceAt, sentBefore, chosen, expiryOf, expiresFirst, expiresBefore, expiring}
 use Rattle.session.specs.Laws.{ChosenGoesFirst, NearestIsFirst, ExpiringGoesFirst}
@@ -22,15 +22,14 @@ sent-ranks : (s : Session) (n : ℕ) → Ranks (sentBefore s) n
 unfolding sentBefore
 sent-ranks s n =
     let due : ℕ → ℕ = λ i. streamAt s i .deadline .0 in
-    then-ranks (λ a b. ltb (due a) (due b)) (λ a b. eqb (due a) (due b)) (λ a b. ltb (distanceAt s a) (distanceAt s b)) n
-    (number-ranks due n)
-    (number-ties due n)
-    (number-ranks (distanceAt s) n)
+    then-ranks (number-ranks due n) (number-ties due n) (number-ranks (distanceAt s) n)
 
+-- the stream served is the first of those with a filled slot
 pub chosen-goes-first : ChosenGoesFirst
 unfolding someFilled chosen
 chosen-goes-first s some = goes-first (filledAt s) (sentBefore s) (s .count) (sent-ranks s (s .count)) some
 
+-- its request is the nearest of its set, and of equals the earliest
 pub nearest-is-first : NearestIsFirst
 unfolding nearest
 nearest-is-first head places m j l =
@@ -44,12 +43,10 @@ unfolding expiresFirst
 expiry-ranks s q =
     let due : ℕ → ℕ = λ i. streamAt s i .deadline .0 in
     let start : ℕ → Fraction = λ i. expiryOf (streamAt s i) in
-    let whole : (i : ℕ) → i < s .count → 1 ≤ start i .below = λ i l. bounded s q i l .budget-low in
-    then-ranks (λ a b. less (start a) (start b)) (λ a b. same (start a) (start b)) (λ a b. ltb (due a) (due b)) (s .count)
-    (fraction-ranks start (s .count) whole)
-    (fraction-ties start (s .count) whole)
-    (number-ranks due (s .count))
+    let budgets : (i : ℕ) → i < s .count → 1 ≤ start i .below = λ i l. bounded s q i l .budget-low in
+    then-ranks (fraction-ranks start (s .count) budgets) (fraction-ties start (s .count) budgets) (number-ranks due (s .count))
 
+-- the stream that loses a slot is the first of those with one
 pub expiring-goes-first : ExpiringGoesFirst
 unfolding noSlot expiring
 expiring-goes-first s t left =

@@ -6,7 +6,7 @@ use native.Mathlib.Nat.{not-suc-le-zero}
 use native.Mathlib.Omega.{arith}
 use lib.Dec.{leb}
 use borrow.Author.Tests.{le-leb}
-use Rattle.table.specs.Fold.{if, someTo}
+use Rattle.table.specs.Fold.{someTo}
 use Rattle.table.proofs.Tests.{by-if}
 use Rattle.table.proofs.Folds.{at-or-below, some-none}
 use Rattle.session.specs.Choice.{firstBest}
@@ -55,6 +55,7 @@ module _ (passes : ℕ → Bool) (beats : ℕ → ℕ → Bool) (n : ℕ) (o : R
   stays : (k b : ℕ) → b < k → beats k b ≡ false → ((i : ℕ) → i < k → Leads b i) → (i : ℕ) → i < suc k → Leads b i
   stays k b lb lost old i l = at-or-below (Leads b) i l (λ p. (lost, λ u. absurd (omega arith))) (old i)
 
+  -- the best of those below k goes before them all
   pub best-leads : (k : ℕ) → k ≤ n → (i : ℕ) → i < k → Leads (best k) i
   best-leads zero le = λ i l. absurd (not-suc-le-zero l)
   best-leads (suc k) le = go (passes k) refl (someTo passes k) refl (best-leads k (omega arith))

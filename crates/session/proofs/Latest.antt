@@ -8,6 +8,7 @@ use Rattle.session.specs.Laws.{LatestRoundsOnce}
 use Rattle.session.proofs.Sound.{sound-of, admits}
 use Rattle.session.proofs.Remainders.{parts-low}
 
+-- the parts are at most h times H, so the one division is all that rounds
 pub latest-rounds-once : LatestRoundsOnce
 unfolding latest
 latest-rounds-once s t =

@@ -49,13 +49,13 @@ NeverUnsound =
     (t : Table) (before : List Call) (k : Call) → admissionOf t ≡ 0
     → numberOf (answerTo (after (openingOf t .session) before) k .reply) ≡ 31 → ⊥
 
--- "Latest safe moment L = h less the sum of all remainders, rounded down once": L and the sum of all remainders, in units of 1 / H, come to at most h, and L + 1 with it to more than h. The charges stand on the side of h, so that no subtraction cuts anything off.
+-- "Latest safe moment L = h less the sum of all remainders, rounded down once": L and the sum of all remainders come to at most h, and L + 1 with it to more than h. All is scaled by H, and the charges stand on the side of h, so that no subtraction cuts anything off.
 abbrev pub LatestRoundsOnce : Type 0
 LatestRoundsOnce =
     (s : Session) → sound s ≡ true
-    → let given = (horizon s + sumTo (λ i. streamAt s i .charge .0) (s .count)) * s .span in
+    → let scaled = (horizon s + sumTo (λ i. streamAt s i .charge .0) (s .count)) * s .span in
     let parts = sumTo (scaledPart s) (s .count) in
-    (latest s * s .span + parts ≤ given) × (given < (latest s + 1) * s .span + parts)
+    (latest s * s .span + parts ≤ scaled) × (scaled < (latest s + 1) * s .span + parts)
 
 -- Of the indices below n that have one or more, `first` goes first: none goes before it, and it goes before each lower one, so that of equals the lowest is taken.
 abbrev pub GoesFirst : (ℕ → ℕ) → (ℕ → ℕ → Bool) → ℕ → ℕ → Type 0

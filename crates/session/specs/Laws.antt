@@ -57,6 +57,13 @@ LatestRoundsOnce =
     let parts = sumTo (scaledPart s) (s .count) in
     (latest s * s .span + parts ≤ scaled) × (scaled < (latest s + 1) * s .span + parts)
 
+-- Each of those parts is exact: over H it is (h − r) × g / p, since p divides H and no release is after h.
+abbrev pub PartsAreExact : Type 0
+PartsAreExact =
+    (s : Session) → sound s ≡ true → (i : ℕ) → i < s .count
+    → (streamAt s i .release .0 ≤ horizon s)
+    × (scaledPart s i * streamAt s i .period ≡ (horizon s - streamAt s i .release .0) * streamAt s i .granted .0 * s .span)
+
 -- Of the indices below n that have one or more, `first` goes first: none goes before it, and it goes before each lower one, so that of equals the lowest is taken.
 abbrev pub GoesFirst : (ℕ → ℕ) → (ℕ → ℕ → Bool) → ℕ → ℕ → Type 0
 GoesFirst has before n first =

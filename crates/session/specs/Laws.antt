@@ -49,6 +49,10 @@ NeverUnsound =
     (t : Table) (before : List Call) (k : Call) → admissionOf t ≡ 0
     → numberOf (answerTo (after (openingOf t .session) before) k .reply) ≡ 31 → ⊥
 
+-- "the present time changes nothing": a clock report of it hands back the session as it was, whatever the reply
+abbrev pub PresentTimeChangesNothing : Type 0
+PresentTimeChangesNothing = (s : Session) → answerTo s (Call.Clock (s .clock .0)) .session ≡ s
+
 -- "Latest safe moment L = h less the sum of all remainders, rounded down once": L and the sum of all remainders come to at most h, and L + 1 with it to more than h. All is scaled by H, and the charges stand on the side of h, so that no subtraction cuts anything off.
 abbrev pub LatestRoundsOnce : Type 0
 LatestRoundsOnce =

@@ -11,12 +11,13 @@ use Rattle.table.proofs.Folds.{all-at}
 use Rattle.session.specs.Stream.{filled}
 use Rattle.session.specs.Session.{streamAt, slotsAt, filledAt, someFilled, noSlot, latest, sound}
 use Rattle.session.specs.Choice.{firstBest, nearestAt, sentBefore, chosen, expiring}
-use Rattle.session.specs.Calls.{refuse, send, move, wait, expire, busy, movePassesEnd, callRefusal, refusal, turnEffect, effect, ruled, verdict, outcome, answerTo}
+use Rattle.session.specs.Calls.{refuse, set-clock, send, move, wait, expire, busy, movePassesEnd, callRefusal, refusal, turnEffect, effect, ruled, verdict, apply, outcome, answerTo}
+use Rattle.session.specs.Laws.{PresentTimeChangesNothing}
 use Rattle.session.specs.declared.Session.{Session}
 use Rattle.session.specs.declared.call.Call.{Call}
 use Rattle.session.proofs.Sound.{Sound, admits, bounded}
 use Rattle.session.proofs.Best.{best-positive}
-use Rattle.session.proofs.Grounds.{Grounds}
+use Rattle.session.proofs.Grounds.{Grounds, ruled-by}
 
 module _ (s : Session) (k : Call) where
   pub unsound-answer : sound s ≡ false → answerTo s k ≡ outcome s (refuse 31)
@@ -77,3 +78,8 @@ module _ (s : Session) (ok : sound s ≡ true) (idle : s .served ≡ 0) where
   pub turn-ends : noSlot s ≡ true → movePassesEnd s ≡ true → answerTo s Call.Turn ≡ outcome s (refuse 14)
   unfolding callRefusal given _or-next_ busy
   turn-ends over passes = refused s Call.Turn ok 13 (rw (eq-eqb _ _ idle, over, passes))
+
+pub present-time-changes-nothing : PresentTimeChangesNothing
+unfolding answerTo verdict effect apply
+present-time-changes-nothing s =
+    ruled-by (λ v. apply s v ≡ s) (refusal s (Call.Clock (s .clock .0))) (set-clock (s .clock .0)) refl (λ z. refl)

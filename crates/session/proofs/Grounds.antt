@@ -69,7 +69,7 @@ served-of s h at-disk =
     (leb-true _ _ (a .0), leb-true 1 (slotsAt s (s .served - 1)) (a .1))
 
 -- the nearest of some requests is one of them
-nearest-in : (head : ℕ) (places : List ℕ) (m : ℕ) → 1 ≤ m → nearest head places m < m
+pub nearest-in : (head : ℕ) (places : List ℕ) (m : ℕ) → 1 ≤ m → nearest head places m < m
 unfolding nearest
 nearest-in head places zero h = absurd (not-suc-le-zero h)
 nearest-in head places (suc m) h = suc-le-suc-iff .1 (best-low _ _ m)

@@ -7,10 +7,14 @@ pub mod Picks
 pub mod Fits
 pub mod Sound
 pub mod Best
+pub mod Ranks
+pub mod First
 pub mod Remainders
+pub mod Latest
 pub mod Fractions
 pub mod Lapses
 pub mod Grounds
+pub mod Choices
 pub mod Queues
 pub mod Changes
 pub mod MoveKept

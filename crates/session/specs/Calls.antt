@@ -8,7 +8,7 @@ use Rattle.table.specs.Fold.{if, someTo}
 use Rattle.table.specs.Refusal.{given, _or-next_, outside}
 use Rattle.session.specs.Time.{session-end, duration-max, moment, diskTime}
 use Rattle.session.specs.Stream.{queue-max, closesPastEnd, arrived, without, charged, lapsed, moved}
-use Rattle.session.specs.Session.{streamAt, horizon, filledAt, someFilled, noSlot, latest, sound, withStreams, withStream, withDisk}
+use Rattle.session.specs.Session.{streamAt, horizon, inSet, someFilled, noSlot, latest, sound, withStreams, withStream, withDisk}
 use Rattle.session.specs.Choice.{nearestAt, chosen, expiring}
 use Rattle.session.specs.declared.Session.{Session}
 use Rattle.session.specs.declared.call.Call.{Call}
@@ -49,7 +49,7 @@ callRefusal s Call.Turn =
 callRefusal s (Call.OwnTurn n j) =
     given (busy s) 10
     or-next given (noSuchStream s n) 8
-    or-next given (not (ltb j (filledAt s (n - 1)))) 15
+    or-next given (not (inSet s (n - 1) j)) 15
 callRefusal s (Call.Done a) =
     given (not (busy s)) 11
     or-next given (outside 1 duration-max a) 12
@@ -79,6 +79,7 @@ effect s (Call.OwnTurn n j) = send (n - 1) j
 effect s (Call.Done a) = finish (s .served - 1) a
 effect s (Call.Clock t) = set-clock t
 
+-- the verdict on a call: its first refusal, or what it comes to
 unfoldable pub ruled : ℕ → Verdict → Verdict
 ruled zero v = v
 ruled (suc n) v = refuse (suc n)

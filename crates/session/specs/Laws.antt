@@ -1,14 +1,16 @@
 -- What is proved of the rules.
 use mathlib.Core.Path.{_≡_}
-use mathlib.Core.Bool.{true, false}
+use mathlib.Core.Bool.{Bool, true, false}
 use mathlib.Core.List.{List, map}
 use Prim.Native.Nat.{ℕ, suc, _+_, _-_, _*_, _≤_, _<_}
+use lib.ListN.{getD}
 use lib.Dec.{leb}
-use Rattle.table.specs.Fold.{countTo}
+use Rattle.table.specs.Fold.{sumTo, countTo}
 use Rattle.table.specs.Admission.{admissionOf}
 use Rattle.table.specs.declared.Table.{Table}
 use Rattle.session.specs.Stream.{slots, microDeadline, shifted, charged}
-use Rattle.session.specs.Session.{sound}
+use Rattle.session.specs.Session.{streamAt, horizon, slotsAt, filledAt, someFilled, noSlot, scaledPart, latest, sound}
+use Rattle.session.specs.Choice.{distance, nearest, sentBefore, chosen, expiresBefore, expiring}
 use Rattle.session.specs.Calls.{answerTo, after, numberOf}
 use Rattle.session.specs.Opening.{zeroSession, openingOf}
 use Rattle.session.specs.Cases.{Case, cases}
@@ -46,3 +48,47 @@ abbrev pub NeverUnsound : Type 0
 NeverUnsound =
     (t : Table) (before : List Call) (k : Call) → admissionOf t ≡ 0
     → numberOf (answerTo (after (openingOf t .session) before) k .reply) ≡ 31 → ⊥
+
+-- "the present time changes nothing": a clock report of it hands back the session as it was, whatever the reply
+abbrev pub PresentTimeChangesNothing : Type 0
+PresentTimeChangesNothing = (s : Session) → answerTo s (Call.Clock (s .clock .0)) .session ≡ s
+
+-- "Latest safe moment L = h less the sum of all remainders, rounded down once": L and the sum of all remainders come to at most h, and L + 1 with it to more than h. All is scaled by H, and the charges stand on the side of h, so that no subtraction cuts anything off.
+abbrev pub LatestRoundsOnce : Type 0
+LatestRoundsOnce =
+    (s : Session) → sound s ≡ true
+    → let scaled = (horizon s + sumTo (λ i. streamAt s i .charge .0) (s .count)) * s .span in
+    let parts = sumTo (scaledPart s) (s .count) in
+    (latest s * s .span + parts ≤ scaled) × (scaled < (latest s + 1) * s .span + parts)
+
+-- Each of those parts is exact: over H it is (h − r) × g / p, since p divides H and no release is after h.
+abbrev pub PartsAreExact : Type 0
+PartsAreExact =
+    (s : Session) → sound s ≡ true → (i : ℕ) → i < s .count
+    → (streamAt s i .release .0 ≤ horizon s)
+    × (scaledPart s i * streamAt s i .period ≡ (horizon s - streamAt s i .release .0) * streamAt s i .granted .0 * s .span)
+
+-- Of the indices below n that have one or more, `first` goes first: none goes before it, and it goes before each lower one, so that of equals the lowest is taken.
+abbrev pub GoesFirst : (ℕ → ℕ) → (ℕ → ℕ → Bool) → ℕ → ℕ → Type 0
+GoesFirst has before n first =
+    (first < n)
+    × (1 ≤ has first)
+    × ((i : ℕ) → i < n → 1 ≤ has i → (before i first ≡ false) × (i < first → before first i ≡ true))
+
+-- The stream that a turn serves is the first of those with a filled slot: by deadline, then by the distance from the head, then by number.
+abbrev pub ChosenGoesFirst : Type 0
+ChosenGoesFirst = (s : Session) → someFilled s ≡ true → GoesFirst (filledAt s) (sentBefore s) (s .count) (chosen s)
+
+-- Its request is the first of its set: none of the first m places of a queue is nearer the head, and each earlier one is further from it.
+abbrev pub NearestIsFirst : Type 0
+NearestIsFirst =
+    (head : ℕ) (places : List ℕ) (m j : ℕ) → j < m
+    → let first = nearest head places m in
+    (first < m)
+    × (distance head (getD places first 0) ≤ distance head (getD places j 0))
+    × (j < first → distance head (getD places first 0) < distance head (getD places j 0))
+
+-- The stream that loses a slot is the first of those with a slot: by r + c × p / g, exactly, then by deadline, then by number.
+abbrev pub ExpiringGoesFirst : Type 0
+ExpiringGoesFirst =
+    (s : Session) → sound s ≡ true → noSlot s ≡ false → GoesFirst (slotsAt s) (expiresBefore s) (s .count) (expiring s)

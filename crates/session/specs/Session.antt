@@ -38,11 +38,15 @@ streamAt s i = getD (s .streams) i noStream
 unfoldable pub horizon : Session → ℕ
 horizon s = smallestTo (λ i. streamAt s i .deadline .0) (s .count)
 
+-- its slots, its filled slots, and whether its queued request j is in the set: "the first so many queued requests are the set"
 abbrev pub slotsAt : Session → ℕ → ℕ
 slotsAt s i = slots (s .worst) (horizon s) (streamAt s i)
 
 abbrev pub filledAt : Session → ℕ → ℕ
 filledAt s i = filled (s .worst) (horizon s) (streamAt s i)
+
+abbrev pub inSet : Session → ℕ → ℕ → Bool
+inSet s i j = ltb j (filledAt s i)
 
 -- "some slot is filled"
 unfoldable pub someFilled : Session → Bool
@@ -91,7 +95,7 @@ soundRest streams count =
 unfoldable pub usedStreams : Session → Bool
 usedStreams s = allTo (λ i. soundStream (s .worst) (s .padding) (horizon s) (streamAt s i)) (s .count)
 
--- "A session is sound if its table numbers are ones that opening admits; [...]"
+-- "A session is sound if its table numbers are ones that opening admits", and the rest of that sentence, which stands above part by part
 unfoldable pub sound : Session → Bool
 sound s =
     eqb (admissionOf (tableOf s)) 0

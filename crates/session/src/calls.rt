@@ -193,9 +193,11 @@ fn take_idle_turn(s: Session, h: Clock) -> Answer
     ensures { λ r. ⌜ r ≡ answerTo s Call.Turn ⌝ }
 {
     let lapse = to_expire(s, h);
-    if lapse.found {
+    let empty_slot = lapse.found;
+    if empty_slot {
         let until = latest(s, h);
-        if until.is_after(s.clock) {
+        let early = until.is_after(s.clock);
+        if early {
             return wait(s, until);
         }
         return expire(s, lapse.stream);

@@ -1,6 +1,5 @@
 -- Bounds on the numbers of a sound session, by which 64 bits are enough.
-use mathlib.Core.Path.{_≡_}
-use Prim.Native.Nat.{ℕ, _+_, _-_, _*_, _/_, _%_, _^_, _≤_, _<_}
+use Prim.Native.Nat.{ℕ, _+_, _-_, _*_, _/_, _%_, _^_, _≤_}
 use native.Mathlib.Nat.{mul-le-mul, lt-of-le-of-lt, div-le-self, mod-lt, le-mul-of-pos-right}
 use native.Mathlib.Omega.{arith}
 use lib.Dec.{T, ltb, lit<}

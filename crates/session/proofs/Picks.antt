@@ -1,14 +1,13 @@
 -- The search for the request to send, step by step.
 use mathlib.Core.Bool.{Bool, true, false, not, _&&_, _||_, or-true, or-false, false≢true}
 use mathlib.Core.List.{List}
-use mathlib.Core.Path.{_≡_, refl, sym, _∙_, ap, subst}
-use Prim.Native.Nat.{ℕ, zero, suc, _≤_, _<_}
+use mathlib.Core.Path.{_≡_, refl, sym, _∙_, ap}
+use Prim.Native.Nat.{ℕ, zero, suc}
 use native.Mathlib.Omega.{arith}
 use lib.ListN.{getD}
 use lib.Dec.{leb, ltb, eqb}
 use borrow.Author.Tests.{eq-eqb, ne-eqb, le-leb, lt-leb}
 use Rattle.table.specs.Fold.{if, someTo}
-use Rattle.session.specs.Stream.{filled}
 use Rattle.session.specs.Session.{streamAt, horizon, filledAt}
 use Rattle.session.specs.Choice.{firstBest, distance, nearest, nearestAt, distanceAt, sentBefore}
 use Rattle.session.specs.Search.{near, nearer, considered}

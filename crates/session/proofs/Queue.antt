@@ -1,12 +1,11 @@
 -- A queue that closes up over the place at j, cell by cell.
 use mathlib.Core.List.{List, [], _∷_, _++_, map-id}
-use mathlib.Core.Path.{_≡_, refl, sym, _∙_, ap, subst}
+use mathlib.Core.Path.{_≡_, sym, _∙_, ap, subst}
 use Prim.Native.Nat.{ℕ, suc, _+_, _≤_, _<_}
 use native.Mathlib.Numerals.{add-one}
 use native.Mathlib.Omega.{arith}
 use lib.ListN.{length, getD, take, drop, set, List·getD-eq-default}
 use lib.Seq.{length-take-le, take-at}
-use Rattle.table.specs.Fold.{listTo}
 use Rattle.table.proofs.Lists.{Filled, filled-more, filled-all, length-closed-up, getD-closed-up, front-mapped, relisted}
 use Rattle.session.specs.Stream.{closedUp}
 

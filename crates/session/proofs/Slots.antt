@@ -1,13 +1,12 @@
 -- The number of slots is the document's count, and the micro-deadlines move as the document says.
 use mathlib.Core.Bool.{Bool, true, false}
-use mathlib.Core.Path.{_≡_, refl, sym, _∙_, ap}
+use mathlib.Core.Path.{_≡_, _∙_, ap}
 use mathlib.Core.Logic.{⊎-elim, _↔_}
-use Prim.Native.Nat.{ℕ, zero, suc, _+_, _-_, _*_, _/_, min, _≤_, _<_}
+use Prim.Native.Nat.{ℕ, suc, _+_, _-_, _*_, _≤_, _<_}
 use native.Mathlib.Nat.{le-div-iff-mul-le, mul-pos, mul-le-mul-right, le-of-mul-le-mul-right}
 use native.Mathlib.Omega.{arith}
 use lib.Dec.{leb}
 use borrow.Author.Tests.{le-leb, lt-leb}
-use Rattle.table.specs.Fold.{if, countTo}
 use Rattle.table.proofs.Folds.{count-below}
 use Rattle.table.proofs.Tests.{le-or-lt}
 use Rattle.session.specs.Stream.{slots, microDeadline, shifted, charged}

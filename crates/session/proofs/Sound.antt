@@ -1,18 +1,16 @@
 -- A sound session, test by test: what each test says, and that these facts make it sound.
-use mathlib.Core.Bool.{Bool, true, false, _&&_, _||_, and-false, false≢true}
-use mathlib.Core.List.{List, [], _∷_, map}
-use mathlib.Core.Path.{_≡_, refl, sym, _∙_, ap}
+use mathlib.Core.Bool.{Bool, true, false, _||_, and-false, false≢true}
+use mathlib.Core.Path.{_≡_, refl, sym}
 use mathlib.Core.Logic.{⊎-elim}
-use Prim.Native.Nat.{ℕ, zero, suc, _+_, _-_, _*_, _≤_, _<_}
+use Prim.Native.Nat.{ℕ, _+_, _*_, _≤_, _<_}
 use native.Mathlib.Omega.{arith}
 use lib.ListN.{length, getD, List·getD-map}
-use lib.Dec.{leb, ltb, eqb}
-use borrow.Author.Tests.{leb-true, eqb-true, eqb-false, ltb-false, le-leb, lt-ltb, le-ltb, eq-eqb}
-use Rattle.table.specs.Fold.{if, allTo}
+use lib.Dec.{ltb, eqb}
+use borrow.Author.Tests.{leb-true, eqb-true, le-leb, lt-ltb, le-ltb, eq-eqb}
 use Rattle.table.specs.Admission.{grantedOf, admissionOf}
 use Rattle.table.proofs.Tests.{both, le-or-lt}
 use Rattle.table.proofs.Folds.{all-at, all-of, smallest-le}
-use Rattle.table.proofs.Judged.{Numbers, Fits-in, Admits, admits-of}
+use Rattle.table.proofs.Judged.{Fits-in, Admits, admits-of}
 use Rattle.session.specs.Time.{session-end, duration-max}
 use Rattle.session.specs.Stream.{queue-max, soundQueue, soundStream, unusedStream}
 use Rattle.session.specs.Bounds.{Bounded}

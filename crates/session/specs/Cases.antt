@@ -1,5 +1,4 @@
 -- Document 01's worked cases, one line each: what the rules give, beside what the document says. The statement that covers the list is `CasesHold`.
-use mathlib.Core.Path.{_≡_}
 use mathlib.Core.List.{List, [], _∷_, _++_, map}
 use Prim.Native.Nat.{ℕ, zero, suc, _/_, _%_}
 use lib.ListN.{length, replicate, take}
@@ -12,9 +11,8 @@ use Rattle.session.specs.Calls.{Line, after, linesFrom}
 use Rattle.session.specs.Opening.{freshStream, openingOf}
 use Rattle.session.specs.declared.stream.Job.{Job}
 use Rattle.session.specs.declared.stream.Stream.{Stream}
-use Rattle.session.specs.declared.Session.{Session}
 use Rattle.session.specs.declared.call.Call.{Call}
-use Rattle.session.specs.declared.call.Call.the-variants.{Arrival, Turn, OwnTurn, Done, Clock}
+use Rattle.session.specs.declared.call.Call.the-variants.{Arrival, Turn, Done, Clock}
 
 -- rows of numbers that the rules give, and those of the document
 pub record Case : Type 0 where

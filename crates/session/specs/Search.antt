@@ -1,5 +1,5 @@
 -- What the code's searches keep of the streams passed so far. No rule stands here: a reader of the rules may pass this file over.
-use mathlib.Core.Bool.{Bool, true, not, _&&_, _||_}
+use mathlib.Core.Bool.{true, not, _&&_, _||_}
 use mathlib.Core.List.{List}
 use Prim.Native.Nat.{ℕ}
 use lib.ListN.{getD}

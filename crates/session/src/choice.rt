@@ -2,7 +2,6 @@
 ghost use mathlib.Core.Path.{_≡_};
 ghost use mathlib.Core.Bool.{true};
 ghost use Prim.Native.Nat.{_≤_, _<_};
-ghost use lib.ListN.{getD};
 ghost use Rattle.session.specs.Time.{moment};
 ghost use Rattle.session.specs.Bounds.{Bounded};
 ghost use Rattle.session.specs.Session.{horizon, someFilled, sound};

@@ -1,7 +1,6 @@
 // Whether a session is sound, judged whole.
 ghost use mathlib.Core.Path.{_≡_};
 ghost use mathlib.Core.Bool.{true};
-ghost use Prim.Native.Nat.{_≤_};
 ghost use Rattle.table.specs.Admission.{admissionOf};
 ghost use Rattle.session.specs.Time.{moment};
 ghost use Rattle.session.specs.Session.{horizon, tableWith, tableOf, usedStreams, soundRest, soundDisk, sound};

@@ -1,5 +1,5 @@
 -- The reservation table of document 01: granted budgets, load and admission.
-use mathlib.Core.Bool.{Bool, not, _||_}
+use mathlib.Core.Bool.{not, _||_}
 use Prim.Native.Nat.{ℕ, zero, suc, _+_, _*_, _/_, _%_}
 use lib.ListN.{getD}
 use lib.Dec.{ltb, eqb}

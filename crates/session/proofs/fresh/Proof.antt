@@ -1,7 +1,5 @@
 -- `fresh` gives a fresh session.
 use Rattle.session.specs.Opening.{freshSession}
-use native.Mathlib.Omega.{arith}
-use mathlib.Core.Path.{_≡_, refl, sym, ap, _∙_}
 use borrow.Author.Needs.{needs}
 use Rattle.session.proofs.fresh.Statement.{statement}
 use Rattle.session.proofs.fresh.Tie as tie

@@ -1,5 +1,5 @@
 -- `opened_streams` gives the eight streams: those that the loop has passed are as they should be.
-use mathlib.Core.Path.{_≡_, refl, sym, ap, _∙_, subst}
+use mathlib.Core.Path.{_≡_, refl, subst}
 use Prim.Native.Nat.{ℕ, _≤_, _-_}
 use native.Mathlib.Omega.{arith}
 use Rattle.table.specs.Fold.{listTo}

@@ -1,6 +1,6 @@
 -- `load` gives the load: no period is 0, and with W at most 1,000,000 and H at most 600,000,000 nothing passes 64 bits.
-use mathlib.Core.Path.{_≡_, refl, sym, ap, _∙_}
-use Prim.Native.Nat.{ℕ, _*_, _/_, _≤_, _<_}
+use mathlib.Core.Path.{_≡_}
+use Prim.Native.Nat.{ℕ, _*_, _/_, _≤_}
 use native.Mathlib.Nat.{mul-le-mul, div-le-self, le-trans}
 use native.Mathlib.Omega.{arith}
 use borrow.Author.Needs.{needs}

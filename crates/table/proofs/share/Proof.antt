@@ -3,7 +3,7 @@ use native.Mathlib.Nat.{div-le-self}
 use native.Mathlib.Omega.{arith}
 use Rattle.table.specs.Admission.{shareOf}
 use Rattle.table.proofs.Judged.{stream-of, share-high}
-use mathlib.Core.Path.{_≡_, refl, sym, ap, _∙_}
+use mathlib.Core.Path.{refl}
 use borrow.Author.Needs.{needs}
 use Rattle.table.proofs.share.Statement.{statement}
 use Rattle.table.proofs.share.Tie as tie

@@ -4,7 +4,7 @@ use Rattle.table.specs.Fold.{sumTo}
 use Rattle.table.specs.Admission.{shareAt, sharesOf, streamRefusalAt, streamsRefusal}
 use Rattle.table.proofs.Folds.{first-none}
 use native.Mathlib.Omega.{arith}
-use mathlib.Core.Path.{_≡_, refl, sym, ap, _∙_}
+use mathlib.Core.Path.{_≡_, refl, ap, _∙_}
 use native.Mathlib.Numerals.{add-one}
 use Prim.Native.Nat.{_≤_, _-_, _*_}
 use Rattle.table.proofs.shares.Statement.{statement}

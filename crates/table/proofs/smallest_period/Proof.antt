@@ -2,11 +2,10 @@
 use mathlib.Core.Logic.{⊎-elim}
 use Rattle.table.specs.Fold.{smallestTo}
 use Rattle.table.specs.Admission.{periodAt, smallestPeriod}
-use borrow.Author.Needs.{needs}
 use native.Mathlib.Omega.{arith}
-use mathlib.Core.Path.{_≡_, refl, sym, ap, _∙_}
+use mathlib.Core.Path.{_≡_, refl, ap, _∙_}
 use native.Mathlib.Numerals.{add-one}
-use Prim.Native.Nat.{_≤_, _-_, _*_}
+use Prim.Native.Nat.{_≤_, _-_}
 use Rattle.table.proofs.smallest_period.Statement.{statement}
 use Rattle.table.proofs.smallest_period.Tie as tie
 use Rattle.table.proofs.smallest_period.Reads as reads

@@ -1,6 +1,6 @@
 -- `stream_refusal` gives the refusals 5 and 6 of a stream: each way out rewrites the tests that led there.
 use borrow.Author.Needs.{needs}
-use borrow.Author.Tests.{lt-ltb, le-ltb, eq-eqb, ne-eqb}
+use borrow.Author.Tests.{eq-eqb, ne-eqb}
 use native.Mathlib.Omega.{arith}
 use Rattle.table.specs.Refusal.{given, _or-next_, outside}
 use Rattle.table.specs.Admission.{streamRefusal}

@@ -2,11 +2,10 @@
 use Rattle.table.specs.Refusal.{firstTo, _or-next_}
 use Rattle.table.specs.Admission.{streamRefusalAt, streamsRefusal}
 use Rattle.table.proofs.Folds.{first-at}
-use borrow.Author.Needs.{needs}
 use native.Mathlib.Omega.{arith}
 use mathlib.Core.Path.{_≡_, refl, sym, ap, _∙_}
 use native.Mathlib.Numerals.{add-one}
-use Prim.Native.Nat.{_≤_, _-_, _*_}
+use Prim.Native.Nat.{_≤_, _-_}
 use Rattle.table.proofs.streams_refusal.Statement.{statement}
 use Rattle.table.proofs.streams_refusal.Tie as tie
 use Rattle.table.proofs.streams_refusal.Reads as reads

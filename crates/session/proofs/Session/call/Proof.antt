@@ -1,7 +1,6 @@
 -- `Session::call` answers as the call that it is handed.
 use Rattle.session.specs.Calls.{answerTo}
-use native.Mathlib.Omega.{arith}
-use mathlib.Core.Path.{_≡_, refl, sym, ap, _∙_}
+use mathlib.Core.Path.{sym, ap, _∙_}
 use borrow.Author.Needs.{needs}
 use Rattle.session.proofs.Session.call.Statement.{statement}
 use Rattle.session.proofs.Session.call.Tie as tie

@@ -1,5 +1,5 @@
 -- `Session::open` gives a fresh session exactly for a table that is admitted: the answer's case says whether the number is 0.
-use mathlib.Core.Path.{_≡_, refl, sym, _∙_}
+use mathlib.Core.Path.{sym, _∙_}
 use borrow.Author.Needs.{needs}
 use borrow.Author.Tests.{eq-eqb, ne-eqb}
 use Rattle.table.specs.Fold.{if}

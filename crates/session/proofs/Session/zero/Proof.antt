@@ -1,7 +1,5 @@
 -- `Session::zero` gives the session of zeros.
 use Rattle.session.specs.Opening.{zeroSession}
-use native.Mathlib.Omega.{arith}
-use mathlib.Core.Path.{_≡_, refl, sym, ap, _∙_}
 use borrow.Author.Needs.{needs}
 use Rattle.session.proofs.Session.zero.Statement.{statement}
 use Rattle.session.proofs.Session.zero.Tie as tie

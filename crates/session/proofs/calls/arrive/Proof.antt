@@ -8,7 +8,7 @@ use Rattle.session.proofs.Grounds.{named}
 use Rattle.session.proofs.Sound.{sound-of, count-high, bounded}
 use Prim.Native.Nat.{_-_}
 use native.Mathlib.Omega.{arith}
-use mathlib.Core.Path.{_≡_, refl, sym, ap, _∙_}
+use mathlib.Core.Path.{sym, _∙_}
 use borrow.Author.Needs.{needs}
 use Rattle.session.proofs.calls.arrive.Statement.{statement}
 use Rattle.session.proofs.calls.arrive.Tie as tie

@@ -11,7 +11,7 @@ use Rattle.session.proofs.Fits.{charge-high}
 use Rattle.session.proofs.Grounds.{served-of}
 use Prim.Native.Nat.{_-_, _<_}
 use native.Mathlib.Omega.{arith}
-use mathlib.Core.Path.{_≡_, refl, sym, ap, _∙_}
+use mathlib.Core.Path.{sym, ap, _∙_}
 use borrow.Author.Needs.{needs}
 use Rattle.session.proofs.calls.complete.Statement.{statement}
 use Rattle.session.proofs.calls.complete.Tie as tie

@@ -6,8 +6,7 @@ use Rattle.session.specs.declared.time.Clock.{Clock}
 use Rattle.session.specs.declared.call.Call.{Call}
 use Rattle.session.proofs.Answers.{refused, accepted}
 use Rattle.session.proofs.Sound.{count-high}
-use native.Mathlib.Omega.{arith}
-use mathlib.Core.Path.{_≡_, refl, sym, ap, _∙_}
+use mathlib.Core.Path.{sym, ap, _∙_}
 use borrow.Author.Needs.{needs}
 use Rattle.session.proofs.calls.report.Statement.{statement}
 use Rattle.session.proofs.calls.report.Tie as tie

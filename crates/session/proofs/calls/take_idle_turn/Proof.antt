@@ -10,7 +10,7 @@ use Rattle.session.proofs.Fits.{charge-high, expired-high}
 use Rattle.session.proofs.Grounds.{idle-of, expiring-grounds}
 use Rattle.session.proofs.Answers.{turn-waits, turn-expires, turn-moves, turn-ends}
 use native.Mathlib.Omega.{arith}
-use mathlib.Core.Path.{_≡_, refl, sym, ap, _∙_}
+use mathlib.Core.Path.{sym, ap, _∙_}
 use borrow.Author.Needs.{needs}
 use Rattle.session.proofs.calls.take_idle_turn.Statement.{statement}
 use Rattle.session.proofs.calls.take_idle_turn.Tie as tie

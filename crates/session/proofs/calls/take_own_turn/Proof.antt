@@ -2,13 +2,13 @@
 use Prim.Native.Nat.{_-_}
 use borrow.Author.Tests.{eq-eqb, ne-eqb, lt-ltb, le-ltb}
 use Rattle.table.specs.Refusal.{given, _or-next_}
-use Rattle.session.specs.Calls.{send, noSuchStream, busy, callRefusal, effect, outcome}
+use Rattle.session.specs.Calls.{send, noSuchStream, busy, callRefusal, effect}
 use Rattle.session.specs.declared.call.Call.{Call}
 use Rattle.session.proofs.Answers.{refused, accepted, sendable}
 use Rattle.session.proofs.Sound.{sound-of, count-high, bounded}
 use Rattle.session.proofs.Grounds.{Grounds, named}
 use native.Mathlib.Omega.{arith}
-use mathlib.Core.Path.{_≡_, refl, sym, ap, _∙_}
+use mathlib.Core.Path.{sym, _∙_}
 use borrow.Author.Needs.{needs}
 use Rattle.session.proofs.calls.take_own_turn.Statement.{statement}
 use Rattle.session.proofs.calls.take_own_turn.Tie as tie

@@ -1,13 +1,12 @@
 -- `take_turn` refuses by 10 and sends where some slot is filled; else the idle turn answers.
 use borrow.Author.Tests.{eq-eqb, ne-eqb}
 use Rattle.table.specs.Refusal.{given, _or-next_}
-use Rattle.session.specs.Calls.{send, busy, callRefusal, outcome}
+use Rattle.session.specs.Calls.{send, busy, callRefusal}
 use Rattle.session.specs.declared.call.Call.{Call}
 use Rattle.session.proofs.Answers.{refused, sendable, turn-sends}
 use Rattle.session.proofs.Sound.{sound-of, count-high}
 use Rattle.session.proofs.Grounds.{chosen-grounds}
-use native.Mathlib.Omega.{arith}
-use mathlib.Core.Path.{_≡_, refl, sym, ap, _∙_}
+use mathlib.Core.Path.{sym, _∙_}
 use borrow.Author.Needs.{needs}
 use Rattle.session.proofs.calls.take_turn.Statement.{statement}
 use Rattle.session.proofs.calls.take_turn.Tie as tie

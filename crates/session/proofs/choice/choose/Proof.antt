@@ -1,10 +1,8 @@
 -- `choose` gives the request to send: the invariant is what the search has found among the streams passed.
-use mathlib.Core.Bool.{true}
-use Rattle.session.specs.Session.{horizon, someFilled}
+use Rattle.session.specs.Session.{someFilled}
 use Rattle.session.specs.Choice.{nearestAt, chosen}
 use Rattle.session.proofs.Sound.{sound-of, bounded, admits}
 use Rattle.session.proofs.Picks.{Picked, picked-next, picked-none}
-use borrow.Author.Needs.{needs}
 use native.Mathlib.Omega.{arith}
 use mathlib.Core.Path.{_≡_, refl, ap, _∙_, subst}
 use native.Mathlib.Numerals.{add-one}

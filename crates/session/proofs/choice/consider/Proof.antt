@@ -1,11 +1,10 @@
 -- `consider` gives one step of the search: each way out rewrites the tests that led there.
-use mathlib.Core.Bool.{not}
 use borrow.Author.Tests.{eq-eqb, ne-eqb}
 use Rattle.table.specs.Fold.{if}
 use Rattle.session.specs.Stream.{filled}
 use Rattle.session.specs.Search.{considered}
 use native.Mathlib.Omega.{arith}
-use mathlib.Core.Path.{_≡_, refl, sym, ap, _∙_}
+use mathlib.Core.Path.{sym, _∙_}
 use borrow.Author.Needs.{needs}
 use Rattle.session.proofs.choice.consider.Statement.{statement}
 use Rattle.session.proofs.choice.consider.Tie as tie

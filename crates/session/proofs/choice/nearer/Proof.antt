@@ -2,9 +2,6 @@
 use borrow.Author.Tests.{lt-ltb, le-ltb}
 use Rattle.table.specs.Fold.{if}
 use Rattle.session.specs.Search.{nearer}
-use borrow.Author.Needs.{needs}
-use native.Mathlib.Omega.{arith}
-use mathlib.Core.Path.{_≡_, refl, sym, ap, _∙_}
 use Rattle.session.proofs.choice.nearer.Statement.{statement}
 use Rattle.session.proofs.choice.nearer.Tie as tie
 

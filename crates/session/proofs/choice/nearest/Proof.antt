@@ -2,11 +2,10 @@
 use Rattle.session.specs.Choice.{firstBest, nearest}
 use Rattle.session.specs.Search.{near}
 use Rattle.session.proofs.Picks.{near-next}
-use borrow.Author.Needs.{needs}
 use native.Mathlib.Omega.{arith}
-use mathlib.Core.Path.{_≡_, refl, sym, ap, _∙_}
+use mathlib.Core.Path.{_≡_, ap, _∙_}
 use native.Mathlib.Numerals.{add-one}
-use Prim.Native.Nat.{_≤_, _-_, _*_}
+use Prim.Native.Nat.{_≤_, _-_}
 use Rattle.session.proofs.choice.nearest.Statement.{statement}
 use Rattle.session.proofs.choice.nearest.Tie as tie
 

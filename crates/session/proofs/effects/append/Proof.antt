@@ -1,8 +1,6 @@
 -- `append` answers an arrival.
 use Rattle.session.specs.Stream.{arrived}
 use Rattle.session.specs.Calls.{apply, replyTo}
-use native.Mathlib.Omega.{arith}
-use mathlib.Core.Path.{_≡_, refl, sym, ap, _∙_}
 use borrow.Author.Needs.{needs}
 use Rattle.session.proofs.effects.append.Statement.{statement}
 use Rattle.session.proofs.effects.append.Tie as tie

@@ -1,8 +1,6 @@
 -- `expire` answers a slot expired.
 use Rattle.session.specs.Stream.{lapsed}
 use Rattle.session.specs.Calls.{apply, replyTo}
-use native.Mathlib.Omega.{arith}
-use mathlib.Core.Path.{_≡_, refl, sym, ap, _∙_}
 use borrow.Author.Needs.{needs}
 use Rattle.session.proofs.effects.expire.Statement.{statement}
 use Rattle.session.proofs.effects.expire.Tie as tie

@@ -2,8 +2,7 @@
 use Rattle.table.specs.Fold.{if}
 use Rattle.session.specs.Stream.{charged}
 use Rattle.session.specs.Calls.{apply, replyTo, overlong}
-use native.Mathlib.Omega.{arith}
-use mathlib.Core.Path.{_≡_, refl, sym, ap, _∙_}
+use mathlib.Core.Path.{sym, _∙_}
 use borrow.Author.Needs.{needs}
 use Rattle.session.proofs.effects.finish.Statement.{statement}
 use Rattle.session.proofs.effects.finish.Tie as tie

@@ -1,8 +1,6 @@
 -- `refuse` answers a refusal.
 use Rattle.session.specs.Calls.{apply, replyTo}
-use borrow.Author.Needs.{needs}
-use native.Mathlib.Omega.{arith}
-use mathlib.Core.Path.{_≡_, refl, sym, ap, _∙_}
+use mathlib.Core.Path.{refl}
 use Rattle.session.proofs.effects.refuse.Statement.{statement}
 use Rattle.session.proofs.effects.refuse.Tie as tie
 

@@ -1,7 +1,5 @@
 -- `send` answers a request sent.
 use Rattle.session.specs.Calls.{apply, replyTo}
-use native.Mathlib.Omega.{arith}
-use mathlib.Core.Path.{_≡_, refl, sym, ap, _∙_}
 use borrow.Author.Needs.{needs}
 use Rattle.session.proofs.effects.send.Statement.{statement}
 use Rattle.session.proofs.effects.send.Tie as tie

@@ -1,8 +1,6 @@
 -- `set_clock` answers a clock report, late where the time is above the latest safe moment and above the clock.
 use Rattle.table.specs.Fold.{if}
 use Rattle.session.specs.Calls.{apply, replyTo, late}
-use native.Mathlib.Omega.{arith}
-use mathlib.Core.Path.{_≡_, refl, sym, ap, _∙_}
 use borrow.Author.Needs.{needs}
 use Rattle.session.proofs.effects.set_clock.Statement.{statement}
 use Rattle.session.proofs.effects.set_clock.Tie as tie

@@ -1,8 +1,5 @@
 -- `wait` answers a wait.
 use Rattle.session.specs.Calls.{apply, replyTo}
-use borrow.Author.Needs.{needs}
-use native.Mathlib.Omega.{arith}
-use mathlib.Core.Path.{_≡_, refl, sym, ap, _∙_}
 use Rattle.session.proofs.effects.wait.Statement.{statement}
 use Rattle.session.proofs.effects.wait.Tie as tie
 

@@ -1,9 +1,6 @@
 -- `move_on` answers a move: the due jobs close, and the horizon is that of the session afterwards.
 use Rattle.session.specs.Calls.{apply, replyTo}
 use Rattle.session.proofs.Sound.{sound-of, count-high, deadline-high}
-use borrow.Author.Needs.{needs}
-use native.Mathlib.Omega.{arith}
-use mathlib.Core.Path.{_≡_, refl, sym, ap, _∙_}
 use Rattle.session.proofs.moves.move_on.Statement.{statement}
 use Rattle.session.proofs.moves.move_on.Tie as tie
 

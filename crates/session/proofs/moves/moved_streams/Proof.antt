@@ -1,14 +1,11 @@
 -- `moved_streams` gives the streams after a move: those that the loop has passed are as they should be.
-use mathlib.Core.List.{map}
 use lib.ListN.{getD, length}
 use Rattle.table.specs.Fold.{listTo}
 use Rattle.table.proofs.Lists.{Filled, filled-more, filled-all, mapped}
 use Rattle.session.specs.Stream.{moved}
 use Rattle.session.specs.Session.{noStream}
-use borrow.Author.Needs.{needs}
 use native.Mathlib.Omega.{arith}
 use mathlib.Core.Path.{_≡_, refl, _∙_, subst}
-use native.Mathlib.Numerals.{add-one}
 use Prim.Native.Nat.{ℕ, _≤_, _-_}
 use Rattle.session.proofs.moves.moved_streams.Statement.{statement}
 use Rattle.session.proofs.moves.moved_streams.Tie as tie

@@ -1,14 +1,13 @@
 -- `passes_end` finds whether some stream would close past the end: the invariant is that it is so of those passed.
 use Rattle.table.specs.Fold.{someTo}
 use Rattle.session.specs.Stream.{closesPastEnd}
-use Rattle.session.specs.Session.{streamAt, horizon}
+use Rattle.session.specs.Session.{streamAt}
 use Rattle.session.specs.Calls.{movePassesEnd}
 use Rattle.session.proofs.Sound.{sound-of, bounded, count-high}
-use borrow.Author.Needs.{needs}
 use native.Mathlib.Omega.{arith}
-use mathlib.Core.Path.{_≡_, refl, sym, ap, _∙_}
+use mathlib.Core.Path.{_≡_, refl}
 use native.Mathlib.Numerals.{add-one}
-use Prim.Native.Nat.{_≤_, _-_, _*_}
+use Prim.Native.Nat.{_≤_, _-_}
 use Rattle.session.proofs.moves.passes_end.Statement.{statement}
 use Rattle.session.proofs.moves.passes_end.Tie as tie
 

@@ -1,12 +1,11 @@
 -- `disk_is_sound` gives the document's test of the request at the disk.
-use Prim.Native.Nat.{ℕ, _≤_, _<_, _-_}
+use Prim.Native.Nat.{_-_}
 use borrow.Author.Tests.{eq-eqb, ne-eqb, le-leb, lt-leb}
 use Rattle.table.specs.Fold.{if}
 use Rattle.table.proofs.Judged.{admits-of}
 use Rattle.session.specs.Session.{tableOf, soundDisk}
 use Rattle.session.proofs.Sound.{used-of, used-bounded}
 use native.Mathlib.Omega.{arith}
-use mathlib.Core.Path.{_≡_, refl, sym, ap, _∙_}
 use borrow.Author.Needs.{needs}
 use Rattle.session.proofs.soundness.disk_is_sound.Statement.{statement}
 use Rattle.session.proofs.soundness.disk_is_sound.Tie as tie

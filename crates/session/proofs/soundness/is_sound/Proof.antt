@@ -1,5 +1,4 @@
 -- `soundness::is_sound` gives the document's whole test: a table that is refused decides it, and then a used stream that is not sound.
-use mathlib.Core.Bool.{Bool, true, false}
 use borrow.Author.Tests.{eq-eqb, ne-eqb}
 use Rattle.table.specs.Admission.{admissionOf, answered}
 use Rattle.table.specs.declared.Table.{Table}
@@ -7,9 +6,9 @@ use Rattle.table.specs.declared.Admission.{Admission}
 use Rattle.table.specs.declared.Admission.the-variants.{Admitted, Refused}
 use Rattle.table.proofs.Tests.{answered-admits, answered-refuses}
 use Rattle.table.proofs.Judged.{admits-of}
-use Rattle.session.specs.Session.{tableOf, usedStreams, sound}
+use Rattle.session.specs.Session.{sound}
 use Prim.Native.Nat.{ℕ}
-use mathlib.Core.Path.{_≡_, refl, sym, ap, _∙_}
+use mathlib.Core.Path.{_≡_, sym, ap, _∙_}
 use borrow.Author.Needs.{needs}
 use Rattle.session.proofs.soundness.is_sound.Statement.{statement}
 use Rattle.session.proofs.soundness.is_sound.Tie as tie

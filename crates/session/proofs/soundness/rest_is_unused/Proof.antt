@@ -6,11 +6,10 @@ use borrow.Author.Tests.{eq-eqb}
 use Rattle.table.specs.Fold.{allTo}
 use Rattle.session.specs.Stream.{unusedStream}
 use Rattle.session.specs.Session.{noStream, soundRest}
-use borrow.Author.Needs.{needs}
 use native.Mathlib.Omega.{arith}
-use mathlib.Core.Path.{_≡_, refl, sym, ap, _∙_}
+use mathlib.Core.Path.{_≡_, refl}
 use native.Mathlib.Numerals.{add-one}
-use Prim.Native.Nat.{_≤_, _-_, _*_}
+use Prim.Native.Nat.{_≤_, _-_}
 use Rattle.session.proofs.soundness.rest_is_unused.Statement.{statement}
 use Rattle.session.proofs.soundness.rest_is_unused.Tie as tie
 

@@ -5,10 +5,8 @@ use Rattle.table.specs.Fold.{listTo}
 use Rattle.table.proofs.Lists.{Filled, filled-more, filled-all, mapped}
 use Rattle.session.specs.Session.{noStream}
 use Rattle.session.specs.declared.stream.Stream.{Stream}
-use borrow.Author.Needs.{needs}
 use native.Mathlib.Omega.{arith}
 use mathlib.Core.Path.{_≡_, refl, _∙_, subst}
-use native.Mathlib.Numerals.{add-one}
 use Prim.Native.Nat.{ℕ, _≤_, _-_}
 use Rattle.session.proofs.soundness.table_of.Statement.{statement}
 use Rattle.session.proofs.soundness.table_of.Tie as tie

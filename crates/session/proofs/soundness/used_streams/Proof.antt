@@ -2,12 +2,11 @@
 use Rattle.table.specs.Fold.{allTo}
 use Rattle.table.proofs.Judged.{admits-of}
 use Rattle.session.specs.Stream.{soundStream}
-use Rattle.session.specs.Session.{streamAt, horizon, tableOf, usedStreams}
-use borrow.Author.Needs.{needs}
+use Rattle.session.specs.Session.{streamAt, tableOf, usedStreams}
 use native.Mathlib.Omega.{arith}
-use mathlib.Core.Path.{_≡_, refl, sym, ap, _∙_}
+use mathlib.Core.Path.{_≡_, refl}
 use native.Mathlib.Numerals.{add-one}
-use Prim.Native.Nat.{_≤_, _-_, _*_}
+use Prim.Native.Nat.{_≤_, _-_}
 use Rattle.session.proofs.soundness.used_streams.Statement.{statement}
 use Rattle.session.proofs.soundness.used_streams.Tie as tie
 

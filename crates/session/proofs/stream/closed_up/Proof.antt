@@ -1,12 +1,9 @@
 -- `closed_up` gives the queue without its place j: the invariant is that the cells passed are those of the queue closed up.
 use lib.ListN.{length}
 use Rattle.table.proofs.Lists.{Filled}
-use Rattle.session.specs.Stream.{closedUp}
 use Rattle.session.proofs.Queue.{closedCell, closing-starts, closing-goes-on, closing-ends}
-use borrow.Author.Needs.{needs}
 use native.Mathlib.Omega.{arith}
 use mathlib.Core.Path.{_≡_, subst}
-use native.Mathlib.Numerals.{add-one}
 use Prim.Native.Nat.{ℕ, _≤_, _-_}
 use Rattle.session.proofs.stream.closed_up.Statement.{statement}
 use Rattle.session.proofs.stream.closed_up.Tie as tie

@@ -5,11 +5,10 @@ use lib.ListN.{getD, length}
 use borrow.Author.Tests.{eq-eqb}
 use Rattle.table.specs.Fold.{allTo}
 use Rattle.session.specs.Stream.{soundQueue}
-use borrow.Author.Needs.{needs}
 use native.Mathlib.Omega.{arith}
-use mathlib.Core.Path.{_≡_, refl, sym, ap, _∙_}
+use mathlib.Core.Path.{_≡_, refl}
 use native.Mathlib.Numerals.{add-one}
-use Prim.Native.Nat.{_≤_, _-_, _*_}
+use Prim.Native.Nat.{_≤_, _-_}
 use Rattle.session.proofs.stream.queue_is_sound.Statement.{statement}
 use Rattle.session.proofs.stream.queue_is_sound.Tie as tie
 

@@ -1,5 +1,5 @@
 -- `Table::admission` gives the first refusal in the order 1 to 4, 5 and 6, 7: what was not refused before stands aside by `or-next`.
-use mathlib.Core.Path.{_≡_, refl, sym, ap, _∙_}
+use mathlib.Core.Path.{_≡_, sym, _∙_}
 use Prim.Native.Nat.{ℕ, _≤_, _<_}
 use lib.Dec.{ltb}
 use borrow.Author.Needs.{needs}

@@ -1,7 +1,5 @@
 -- `Job::is_zero` tests each cell.
 use Rattle.session.specs.Stream.{zeroJob}
-use native.Mathlib.Omega.{arith}
-use mathlib.Core.Path.{_≡_, refl, sym, ap, _∙_}
 use borrow.Author.Needs.{needs}
 use Rattle.session.proofs.stream.Job.is_zero.Statement.{statement}
 use Rattle.session.proofs.stream.Job.is_zero.Tie as tie

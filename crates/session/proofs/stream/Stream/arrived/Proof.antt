@@ -1,7 +1,6 @@
 -- `Stream::arrived` puts a place at the queue's end.
 use Rattle.session.specs.Stream.{arrived}
-use native.Mathlib.Omega.{arith}
-use mathlib.Core.Path.{_≡_, refl, sym, ap, _∙_}
+use mathlib.Core.Path.{refl}
 use borrow.Author.Needs.{needs}
 use Rattle.session.proofs.stream.Stream.arrived.Statement.{statement}
 use Rattle.session.proofs.stream.Stream.arrived.Tie as tie

@@ -1,7 +1,5 @@
 -- `Stream::charged` adds a completion to the charge.
 use Rattle.session.specs.Stream.{charged}
-use native.Mathlib.Omega.{arith}
-use mathlib.Core.Path.{_≡_, refl, sym, ap, _∙_}
 use borrow.Author.Needs.{needs}
 use Rattle.session.proofs.stream.Stream.charged.Statement.{statement}
 use Rattle.session.proofs.stream.Stream.charged.Tie as tie

@@ -1,7 +1,5 @@
 -- `Stream::closed` writes the record and begins the next job.
 use Rattle.session.specs.Stream.{closed}
-use native.Mathlib.Omega.{arith}
-use mathlib.Core.Path.{_≡_, refl, sym, ap, _∙_}
 use borrow.Author.Needs.{needs}
 use Rattle.session.proofs.stream.Stream.closed.Statement.{statement}
 use Rattle.session.proofs.stream.Stream.closed.Tie as tie

@@ -1,6 +1,4 @@
 -- `Stream::closes_past_end` tests the next deadline of a stream that is due.
-use native.Mathlib.Omega.{arith}
-use mathlib.Core.Path.{_≡_, refl, sym, ap, _∙_}
 use borrow.Author.Needs.{needs}
 use Rattle.session.proofs.stream.Stream.closes_past_end.Statement.{statement}
 use Rattle.session.proofs.stream.Stream.closes_past_end.Tie as tie

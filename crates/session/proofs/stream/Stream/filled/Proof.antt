@@ -1,7 +1,6 @@
 -- `Stream::filled` gives the smaller of the slots and the queue's length.
 use Rattle.session.specs.Stream.{slots, filled}
 use native.Mathlib.Omega.{arith}
-use mathlib.Core.Path.{_≡_, refl, sym, ap, _∙_}
 use borrow.Author.Needs.{needs}
 use Rattle.session.proofs.stream.Stream.filled.Statement.{statement}
 use Rattle.session.proofs.stream.Stream.filled.Tie as tie

@@ -1,7 +1,5 @@
 -- `Stream::fresh` gives a stream at its first release.
 use Rattle.session.specs.Opening.{freshStream}
-use native.Mathlib.Omega.{arith}
-use mathlib.Core.Path.{_≡_, refl, sym, ap, _∙_}
 use borrow.Author.Needs.{needs}
 use Rattle.session.proofs.stream.Stream.fresh.Statement.{statement}
 use Rattle.session.proofs.stream.Stream.fresh.Tie as tie

@@ -1,7 +1,5 @@
 -- `Stream::is_sound` gives the document's test: each part is what its function ensures.
 use Rattle.session.specs.Stream.{soundStream}
-use native.Mathlib.Omega.{arith}
-use mathlib.Core.Path.{_≡_, refl, sym, ap, _∙_}
 use borrow.Author.Needs.{needs}
 use Rattle.session.proofs.stream.Stream.is_sound.Statement.{statement}
 use Rattle.session.proofs.stream.Stream.is_sound.Tie as tie

@@ -1,7 +1,5 @@
 -- `Stream::is_unused` tests each cell.
 use Rattle.session.specs.Stream.{unusedStream}
-use native.Mathlib.Omega.{arith}
-use mathlib.Core.Path.{_≡_, refl, sym, ap, _∙_}
 use borrow.Author.Needs.{needs}
 use Rattle.session.proofs.stream.Stream.is_unused.Statement.{statement}
 use Rattle.session.proofs.stream.Stream.is_unused.Tie as tie

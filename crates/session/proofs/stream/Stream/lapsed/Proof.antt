@@ -1,7 +1,6 @@
 -- `Stream::lapsed` charges the worst-case time for a slot.
 use Rattle.session.specs.Stream.{lapsed}
 use native.Mathlib.Omega.{arith}
-use mathlib.Core.Path.{_≡_, refl, sym, ap, _∙_}
 use borrow.Author.Needs.{needs}
 use Rattle.session.proofs.stream.Stream.lapsed.Statement.{statement}
 use Rattle.session.proofs.stream.Stream.lapsed.Tie as tie

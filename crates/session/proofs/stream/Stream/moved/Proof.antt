@@ -1,8 +1,7 @@
 -- `Stream::moved` closes the job exactly if it is due.
 use Rattle.table.specs.Fold.{if}
 use Rattle.session.specs.Stream.{moved}
-use native.Mathlib.Omega.{arith}
-use mathlib.Core.Path.{_≡_, refl, sym, ap, _∙_}
+use mathlib.Core.Path.{sym, _∙_}
 use borrow.Author.Needs.{needs}
 use Rattle.session.proofs.stream.Stream.moved.Statement.{statement}
 use Rattle.session.proofs.stream.Stream.moved.Tie as tie

@@ -1,10 +1,10 @@
 -- `Stream::slots` gives the number of slots: where the charge has passed the room there is none.
 use native.Mathlib.Nat.{mul-pos, sub-eq-zero-of-le, le-of-lt, zero-div}
-use Prim.Native.Nat.{ℕ, _*_, _-_, _<_, _≤_}
+use Prim.Native.Nat.{_*_, _-_, _<_}
 use Rattle.session.specs.Stream.{slots}
 use Rattle.session.proofs.Fits.{room-fits, used-fits, step-fits}
 use native.Mathlib.Omega.{arith}
-use mathlib.Core.Path.{_≡_, refl, sym, ap, _∙_}
+use mathlib.Core.Path.{sym}
 use borrow.Author.Needs.{needs}
 use Rattle.session.proofs.stream.Stream.slots.Statement.{statement}
 use Rattle.session.proofs.stream.Stream.slots.Tie as tie

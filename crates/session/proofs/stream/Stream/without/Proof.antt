@@ -1,7 +1,5 @@
 -- `Stream::without` closes the queue up over the request.
 use Rattle.session.specs.Stream.{without}
-use native.Mathlib.Omega.{arith}
-use mathlib.Core.Path.{_≡_, refl, sym, ap, _∙_}
 use borrow.Author.Needs.{needs}
 use Rattle.session.proofs.stream.Stream.without.Statement.{statement}
 use Rattle.session.proofs.stream.Stream.without.Tie as tie

@@ -5,7 +5,7 @@ use Prim.Native.Nat.{ℕ, _*_, _/_, _<_}
 use lib.Dec.{leb}
 use Rattle.table.proofs.Tests.{same-test}
 use native.Mathlib.Omega.{arith}
-use mathlib.Core.Path.{_≡_, refl, sym, ap, _∙_}
+use mathlib.Core.Path.{_≡_}
 use borrow.Author.Needs.{needs}
 use Rattle.session.proofs.time.Charge.covers.Statement.{statement}
 use Rattle.session.proofs.time.Charge.covers.Tie as tie

@@ -4,7 +4,7 @@ use Prim.Native.Nat.{ℕ, _+_, _-_, _<_}
 use lib.Dec.{leb}
 use Rattle.table.proofs.Tests.{same-test}
 use native.Mathlib.Omega.{arith}
-use mathlib.Core.Path.{_≡_, refl, sym, ap, _∙_}
+use mathlib.Core.Path.{_≡_, sym}
 use borrow.Author.Needs.{needs}
 use Rattle.session.proofs.time.Charge.is_near.Statement.{statement}
 use Rattle.session.proofs.time.Charge.is_near.Tie as tie

@@ -3,9 +3,8 @@ use borrow.Author.Tests.{eqb-true, eq-eqb, ne-eqb}
 use Prim.Native.Nat.{ℕ, _+_, _-_, _≤_}
 use lib.Dec.{eqb}
 use Rattle.table.proofs.Tests.{same-test}
-use borrow.Author.Needs.{needs}
 use native.Mathlib.Omega.{arith}
-use mathlib.Core.Path.{_≡_, refl, sym, ap, _∙_}
+use mathlib.Core.Path.{_≡_, sym}
 use Rattle.session.proofs.time.Clock.is_later_by.Statement.{statement}
 use Rattle.session.proofs.time.Clock.is_later_by.Tie as tie
 

@@ -1,9 +1,9 @@
 -- `Clock::less_remainders` rounds the remainders up where the definition rounds the difference down, since the horizon times the span does not fit 64 bits.
-use Prim.Native.Nat.{ℕ, _+_, _-_, _*_, _/_, _≤_, _<_}
+use Prim.Native.Nat.{_+_}
 use Rattle.session.specs.Time.{moment}
 use Rattle.session.proofs.Rounding.{up-low, floor-less}
 use native.Mathlib.Omega.{arith}
-use mathlib.Core.Path.{_≡_, refl, sym, ap, _∙_}
+use mathlib.Core.Path.{sym, ap}
 use borrow.Author.Needs.{needs}
 use Rattle.session.proofs.time.Clock.less_remainders.Statement.{statement}
 use Rattle.session.proofs.time.Clock.less_remainders.Tie as tie

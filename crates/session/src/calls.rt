@@ -23,14 +23,15 @@ use crate::expiry::to_expire;
 use crate::horizon;
 use crate::moves::move_on;
 use crate::moves::passes_end;
-use crate::soundness::is_sound;
+use crate::soundness::judge;
 
 impl Session {
     // A request of a stream, counted from 1, at a place.
     pub fn arrival(self, stream: u64, place: u64) -> Answer
         ensures { λ r. ⌜ r ≡ answerTo self (Call.Arrival stream place) ⌝ }
     {
-        if is_sound(self) {
+        let judged = judge(self);
+        if judged.sound {
             arrive(self, stream, place)
         } else {
             refuse(self, 31)
@@ -41,7 +42,8 @@ impl Session {
     pub fn turn(self) -> Answer
         ensures { λ r. ⌜ r ≡ answerTo self Call.Turn ⌝ }
     {
-        if is_sound(self) {
+        let judged = judge(self);
+        if judged.sound {
             take_turn(self)
         } else {
             refuse(self, 31)
@@ -52,7 +54,8 @@ impl Session {
     pub fn own_turn(self, stream: u64, index: u64) -> Answer
         ensures { λ r. ⌜ r ≡ answerTo self (Call.OwnTurn stream index) ⌝ }
     {
-        if is_sound(self) {
+        let judged = judge(self);
+        if judged.sound {
             take_own_turn(self, stream, index)
         } else {
             refuse(self, 31)
@@ -63,7 +66,8 @@ impl Session {
     pub fn done(self, duration: u64) -> Answer
         ensures { λ r. ⌜ r ≡ answerTo self (Call.Done duration) ⌝ }
     {
-        if is_sound(self) {
+        let judged = judge(self);
+        if judged.sound {
             complete(self, duration)
         } else {
             refuse(self, 31)
@@ -74,7 +78,8 @@ impl Session {
     pub fn clock(self, time: u64) -> Answer
         ensures { λ r. ⌜ r ≡ answerTo self (Call.Clock time) ⌝ }
     {
-        if is_sound(self) {
+        let judged = judge(self);
+        if judged.sound {
             report(self, time)
         } else {
             refuse(self, 31)

@@ -1,102 +1,79 @@
 // Whether a session is sound, judged whole.
 ghost use mathlib.Core.Path.{_≡_};
 ghost use mathlib.Core.Bool.{true};
-ghost use Rattle.table.specs.Admission.{admissionOf};
 ghost use Rattle.session.specs.Time.{moment};
-ghost use Rattle.session.specs.Session.{horizon, tableWith, tableOf, usedStreams, soundRest, soundDisk, sound};
+ghost use Rattle.session.specs.Session.{horizon, sound};
 use crate::Clock;
 use crate::Session;
-use crate::Stream;
-use crate::horizon;
 use table::Admission;
 use table::Table;
 
-pub(crate) fn is_sound(s: Session) -> bool
-    ensures { λ r. ⌜ r ≡ sound s ⌝ }
-{
-    let streams = s.streams;
-    let table = table_of(s.worst, s.span, s.padding, s.count, streams);
-    let admission = table.admission();
-    let Admission::Admitted = admission else {
-        return false;
-    };
-    let h = horizon(s);
-    if used_streams(s, h) {
-        let rest = rest_is_unused(streams, s.count);
-        let clock = s.clock.is_by(Clock::at(Clock::END));
-        let disk = disk_is_sound(s, h);
-        rest & clock & disk
-    } else {
-        false
-    }
+pub(crate) struct Judged {
+    pub(crate) sound: bool,
+    pub(crate) horizon: Clock,
 }
 
-// The table that the streams were opened with.
-fn table_of(worst: u32, span: u32, padding: u32, count: usize, streams: [Stream; 8]) -> Table
-    ensures { λ r. ⌜ r ≡ tableWith worst span padding count streams ⌝ }
+// Whether a session is sound, judged whole, and its horizon if it is. Its loops stand here, since a call with the session would copy it.
+pub(crate) fn judge(s: Session) -> Judged
+    ensures { λ r. ⌜ (r .sound ≡ sound s) × (r .sound ≡ true → r .horizon ≡ moment (horizon s)) ⌝ }
 {
+    let start = Clock::at(0);
+    let unsound = Judged {
+        sound: false,
+        horizon: start,
+    };
     let mut reserved = [0u32; 8];
     let mut period = [0u32; 8];
+    let mut rest = true;
     let mut i: usize = 0;
     while i < 8 {
-        let x = streams[i];
+        let x = s.streams[i];
         reserved[i] = x.reserved;
         period[i] = x.period;
+        rest = rest & ((i < s.count) | x.is_unused());
         i += 1;
     }
-    Table {
-        worst: worst,
-        span: span,
-        padding: padding,
-        count: count,
+    let table = Table {
+        worst: s.worst,
+        span: s.span,
+        padding: s.padding,
+        count: s.count,
         reserved: reserved,
         period: period,
+    };
+    let admission = table.admission();
+    let Admission::Admitted = admission else {
+        return unsound;
+    };
+    let first = s.streams[0];
+    let mut h = first.deadline;
+    let mut j: usize = 0;
+    while j < s.count {
+        let x = s.streams[j];
+        h = h.earlier(x.deadline);
+        j += 1;
     }
-}
-
-// The streams up to the count are each sound.
-fn used_streams(s: Session, h: Clock) -> bool
-    requires { ⌜ (admissionOf (tableOf s) ≡ 0) × (h ≡ moment (horizon s)) ⌝ }
-    ensures { λ r. ⌜ r ≡ usedStreams s ⌝ }
-{
-    let mut ok = true;
-    let mut i: usize = 0;
-    while i < s.count {
-        let x = s.streams[i];
-        ok = ok & x.is_sound(s.worst, s.padding, h);
-        i += 1;
+    let mut used = true;
+    let mut k: usize = 0;
+    while k < s.count {
+        let x = s.streams[k];
+        used = used & x.is_sound(s.worst, s.padding, h);
+        k += 1;
     }
-    ok
-}
-
-// Those past the count are 0.
-fn rest_is_unused(streams: [Stream; 8], count: usize) -> bool
-    ensures { λ r. ⌜ r ≡ soundRest streams count ⌝ }
-{
-    let mut ok = true;
-    let mut i: usize = 0;
-    while i < 8 {
-        let x = streams[i];
-        ok = ok & ((i < count) | x.is_unused());
-        i += 1;
+    if !used | (s.count < s.served) {
+        return unsound;
     }
-    ok
-}
-
-// The stream at the disk, if any, exists and has a slot.
-fn disk_is_sound(s: Session, h: Clock) -> bool
-    requires { ⌜ (admissionOf (tableOf s) ≡ 0) × (usedStreams s ≡ true) × (h ≡ moment (horizon s)) ⌝ }
-    ensures { λ r. ⌜ r ≡ soundDisk s ⌝ }
-{
-    let served = s.served;
-    if served == 0 {
-        return s.place == 0;
+    let cells = rest & s.clock.is_by(Clock::at(Clock::END));
+    if s.served == 0 {
+        return Judged {
+            sound: cells & (s.place == 0),
+            horizon: h,
+        };
     }
-    if served <= s.count {
-        let i = served - 1;
-        let x = s.streams[i];
-        1 <= x.slots(s.worst, h)
-    } else {
-        false
+    let x = s.streams[s.served - 1];
+    let slots = x.slots(s.worst, h);
+    Judged {
+        sound: cells & (1 <= slots),
+        horizon: h,
     }
 }

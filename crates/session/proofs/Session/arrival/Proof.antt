@@ -5,11 +5,11 @@ use borrow.Author.Needs.{needs}
 use Rattle.session.proofs.Session.arrival.Statement.{statement}
 use Rattle.session.proofs.Session.arrival.Tie as tie
 
-is-sound-requires : tie.Need-is-sound-requires
-is-sound-requires c κs = search needs
+judge-requires : tie.Need-judge-requires
+judge-requires c κs = search needs
 
 arrive-requires : tie.Need-arrive-requires
-arrive-requires c κs = sym (c .before .is-sound .ensures) ∙ c .if1 .taken
+arrive-requires c κs = sym (c .before .judge .ensures .0) ∙ c .if1 .taken
 
 refuse-requires : tie.Need-refuse-requires
 refuse-requires c κs = search needs
@@ -18,8 +18,8 @@ returns : tie.Need-returns
 returns c = search needs
 
 returns-2 : tie.Need-returns-2
-returns-2 c = c .refuse .ensures ∙ sym (unsound-answer _ _ (sym (c .before .before .is-sound .ensures) ∙ c .before .if1 .left))
+returns-2 c = c .refuse .ensures ∙ sym (unsound-answer _ _ (sym (c .before .before .judge .ensures .0) ∙ c .before .if1 .left))
 
 pub arrival-spec : {M : Type 1} → statement M
 arrival-spec =
-    tie.close (tie.spec is-sound-requires arrive-requires refuse-requires returns returns-2)
+    tie.close (tie.spec judge-requires arrive-requires refuse-requires returns returns-2)

@@ -5,11 +5,11 @@ use borrow.Author.Needs.{needs}
 use Rattle.session.proofs.Session.clock.Statement.{statement}
 use Rattle.session.proofs.Session.clock.Tie as tie
 
-is-sound-requires : tie.Need-is-sound-requires
-is-sound-requires c κs = search needs
+judge-requires : tie.Need-judge-requires
+judge-requires c κs = search needs
 
 report-requires : tie.Need-report-requires
-report-requires c κs = sym (c .before .is-sound .ensures) ∙ c .if1 .taken
+report-requires c κs = sym (c .before .judge .ensures .0) ∙ c .if1 .taken
 
 refuse-requires : tie.Need-refuse-requires
 refuse-requires c κs = search needs
@@ -18,8 +18,8 @@ returns : tie.Need-returns
 returns c = search needs
 
 returns-2 : tie.Need-returns-2
-returns-2 c = c .refuse .ensures ∙ sym (unsound-answer _ _ (sym (c .before .before .is-sound .ensures) ∙ c .before .if1 .left))
+returns-2 c = c .refuse .ensures ∙ sym (unsound-answer _ _ (sym (c .before .before .judge .ensures .0) ∙ c .before .if1 .left))
 
 pub clock-spec : {M : Type 1} → statement M
 clock-spec =
-    tie.close (tie.spec is-sound-requires report-requires refuse-requires returns returns-2)
+    tie.close (tie.spec judge-requires report-requires refuse-requires returns returns-2)

@@ -65,20 +65,17 @@ unfoldable pub latest : Session → ℕ
 latest s =
     ((horizon s + sumTo (λ i. streamAt s i .charge .0) (s .count)) * s .span - sumTo (scaledPart s) (s .count)) / s .span
 
--- the table of W, H, k and the count that streams were opened with
-abbrev pub tableWith : ℕ → ℕ → ℕ → ℕ → List Stream → Table
-tableWith worst span k count streams =
-    record {
-      worst = worst;
-      span = span;
-      padding = k;
-      count = count;
-      reserved = map (λ x. x .reserved) streams;
-      period = map (λ x. x .period) streams;
-    }
-
+-- the table that a session was opened with
 abbrev pub tableOf : Session → Table
-tableOf s = tableWith (s .worst) (s .span) (s .padding) (s .count) (s .streams)
+tableOf s =
+    record {
+      worst = s .worst;
+      span = s .span;
+      padding = s .padding;
+      count = s .count;
+      reserved = map (λ x. x .reserved) (s .streams);
+      period = map (λ x. x .period) (s .streams);
+    }
 
 -- "the stream at the disk, if any, exists and has a slot"; "every unused cell is 0 (.. the place while nothing is at the disk)"
 unfoldable pub soundDisk : Session → Bool

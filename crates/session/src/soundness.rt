@@ -100,3 +100,20 @@ fn disk_is_sound(s: Session, h: Clock) -> bool
         false
     }
 }
+
+// Whether a session is sound, and where it is, its horizon.
+pub(crate) struct Judged {
+    pub(crate) sound: bool,
+    pub(crate) horizon: Clock,
+}
+
+pub(crate) fn judge(s: Session) -> Judged
+    ensures { λ r. ⌜ (r .sound ≡ sound s) × (r .sound ≡ true → r .horizon ≡ moment (horizon s)) ⌝ }
+{
+    let ok = is_sound(s);
+    let h = if ok { horizon(s) } else { Clock::at(0) };
+    Judged {
+        sound: ok,
+        horizon: h,
+    }
+}

@@ -34,7 +34,9 @@ impl Session {
             return refuse(self, 8);
         }
         let i = (stream - 1) as usize;
-        let x = self.streams[i];
+        // The array alone is indexed: a session that is would be copied again for each call.
+        let streams = self.streams;
+        let x = streams[i];
         if x.queued == Stream::QUEUE_MAX {
             return refuse(self, 9);
         }
@@ -89,7 +91,9 @@ impl Session {
             return refuse(self, 8);
         }
         let i = (stream - 1) as usize;
-        let x = self.streams[i];
+        // The array alone is indexed: a session that is would be copied again for each call.
+        let streams = self.streams;
+        let x = streams[i];
         let filled = x.filled(self.worst, judged.horizon) as u64;
         if filled <= index {
             return refuse(self, 15);
@@ -142,16 +146,26 @@ impl Session {
         set_clock(self, now, until)
     }
 
-    // Any of these calls.
+    // Any of these calls; each returns, so that its answer is not copied.
     pub fn call(self, call: Call) -> Answer
         ensures { λ r. ⌜ r ≡ answerTo self call ⌝ }
     {
         match call {
-            Call::Arrival { stream, place } => self.arrival(stream, place),
-            Call::Turn => self.turn(),
-            Call::OwnTurn { stream, index } => self.own_turn(stream, index),
-            Call::Done { duration } => self.done(duration),
-            Call::Clock { time } => self.clock(time),
+            Call::Arrival { stream, place } => {
+                return self.arrival(stream, place);
+            }
+            Call::Turn => {
+                return self.turn();
+            }
+            Call::OwnTurn { stream, index } => {
+                return self.own_turn(stream, index);
+            }
+            Call::Done { duration } => {
+                return self.done(duration);
+            }
+            Call::Clock { time } => {
+                return self.clock(time);
+            }
         }
     }
 }

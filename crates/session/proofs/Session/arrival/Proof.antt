@@ -28,7 +28,7 @@ refuse-requires-2 : tie.Need-refuse-requires-2
 refuse-requires-2 c κs = search needs
 
 -- past 31 the session is sound
-ok : (c : tie.Else1) → sound (c .before .before .before .args .t1) ≡ true
+ok : (c : tie.Else1) → sound (c .before .before .before .args .self) ≡ true
 ok c = sym (c .before .before .judge .ensures .0) ∙ not-false _ (c .if1 .left)
 
 returns-2 : tie.Need-returns-2
@@ -37,35 +37,35 @@ returns-2 c = c .refuse2 .ensures ∙ sym (refused _ (Call.Arrival _ _) (ok (c .
 
 sub-i : tie.Need-sub-i
 unfolding noSuchStream
-sub-i c = named (c .before .before .before .before .args .t1) (c .before .before .before .before .args .stream) (c .if2 .left) .0
+sub-i c = named (c .before .before .before .before .args .self) (c .before .before .before .before .args .stream) (c .if2 .left) .0
 
 mul-x : tie.Need-mul-x
 unfolding noSuchStream
-mul-x c = omega (arith, named (c .before .before .before .before .args .t1) (c .before .before .before .before .args .stream) (c .if2 .left), count-high _ (ok (c .before)))
+mul-x c = omega (arith, named (c .before .before .before .before .before .args .self) (c .before .before .before .before .before .args .stream) (c .before .if2 .left), count-high _ (ok (c .before .before)))
 
-element-copy-out-x : tie.Need-element-copy-out-x
+array-copy-out-x : tie.Need-array-copy-out-x
 unfolding noSuchStream
-element-copy-out-x c = omega (arith, named (c .before .before .before .before .args .t1) (c .before .before .before .before .args .stream) (c .if2 .left), count-high _ (ok (c .before)))
+array-copy-out-x c = omega (arith, named (c .before .before .before .before .before .args .self) (c .before .before .before .before .before .args .stream) (c .before .if2 .left), count-high _ (ok (c .before .before)))
 
 refuse-requires-3 : tie.Need-refuse-requires-3
 refuse-requires-3 c κs = search needs
 
 returns-3 : tie.Need-returns-3
 unfolding callRefusal given _or-next_ noSuchStream
-returns-3 c = c .refuse3 .ensures ∙ sym (refused _ (Call.Arrival _ _) (ok (c .before .before .before .before .before)) 8 (rw (c .before .before .before .before .if2 .left, eq-eqb _ _ (c .before .if3 .taken))))
+returns-3 c = c .refuse3 .ensures ∙ sym (refused _ (Call.Arrival _ _) (ok (c .before .before .before .before .before .before)) 8 (rw (c .before .before .before .before .before .if2 .left, eq-eqb _ _ (c .before .if3 .taken))))
 
 append-requires : tie.Need-append-requires
 unfolding noSuchStream
 append-requires c κs =
-    let start = c .before .before .before .before .before .before .before in
-    let s = start .args .t1 in
-    let n = named s (start .args .stream) (c .before .before .before .if2 .left) in
-    let q = bounded s (sound-of s (ok (c .before .before .before .before))) (start .args .stream - 1) (n .1) .queued-high in
-    (omega (arith, n, count-high s (ok (c .before .before .before .before))), omega (arith, q, c .if3 .left))
+    let start = c .before .before .before .before .before .before .before .before in
+    let s = start .args .self in
+    let n = named s (start .args .stream) (c .before .before .before .before .if2 .left) in
+    let q = bounded s (sound-of s (ok (c .before .before .before .before .before))) (start .args .stream - 1) (n .1) .queued-high in
+    (omega (arith, n, count-high s (ok (c .before .before .before .before .before))), omega (arith, q, c .if3 .left))
 
 returns-4 : tie.Need-returns-4
 unfolding callRefusal given _or-next_ noSuchStream effect
-returns-4 c = c .append .ensures ∙ sym (accepted _ (Call.Arrival _ _) (ok (c .before .before .before .before .before)) (rw (c .before .before .before .before .if2 .left, ne-eqb _ _ (c .before .if3 .left))))
+returns-4 c = c .append .ensures ∙ sym (accepted _ (Call.Arrival _ _) (ok (c .before .before .before .before .before .before)) (rw (c .before .before .before .before .before .if2 .left, ne-eqb _ _ (c .before .if3 .left))))
 
 pub arrival-spec : {M : Type 1} → statement M
 arrival-spec =
@@ -78,7 +78,7 @@ arrival-spec =
     returns-2
     sub-i
     mul-x
-    element-copy-out-x
+    array-copy-out-x
     refuse-requires-3
     returns-3
     append-requires

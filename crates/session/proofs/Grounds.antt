@@ -53,7 +53,7 @@ named s n h =
     (omega arith, omega arith)
 
 -- nothing is at the disk where 10 is not given, and something where 11 is not
-pub idle-of : (s : Session) → busy s ≡ false → s .served ≡ 0
+idle-of : (s : Session) → busy s ≡ false → s .served ≡ 0
 unfolding busy
 idle-of s h = eqb-true (s .served) 0 (not-false (eqb (s .served) 0) h)
 

@@ -22,26 +22,26 @@ pub(crate) fn refuse(s: Session, number: u64) -> Answer
 }
 
 // A request is put at the end of the stream's queue.
-pub(crate) fn append(s: Session, i: usize, place: u64) -> Answer
+pub(crate) fn append(mut s: Session, i: usize, place: u64) -> Answer
     requires { ⌜ (i < 8) × (streamAt s i .queued < 16) ⌝ }
     ensures { λ r. ⌜ r ≡ outcome s (append i place) ⌝ }
 {
     let x = s.streams[i];
     let y = x.arrived(place);
-    let mut queued = s;
-    queued.streams[i] = y;
+    s.streams[i] = y;
+    let stream = i as u64 + 1;
     let reply = Reply::Arrived {
-        stream: i as u64 + 1,
+        stream: stream,
         queued: y.queued as u64,
     };
     Answer {
-        session: queued,
+        session: s,
         reply: reply,
     }
 }
 
 // The request at index j of the stream's queue goes to the disk.
-pub(crate) fn send(s: Session, i: usize, j: usize) -> Answer
+pub(crate) fn send(mut s: Session, i: usize, j: usize) -> Answer
     requires { ⌜ (i < 8) × (j < 16) × (1 ≤ streamAt s i .queued) ⌝ }
     ensures { λ r. ⌜ r ≡ outcome s (send i j) ⌝ }
 {
@@ -49,17 +49,17 @@ pub(crate) fn send(s: Session, i: usize, j: usize) -> Answer
     let places = x.places;
     let place = places[j];
     let y = x.without(j);
-    let mut sent = s;
-    sent.streams[i] = y;
-    sent.head = place;
-    sent.served = i + 1;
-    sent.place = place;
+    s.streams[i] = y;
+    s.head = place;
+    s.served = i + 1;
+    s.place = place;
+    let stream = i as u64 + 1;
     let reply = Reply::Sent {
-        stream: i as u64 + 1,
+        stream: stream,
         place: place,
     };
     Answer {
-        session: sent,
+        session: s,
         reply: reply,
     }
 }
@@ -77,27 +77,27 @@ pub(crate) fn wait(s: Session, until: Clock) -> Answer
 }
 
 // The stream loses a slot, and is charged the worst-case time for it.
-pub(crate) fn expire(s: Session, i: usize) -> Answer
+pub(crate) fn expire(mut s: Session, i: usize) -> Answer
     requires { ⌜ (i < 8) × (streamAt s i .charge .0 ≤ session-end) × (streamAt s i .expired ≤ session-end) ⌝ }
     ensures { λ r. ⌜ r ≡ outcome s (expire i) ⌝ }
 {
     let x = s.streams[i];
     let y = x.lapsed(s.worst);
     let charge = y.charge;
-    let mut lapsed = s;
-    lapsed.streams[i] = y;
+    s.streams[i] = y;
+    let stream = i as u64 + 1;
     let reply = Reply::Expired {
-        stream: i as u64 + 1,
+        stream: stream,
         charge: charge,
     };
     Answer {
-        session: lapsed,
+        session: s,
         reply: reply,
     }
 }
 
 // The request at the disk has ended: clock and charge both grow by its duration, and the disk is free.
-pub(crate) fn finish(s: Session, i: usize, duration: Charge) -> Answer
+pub(crate) fn finish(mut s: Session, i: usize, duration: Charge) -> Answer
     requires { ⌜ (i < 8) × (streamAt s i .charge .0 ≤ session-end) × (s .clock .0 ≤ session-end) × (duration .0 ≤ session-end) ⌝ }
     ensures { λ r. ⌜ r ≡ outcome s (finish i (duration .0)) ⌝ }
 {
@@ -106,11 +106,10 @@ pub(crate) fn finish(s: Session, i: usize, duration: Charge) -> Answer
     let y = x.charged(duration);
     let charge = y.charge;
     let now = s.clock.after(duration);
-    let mut ended = s;
-    ended.streams[i] = y;
-    ended.clock = now;
-    ended.served = 0;
-    ended.place = 0;
+    s.streams[i] = y;
+    s.clock = now;
+    s.served = 0;
+    s.place = 0;
     let stream = i as u64 + 1;
     let reply = if duration.is_above(worst) {
         Reply::Overlong {
@@ -124,27 +123,27 @@ pub(crate) fn finish(s: Session, i: usize, duration: Charge) -> Answer
         }
     };
     Answer {
-        session: ended,
+        session: s,
         reply: reply,
     }
 }
 
 // The clock becomes the time reported.
-pub(crate) fn set_clock(s: Session, time: Clock, until: Clock) -> Answer
+pub(crate) fn set_clock(mut s: Session, time: Clock, until: Clock) -> Answer
     requires { ⌜ until ≡ moment (latest s) ⌝ }
     ensures { λ r. ⌜ r ≡ outcome s (set-clock (time .0)) ⌝ }
 {
+    let now = s.clock;
     let after_latest = time.is_after(until);
-    let after_now = time.is_after(s.clock);
-    let mut told = s;
-    told.clock = time;
+    let after_now = time.is_after(now);
+    s.clock = time;
     let reply = if after_latest & after_now {
         Reply::Late { time: time }
     } else {
         Reply::Clock { time: time }
     };
     Answer {
-        session: told,
+        session: s,
         reply: reply,
     }
 }

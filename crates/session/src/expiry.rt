@@ -5,14 +5,14 @@ use crate::time::Charge;
 use crate::time::Clock;
 ghost use mathlib.Core.Path.{_≡_};
 ghost use mathlib.Core.Bool.{true, not, _&&_, _||_};
-ghost use Prim.Native.Nat.{ℕ, _-_, _*_, _/_, _≤_};
+ghost use Prim.Native.Nat.{ℕ, _+_, _-_, _*_, _/_, _≤_};
 ghost use lib.Dec.{leb};
-ghost use Rattle.table.specs.Fold.{if, sumTo};
+ghost use Rattle.table.specs.Fold.{if};
 ghost use Rattle.table.specs.Ranges.{span-max};
-ghost use Rattle.session.specs.Time.{moment, diskTime};
+ghost use Rattle.session.specs.Time.{session-end, moment, diskTime};
 ghost use Rattle.session.specs.Stream.{slots};
 ghost use Rattle.session.specs.Bounds.{Bounded};
-ghost use Rattle.session.specs.Session.{streamAt, horizon, scaledPart, latest, sound};
+ghost use Rattle.session.specs.Session.{horizon, latest, sound};
 ghost use Rattle.session.specs.Choice.{expiresFirst};
 ghost use Rattle.session.specs.Search.{lapseOf};
 
@@ -22,52 +22,42 @@ pub(crate) struct Lapse {
     pub(crate) stream: usize,
 }
 
+// What the streams passed so far were charged, and what they may use up to the horizon, times the span.
+pub(crate) struct Sums {
+    pub(crate) charges: Charge,
+    pub(crate) parts: u64,
+}
+
 // The latest safe moment: the horizon less all remainders.
 pub(crate) fn latest(s: Session, h: Clock) -> Clock
     requires { ⌜ (sound s ≡ true) × (h ≡ moment (horizon s)) ⌝ }
     ensures { λ r. ⌜ r ≡ moment (latest s) ⌝ }
 {
-    let charges = charges(s);
-    let parts = scaled_parts(s, h);
-    h.less_remainders(charges, parts, s.span)
-}
-
-// What the used streams were charged.
-fn charges(s: Session) -> Charge
-    requires { ⌜ sound s ≡ true ⌝ }
-    ensures { λ r. ⌜ r ≡ diskTime (sumTo (λ i. streamAt s i .charge .0) (s .count)) ⌝ }
-{
-    let mut sum = Charge::of(0);
+    let nothing = Charge::of(0);
+    let mut sums = Sums {
+        charges: nothing,
+        parts: 0,
+    };
     let mut i: usize = 0;
     while i < s.count {
         let x = s.streams[i];
-        sum = sum.plus(x.charge);
+        sums = summed(sums, x, s.span, h);
         i += 1;
     }
-    sum
+    h.less_remainders(sums.charges, sums.parts, s.span)
 }
 
-// What the used streams may use up to the horizon, times the span.
-fn scaled_parts(s: Session, h: Clock) -> u64
-    requires { ⌜ (sound s ≡ true) × (h ≡ moment (horizon s)) ⌝ }
-    ensures { λ r. ⌜ r ≡ sumTo (scaledPart s) (s .count) ⌝ }
+// The sums with one more stream; its part is whole, since its period divides the span.
+fn summed(sums: Sums, x: Stream, span: u32, h: Clock) -> Sums
+    requires { ⌜ (sums .charges .0 ≤ session-end) × (sums .parts ≤ 1000000000000000000) × (span ≤ span-max) × ((worst : ℕ) × Bounded worst (h .0) x) ⌝ }
+    ensures { λ r. ⌜ r ≡ record { charges = diskTime (sums .charges .0 + x .charge .0); parts = sums .parts + (h .0 - x .release .0) * x .granted .0 * (span / x .period) } ⌝ }
 {
-    let mut sum: u64 = 0;
-    let mut i: usize = 0;
-    while i < s.count {
-        let x = s.streams[i];
-        sum += scaled_part(x, s.span, h);
-        i += 1;
+    let charges = sums.charges.plus(x.charge);
+    let part = h.since(x.release) * x.granted.micros() * (span / x.period) as u64;
+    Sums {
+        charges: charges,
+        parts: sums.parts + part,
     }
-    sum
-}
-
-// What one stream may use of it: whole, since its period divides the span.
-fn scaled_part(x: Stream, span: u32, h: Clock) -> u64
-    requires { ⌜ (span ≤ span-max) × ((worst : ℕ) × Bounded worst (h .0) x) ⌝ }
-    ensures { λ r. ⌜ r ≡ (h .0 - x .release .0) * x .granted .0 * (span / x .period) ⌝ }
-{
-    h.since(x.release) * x.granted.micros() * (span / x.period) as u64
 }
 
 // The used stream that loses a slot, if one has a slot.

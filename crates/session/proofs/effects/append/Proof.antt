@@ -20,8 +20,8 @@ mul-y c = search needs
 element-set-from-y : tie.Need-element-set-from-y
 element-set-from-y c = search needs
 
-add-t17 : tie.Need-add-t17
-add-t17 c = search needs
+add-stream : tie.Need-add-stream
+add-stream c = search needs
 
 returns : tie.Need-returns
 unfolding apply replyTo arrived
@@ -30,4 +30,4 @@ returns c = rw (c .arrived .ensures)
 pub append-spec : {M : Type 1} → statement M
 append-spec =
     tie.close
-    (tie.spec mul-x element-copy-out-x arrived-requires mul-y element-set-from-y add-t17 returns)
+    (tie.spec mul-x element-copy-out-x arrived-requires mul-y element-set-from-y add-stream returns)

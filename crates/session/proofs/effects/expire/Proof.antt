@@ -20,8 +20,8 @@ mul-y c = search needs
 element-set-from-y : tie.Need-element-set-from-y
 element-set-from-y c = search needs
 
-add-t18 : tie.Need-add-t18
-add-t18 c = search needs
+add-stream : tie.Need-add-stream
+add-stream c = search needs
 
 returns : tie.Need-returns
 unfolding apply replyTo lapsed
@@ -30,4 +30,4 @@ returns c = rw (c .before .lapsed .ensures)
 pub expire-spec : {M : Type 1} → statement M
 expire-spec =
     tie.close
-    (tie.spec mul-x element-copy-out-x lapsed-requires mul-y element-set-from-y add-t18 returns)
+    (tie.spec mul-x element-copy-out-x lapsed-requires mul-y element-set-from-y add-stream returns)

@@ -25,11 +25,11 @@ mul-y c = search needs
 element-set-from-y : tie.Need-element-set-from-y
 element-set-from-y c = search needs
 
-add-sent : tie.Need-add-sent
-add-sent c = search needs
+add-s : tie.Need-add-s
+add-s c = search needs
 
-add-t21 : tie.Need-add-t21
-add-t21 c = search needs
+add-stream : tie.Need-add-stream
+add-stream c = search needs
 
 returns : tie.Need-returns
 unfolding apply replyTo
@@ -46,6 +46,6 @@ send-spec =
     without-requires
     mul-y
     element-set-from-y
-    add-sent
-    add-t21
+    add-s
+    add-stream
     returns)

@@ -14,13 +14,13 @@ is-after-requires-2 c κs = search needs
 returns : tie.Need-returns
 unfolding apply replyTo late if
 returns c =
-    let test = rw (c .before .is-after2 .ensures, c .before .before .is-after .ensures, c .before .before .before .pre) at (c .if1 .taken) in
+    let test = rw (c .before .is-after2 .ensures, c .before .before .is-after .ensures, c .before .before .before .before .pre) at (c .if1 .taken) in
     rw test
 
 returns-2 : tie.Need-returns-2
 unfolding apply replyTo late if
 returns-2 c =
-    let test = rw (c .before .is-after2 .ensures, c .before .before .is-after .ensures, c .before .before .before .pre) at (c .if1 .left) in
+    let test = rw (c .before .is-after2 .ensures, c .before .before .is-after .ensures, c .before .before .before .before .pre) at (c .if1 .left) in
     rw test
 
 pub set-clock-spec : {M : Type 1} → statement M

@@ -1,16 +1,19 @@
 -- What the code's searches keep of the streams passed so far. No rule stands here: a reader of the rules may pass this file over.
 use mathlib.Core.Bool.{true, not, _&&_, _||_}
 use mathlib.Core.List.{List}
+use mathlib.Core.Path.{_≡_}
 use Prim.Native.Nat.{ℕ}
 use lib.ListN.{getD}
 use lib.Dec.{ltb, eqb}
 use Rattle.table.specs.Fold.{if}
+use Rattle.session.specs.Time.{moment}
 use Rattle.session.specs.Stream.{filled}
-use Rattle.session.specs.Session.{noSlot}
-use Rattle.session.specs.Choice.{distance, nearest, expiring}
+use Rattle.session.specs.Session.{someFilled, noSlot, latest}
+use Rattle.session.specs.Choice.{distance, nearest, nearestAt, chosen, expiring}
 use Rattle.session.specs.declared.choice.Near.{Near}
 use Rattle.session.specs.declared.choice.Pick.{Pick}
 use Rattle.session.specs.declared.expiry.Lapse.{Lapse}
+use Rattle.session.specs.declared.survey.Survey.{Survey}
 use Rattle.session.specs.declared.stream.Stream.{Stream}
 use Rattle.session.specs.declared.Session.{Session}
 
@@ -35,3 +38,11 @@ considered worst h head best x i =
 -- whether some stream has a slot, and the one that loses it
 unfoldable pub lapseOf : Session → Lapse
 lapseOf s = record { found = not (noSlot s); stream = expiring s }
+
+-- what a turn's survey of the streams says
+pub record Seen (s : Session) (r : Survey) : Type 0 where
+  pub found : r .pick .found ≡ someFilled s
+  pub stream : r .pick .stream ≡ chosen s
+  pub index : r .pick .found ≡ true → r .pick .index ≡ nearestAt s (chosen s)
+  pub lapse : r .lapse ≡ lapseOf s
+  pub until : r .until ≡ moment (latest s)

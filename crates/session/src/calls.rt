@@ -7,7 +7,6 @@ use crate::Charge;
 use crate::Clock;
 use crate::Session;
 use crate::Stream;
-use crate::choice::choose;
 use crate::effects::append;
 use crate::effects::expire;
 use crate::effects::finish;
@@ -16,10 +15,10 @@ use crate::effects::send;
 use crate::effects::set_clock;
 use crate::effects::wait;
 use crate::expiry::latest;
-use crate::expiry::to_expire;
 use crate::moves::move_on;
 use crate::moves::passes_end;
 use crate::soundness::judge;
+use crate::survey::survey_of;
 
 impl Session {
     // A request of a stream, counted from 1, at a place: 8, 9.
@@ -55,15 +54,16 @@ impl Session {
             return refuse(self, 10);
         }
         let h = judged.horizon;
-        let pick = choose(self, h);
+        let seen = survey_of(self, h);
+        let pick = seen.pick;
         if pick.found {
             return send(self, pick.stream, pick.index);
         }
         // b. no stream has a slot: move, or 14. c. and d. only empty slots: wait until the latest safe moment, or expire one.
-        let lapse = to_expire(self, h);
+        let lapse = seen.lapse;
         let empty_slot = lapse.found;
         if empty_slot {
-            let until = latest(self, h);
+            let until = seen.until;
             let early = until.is_after(self.clock);
             if early {
                 return wait(self, until);

@@ -2,10 +2,8 @@
 ghost use mathlib.Core.Path.{_≡_};
 ghost use mathlib.Core.Bool.{true};
 ghost use Prim.Native.Nat.{_≤_, _<_};
-ghost use Rattle.session.specs.Time.{moment};
 ghost use Rattle.session.specs.Bounds.{Bounded};
-ghost use Rattle.session.specs.Session.{horizon, someFilled, sound};
-ghost use Rattle.session.specs.Choice.{distance, nearest, nearestAt, chosen};
+ghost use Rattle.session.specs.Choice.{distance, nearest};
 ghost use Rattle.session.specs.Search.{near, nearer, considered};
 use crate::Clock;
 use crate::Session;
@@ -26,30 +24,8 @@ pub struct Pick {
     pub distance: u64,
 }
 
-// The request to send: of the streams with a filled slot that are due first, the place nearest the head.
-pub(crate) fn choose(s: Session, h: Clock) -> Pick
-    requires { ⌜ (sound s ≡ true) × (h ≡ moment (horizon s)) ⌝ }
-    ensures { λ r. ⌜ (r .found ≡ someFilled s) × (r .stream ≡ chosen s) × (r .found ≡ true → r .index ≡ nearestAt s (chosen s)) ⌝ }
-{
-    let start = Clock::at(0);
-    let mut best = Pick {
-        found: false,
-        stream: 0,
-        index: 0,
-        deadline: start,
-        distance: 0,
-    };
-    let mut i: usize = 0;
-    while i < s.count {
-        let x = s.streams[i];
-        best = consider(best, x, i, s.worst, h, s.head);
-        i += 1;
-    }
-    best
-}
-
 // The better of the best so far and one more stream's request; of equals the first stays.
-fn consider(best: Pick, x: Stream, i: usize, worst: u32, h: Clock, head: u64) -> Pick
+pub(crate) fn consider(best: Pick, x: Stream, i: usize, worst: u32, h: Clock, head: u64) -> Pick
     requires { ⌜ Bounded worst (h .0) x ⌝ }
     ensures { λ r. ⌜ r ≡ considered worst (h .0) head best x i ⌝ }
 {

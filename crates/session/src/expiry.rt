@@ -14,7 +14,6 @@ ghost use Rattle.session.specs.Stream.{slots};
 ghost use Rattle.session.specs.Bounds.{Bounded};
 ghost use Rattle.session.specs.Session.{horizon, latest, sound};
 ghost use Rattle.session.specs.Choice.{expiresFirst};
-ghost use Rattle.session.specs.Search.{lapseOf};
 
 // The stream that loses a slot, counted from 0, where one was found.
 pub(crate) struct Lapse {
@@ -48,7 +47,7 @@ pub(crate) fn latest(s: Session, h: Clock) -> Clock
 }
 
 // The sums with one more stream; its part is whole, since its period divides the span.
-fn summed(sums: Sums, x: Stream, span: u32, h: Clock) -> Sums
+pub(crate) fn summed(sums: Sums, x: Stream, span: u32, h: Clock) -> Sums
     requires { ⌜ (sums .charges .0 ≤ session-end) × (sums .parts ≤ 1000000000000000000) × (span ≤ span-max) × ((worst : ℕ) × Bounded worst (h .0) x) ⌝ }
     ensures { λ r. ⌜ r ≡ record { charges = diskTime (sums .charges .0 + x .charge .0); parts = sums .parts + (h .0 - x .release .0) * x .granted .0 * (span / x .period) } ⌝ }
 {
@@ -60,28 +59,8 @@ fn summed(sums: Sums, x: Stream, span: u32, h: Clock) -> Sums
     }
 }
 
-// The used stream that loses a slot, if one has a slot.
-pub(crate) fn to_expire(s: Session, h: Clock) -> Lapse
-    requires { ⌜ (sound s ≡ true) × (h ≡ moment (horizon s)) ⌝ }
-    ensures { λ r. ⌜ r ≡ lapseOf s ⌝ }
-{
-    let mut best = Lapse {
-        found: false,
-        stream: 0,
-    };
-    let mut i: usize = 0;
-    while i < s.count {
-        let at = best.stream;
-        let other = s.streams[at];
-        let x = s.streams[i];
-        best = better(best, other, i, x, s.worst, h);
-        i += 1;
-    }
-    best
-}
-
 // The best so far, which is the other stream, or the stream at i if that has a slot and expires first.
-fn better(best: Lapse, other: Stream, i: usize, x: Stream, worst: u32, h: Clock) -> Lapse
+pub(crate) fn better(best: Lapse, other: Stream, i: usize, x: Stream, worst: u32, h: Clock) -> Lapse
     requires { ⌜ Bounded worst (h .0) other × Bounded worst (h .0) x ⌝ }
     ensures { λ r. ⌜ r ≡ if (leb 1 (slots worst (h .0) x) && (not (best .found) || expiresFirst x other)) (record { found = true; stream = i }) best ⌝ }
 {

@@ -7,6 +7,7 @@ mod expiry;
 mod moves;
 mod soundness;
 mod stream;
+mod survey;
 mod time;
 
 ghost use mathlib.Core.Path.{_≡_};

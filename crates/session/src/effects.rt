@@ -64,7 +64,7 @@ pub(crate) fn send(mut s: Session, i: usize, j: usize) -> Answer
     }
 }
 
-// The stream has only empty slots, and there is time until the latest safe moment.
+// There are only empty slots, and there is time until the latest safe moment.
 pub(crate) fn wait(s: Session, until: Clock) -> Answer
     requires { ⌜ until ≡ moment (latest s) ⌝ }
     ensures { λ r. ⌜ r ≡ outcome s wait ⌝ }

@@ -1,12 +1,10 @@
 // Which request the house sends.
 ghost use mathlib.Core.Path.{_≡_};
-ghost use mathlib.Core.Bool.{true};
-ghost use Prim.Native.Nat.{_≤_, _<_};
+ghost use Prim.Native.Nat.{_≤_};
 ghost use Rattle.session.specs.Bounds.{Bounded};
-ghost use Rattle.session.specs.Choice.{distance, nearest};
+ghost use Rattle.session.specs.Choice.{distance};
 ghost use Rattle.session.specs.Search.{near, nearer, considered};
 use crate::Clock;
-use crate::Session;
 use crate::Stream;
 
 // A request of a queue, and how far it is from the head.

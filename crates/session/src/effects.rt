@@ -1,6 +1,6 @@
 // What each verdict does to the session, and its reply.
 ghost use mathlib.Core.Path.{_≡_};
-ghost use Prim.Native.Nat.{_+_, _≤_, _<_};
+ghost use Prim.Native.Nat.{_≤_, _<_};
 ghost use Rattle.session.specs.Time.{moment, session-end};
 ghost use Rattle.session.specs.Session.{streamAt, latest};
 ghost use Rattle.session.specs.Calls.{refuse, append, send, wait, expire, finish, set-clock, outcome};

@@ -1,10 +1,10 @@
 -- `load` gives the load: no period is 0, and with W at most 1,000,000 and H at most 600,000,000 nothing passes 64 bits.
-use mathlib.Core.Path.{_≡_}
-use Prim.Native.Nat.{ℕ, _*_, _/_, _≤_}
+use mathlib.Core.Path.{_≡_, ap}
+use Prim.Native.Nat.{ℕ, _+_, _*_, _/_, _≤_}
 use native.Mathlib.Nat.{mul-le-mul, div-le-self, le-trans}
 use native.Mathlib.Omega.{arith}
 use borrow.Author.Needs.{needs}
-use Rattle.table.specs.Admission.{periodAt, smallestPeriod, loadOf, numbersRefusal, streamsRefusal}
+use Rattle.table.specs.Admission.{periodAt, sharesOf, smallestPeriod, loadOf, numbersRefusal, streamsRefusal}
 use Rattle.table.specs.declared.Table.{Table}
 use Rattle.table.proofs.Folds.{smallest-is}
 use Rattle.table.proofs.Judged.{numbers-of, streams-of}
@@ -51,7 +51,9 @@ add-result c =
 
 returns : tie.Need-returns
 unfolding loadOf
-returns c = rw (c .shares .ensures .0, c .before .before .before .smallest-period .ensures)
+returns c =
+    let t = c .before .before .before .before .args .t in
+    rw (c .shares .ensures .0) (ap (λ p. sharesOf t + t .worst * (t .span / p)) (c .before .before .before .smallest-period .ensures))
 
 pub load-spec : {M : Type 1} → statement M
 load-spec =

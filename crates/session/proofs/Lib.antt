@@ -18,6 +18,7 @@ pub mod Choices
 pub mod Queues
 pub mod Changes
 pub mod MoveKept
+pub mod Closings
 pub mod Keeps
 pub mod Opened
 pub mod Answers

@@ -74,18 +74,18 @@ module _ (s : Session) (q : Sound s) where
       smallest-is (λ d. period-min ≤ d) (λ i. streamAt s i .deadline .0) (s .count) (admits s q .numbers .count-low)
       (λ i l. let b = bounded s q i l in omega (arith, b .due, b .period-low))
 
-  abbrev moving : Stream → Stream
+  abbrev pub moving : Stream → Stream
   moving = moved (s .clock) (horizon s)
 
-  abbrev next : Session
+  abbrev pub next : Session
   next = withStreams s (map moving (s .streams))
 
   -- what has no deadline stays as it is
-  stays : (x : Stream) → x .deadline .0 ≡ 0 → moving x ≡ x
+  pub stays : (x : Stream) → x .deadline .0 ≡ 0 → moving x ≡ x
   stays x zero-deadline = moved-other (s .clock) (horizon s) x (λ e. let low = horizon-low in omega arith)
 
   -- each stream moves
-  moved-at : (i : ℕ) → streamAt next i ≡ moving (streamAt s i)
+  pub moved-at : (i : ℕ) → streamAt next i ≡ moving (streamAt s i)
   moved-at i = ap (getD (map moving (s .streams)) i) (sym (stays noStream refl)) ∙ List·getD-map moving (s .streams) i noStream
 
   -- the horizon does not fall

@@ -152,5 +152,5 @@ unusedStream x =
     && eqb (x .charge .0) 0
     && eqb (x .expired) 0
     && eqb (x .queued) 0
-    && soundQueue (x .places) (x .queued)
+    && soundQueue (x .places) 0
     && zeroJob (x .last)

@@ -11,9 +11,7 @@ mod survey;
 mod time;
 
 ghost use mathlib.Core.Path.{_≡_};
-ghost use Prim.Native.Nat.{_≤_, _<_};
-ghost use Rattle.session.specs.Time.{moment};
-ghost use Rattle.session.specs.Session.{horizon};
+ghost use Prim.Native.Nat.{_<_};
 ghost use Rattle.table.specs.Fold.{listTo};
 ghost use Rattle.session.specs.Opening.{openedStream, freshSession, zeroSession, openingOf};
 pub use call::Answer;
@@ -83,22 +81,6 @@ impl Session {
             streams: streams,
         }
     }
-}
-
-// The smallest deadline of the used streams.
-fn horizon(s: Session) -> Clock
-    requires { ⌜ s .count ≤ 8 ⌝ }
-    ensures { λ r. ⌜ r ≡ moment (horizon s) ⌝ }
-{
-    let first = s.streams[0];
-    let mut h = first.deadline;
-    let mut i: usize = 0;
-    while i < s.count {
-        let x = s.streams[i];
-        h = h.earlier(x.deadline);
-        i += 1;
-    }
-    h
 }
 
 // A session at the first release of every stream.

@@ -1,19 +1,13 @@
 // The move of the horizon: every due job closes.
 ghost use mathlib.Core.Path.{_≡_};
 ghost use mathlib.Core.Bool.{true};
-ghost use mathlib.Core.List.{map};
-ghost use Prim.Native.Nat.{ℕ, _≤_, _<_};
-ghost use lib.ListN.{getD};
-ghost use Rattle.session.specs.Time.{moment, session-end};
-ghost use Rattle.session.specs.Stream.{moved};
-ghost use Rattle.session.specs.Session.{noStream, horizon, sound};
+ghost use Rattle.session.specs.Time.{moment};
+ghost use Rattle.session.specs.Session.{horizon, sound};
 ghost use Rattle.session.specs.Calls.{move, movePassesEnd, outcome};
 use crate::Answer;
 use crate::Clock;
 use crate::Reply;
 use crate::Session;
-use crate::Stream;
-use crate::horizon;
 
 // Whether a move would take a deadline past the session's end.
 pub(crate) fn passes_end(s: Session, h: Clock) -> bool
@@ -31,34 +25,25 @@ pub(crate) fn passes_end(s: Session, h: Clock) -> bool
 }
 
 // The move: all due jobs close, and the horizon is the next deadline.
-pub(crate) fn move_on(s: Session, h: Clock) -> Answer
+pub(crate) fn move_on(mut s: Session, h: Clock) -> Answer
     requires { ⌜ (sound s ≡ true) × (h ≡ moment (horizon s)) ⌝ }
     ensures { λ r. ⌜ r ≡ outcome s move ⌝ }
 {
-    let streams = s.streams;
-    let after = moved_streams(streams, s.clock, h);
-    let mut moved = s;
-    moved.streams = after;
-    let next = horizon(moved);
-    let reply = Reply::Moved { horizon: next };
-    Answer {
-        session: moved,
-        reply: reply,
-    }
-}
-
-// The streams after a move; those that are not used are not due.
-fn moved_streams(streams: [Stream; 8], now: Clock, h: Clock) -> [Stream; 8]
-    requires { ⌜ ((i : ℕ) → i < 8 → getD streams i noStream .deadline .0 ≤ session-end) ⌝ }
-    ensures { λ r. ⌜ r ≡ map (moved now (h .0)) streams ⌝ }
-{
-    let mut after = streams;
+    let now = s.clock;
+    let lowest = s.streams[0];
+    let first = lowest.moved(now, h);
+    let mut next = first.deadline;
     let mut i: usize = 0;
-    while i < 8 {
-        let x = streams[i];
+    while i < s.count {
+        let x = s.streams[i];
         let y = x.moved(now, h);
-        after[i] = y;
+        s.streams[i] = y;
+        next = next.earlier(y.deadline);
         i += 1;
     }
-    after
+    let reply = Reply::Moved { horizon: next };
+    Answer {
+        session: s,
+        reply: reply,
+    }
 }

@@ -116,7 +116,7 @@ impl Stream {
         let deadline = self.deadline.is(start);
         let charge = self.charge.is(nothing);
         let places = self.places;
-        let queue = queue_is_sound(places, self.queued);
+        let queue = queue_is_sound(places, 0);
         let last = self.last.is_zero();
         table
             & granted
@@ -242,9 +242,9 @@ fn queue_is_sound(places: [u64; 16], queued: usize) -> bool
     ensures { λ r. ⌜ r ≡ soundQueue places queued ⌝ }
 {
     let mut ok = true;
-    let mut j: usize = 0;
+    let mut j = queued;
     while j < 16 {
-        ok = ok & ((j < queued) | (places[j] == 0));
+        ok = ok & (places[j] == 0);
         j += 1;
     }
     (queued <= Stream::QUEUE_MAX) & ok

@@ -1,6 +1,6 @@
 -- An array that a loop fills from its front, and how a list reads after a change.
 use mathlib.Core.List.{List, [], _∷_, _++_, map, map-id, map-map, map-append}
-use mathlib.Core.Path.{_≡_, refl, sym, _∙_, ap, fun-ext}
+use mathlib.Core.Path.{_≡_, refl, sym, subst, _∙_, ap, fun-ext}
 use mathlib.Core.Logic.{⊎-elim}
 use Prim.Native.Nat.{ℕ, zero, suc, _+_, _-_, _≤_, _<_}
 use native.Mathlib.Nat.{not-suc-le-zero}
@@ -26,6 +26,22 @@ module _ {A : Type 0} (f : ℕ → A) where
 
   pub filled-all : (xs : List A) (n : ℕ) → Filled xs n n → xs ≡ listTo f n
   filled-all xs n q = sym (take-all n xs (omega (arith, q .cells))) ∙ q .front
+
+  -- cells that already hold what they should need no filling
+  pub filled-on : (xs : List A) (d : A) (i n : ℕ) → i ≤ n → ((j : ℕ) → i ≤ j → j < n → getD xs j d ≡ f j) → Filled xs i n → Filled xs n n
+  unfolding listTo
+  filled-on xs d i n le holds q = let e : i + (n - i) ≡ n = omega arith in subst (λ (m : ℕ). Filled xs m n) e (go (n - i) (omega arith))
+    where
+      go : (m : ℕ) → i + m ≤ n → Filled xs (i + m) n
+      go zero l = let e : i + 0 ≡ i = omega arith in rw e q
+      go (suc m) l =
+          let e : i + suc m ≡ suc (i + m) = omega arith in
+          let here = go m (omega arith) in
+          rw e
+          (record {
+            cells = q .cells;
+            front = rw (take-suc xs (i + m) d (omega (arith, q .cells)), here .front, holds (i + m) (omega arith) (omega arith));
+          })
 
   -- the list of f 0, .., f (n - 1) has n elements, and f i at i
   pub length-listTo : (n : ℕ) → length (listTo f n) ≡ n

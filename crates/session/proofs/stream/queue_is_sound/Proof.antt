@@ -1,26 +1,31 @@
--- `queue_is_sound` judges every cell: the invariant is that those passed are as they should be.
+-- `queue_is_sound` judges the cells past the length; those before it may hold anything.
 use mathlib.Core.Bool.{_||_}
+use mathlib.Core.Logic.{⊎-elim}
 use lib.Dec.{ltb, eqb}
 use lib.ListN.{getD, length}
-use borrow.Author.Tests.{eq-eqb}
+use borrow.Author.Tests.{eq-eqb, lt-leb, lt-ltb, le-ltb}
 use Rattle.table.specs.Fold.{allTo}
+use Rattle.table.proofs.Tests.{le-or-lt}
+use Rattle.table.proofs.Folds.{all-of}
 use Rattle.session.specs.Stream.{soundQueue}
 use native.Mathlib.Omega.{arith}
-use mathlib.Core.Path.{_≡_, refl}
+use mathlib.Core.Path.{_≡_, sym}
 use native.Mathlib.Numerals.{add-one}
-use Prim.Native.Nat.{_≤_, _-_}
+use Prim.Native.Nat.{_≤_, _<_, _-_}
 use Rattle.session.proofs.stream.queue_is_sound.Statement.{statement}
 use Rattle.session.proofs.stream.queue_is_sound.Tie as tie
 
 abbrev Inv-loop : tie.InvT-loop
-Inv-loop queued places ok₀ j₀ ok j = (j ≤ 16) × (ok ≡ allTo (λ i. ltb i queued || eqb (getD places i 0) 0) j)
+Inv-loop queued places ok₀ j₀ ok j =
+    (queued ≤ j) × (queued ≤ 16 → j ≤ 16) × (ok ≡ allTo (λ i. ltb i queued || eqb (getD places i 0) 0) j)
 
 abbrev μ-loop : tie.MeasureT-loop
 μ-loop queued places ok₀ j₀ ok j = 16 - j
 
 loop-holds : tie.Need-loop-holds Inv-loop μ-loop
-unfolding allTo
-loop-holds c = (omega arith, refl)
+loop-holds c =
+    let queued = c .args .queued in
+    (omega arith, λ le. le, sym (all-of (λ i. ltb i queued || eqb (getD (c .args .t1) i 0) 0) queued (λ i l. rw (lt-ltb i queued l))))
 
 mul-ok : tie.Need-mul-ok Inv-loop μ-loop
 mul-ok c = omega arith
@@ -36,14 +41,20 @@ loop-less c = omega arith
 
 loop-again : tie.Need-loop-again Inv-loop μ-loop
 unfolding allTo
-loop-again c = (omega arith, rw (add-one, c .before .loop .inv .1))
+loop-again c =
+    let q = c .before .loop .inv in
+    (omega arith, λ le. omega arith, rw (add-one, q .2, le-ltb _ _ (q .0)))
 
 returns : tie.Need-returns Inv-loop μ-loop
 unfolding soundQueue
 returns c =
-    let e : c .before .loop .j ≡ 16 = omega arith in
+    let at = c .before .loop in
+    let queued = c .before .before .args .queued in
     let cells : length (c .before .before .args .t1) ≡ 16 = omega (arith, c .before .before .good) in
-    rw (c .before .loop .inv .1, e, eq-eqb _ _ cells)
+    ⊎-elim
+    (λ (le : queued ≤ 16). let e : at .j ≡ 16 = omega (arith, at .inv .1 le) in rw (at .inv .2, e, eq-eqb _ _ cells))
+    (λ (over : 16 < queued). rw (lt-leb queued 16 over, eq-eqb _ _ cells))
+    (le-or-lt queued 16)
 
 pub queue-is-sound-spec : {M : Type 1} → statement M
 queue-is-sound-spec =

@@ -61,9 +61,9 @@ module _ (s : Session) (q : Sound s) where
   moving-all after h m =
       let high = admits s q .numbers .count-high in
       let full = filled-on movedAt (after .streams) noStream (s .count) 8 high
-        (λ j past l. m .rest j past ∙ sym (stays s q (streamAt s j) (unused-deadline (streamAt s j) (q .others j past l)))) (m .front) in
+      (λ j past l. m .rest j past ∙ sym (stays s q (streamAt s j) (unused-deadline (streamAt s j) (q .others j past l)))) (m .front) in
       let streams = filled-all movedAt (after .streams) 8 full ∙ mapped (moving s q) (s .streams) noStream 8 (q .eight) in
       let after-is = m .cells ∙ ap (withStreams s) streams in
       let ahead-is = m .ahead ∙ ap moment (smallest-agree (λ j. movedAt j .deadline .0) (λ j. streamAt (next s q) j .deadline .0) (s .count) (admits s q .numbers .count-low)
-        (λ j l. ap (λ (x : Stream). x .deadline .0) (sym (moved-at s q j)))) in
+      (λ j l. ap (λ (x : Stream). x .deadline .0) (sym (moved-at s q j)))) in
       ap₂ (λ (a : Session) (c : Clock). record { session = a; reply = Reply.Moved c }) after-is ahead-is

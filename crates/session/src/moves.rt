@@ -15,11 +15,11 @@ pub(crate) fn passes_end(s: Session, h: Clock) -> bool
     ensures { λ r. ⌜ r ≡ movePassesEnd s ⌝ }
 {
     let mut passes = false;
-    let mut i: usize = 0;
-    while i < s.count {
-        let x = s.streams[i];
+    let mut j: usize = 0;
+    while j < s.count {
+        let x = s.streams[j];
         passes = passes | x.closes_past_end(h);
-        i += 1;
+        j += 1;
     }
     passes
 }

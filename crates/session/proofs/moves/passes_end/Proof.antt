@@ -12,10 +12,10 @@ use Rattle.session.proofs.moves.passes_end.Statement.{statement}
 use Rattle.session.proofs.moves.passes_end.Tie as tie
 
 abbrev Inv-loop : tie.InvT-loop
-Inv-loop h s passes₀ i₀ passes i = (i ≤ s .count) × (passes ≡ someTo (λ j. closesPastEnd (h .0) (streamAt s j)) i)
+Inv-loop h s passes₀ j₀ passes j = (j ≤ s .count) × (passes ≡ someTo (λ i. closesPastEnd (h .0) (streamAt s i)) j)
 
 abbrev μ-loop : tie.MeasureT-loop
-μ-loop h s passes₀ i₀ passes i = s .count - i
+μ-loop h s passes₀ j₀ passes j = s .count - j
 
 loop-holds : tie.Need-loop-holds Inv-loop μ-loop
 unfolding someTo
@@ -30,10 +30,10 @@ element-copy-out-x c = omega (arith, count-high _ (c .before .before .pre .0))
 closes-past-end-requires : tie.Need-closes-past-end-requires Inv-loop μ-loop
 closes-past-end-requires c κs =
     let start = c .before .before .before in
-    bounded (start .args .t1) (sound-of _ (start .pre .0)) (c .before .before .loop .i) (omega arith) .deadline-high
+    bounded (start .args .t1) (sound-of _ (start .pre .0)) (c .before .before .loop .j) (omega arith) .deadline-high
 
-add-i : tie.Need-add-i Inv-loop μ-loop
-add-i c = omega arith
+add-j : tie.Need-add-j Inv-loop μ-loop
+add-j c = omega arith
 
 loop-less : tie.Need-loop-less Inv-loop μ-loop
 loop-less c = omega arith
@@ -46,7 +46,7 @@ returns : tie.Need-returns Inv-loop μ-loop
 unfolding movePassesEnd
 returns c =
     let start = c .before .before in
-    let e : c .before .loop .i ≡ start .args .t1 .count = omega arith in
+    let e : c .before .loop .j ≡ start .args .t1 .count = omega arith in
     rw (c .before .loop .inv .1, e, start .pre .1)
 
 pub passes-end-spec : {M : Type 1} → statement M
@@ -59,7 +59,7 @@ passes-end-spec =
     mul-x
     element-copy-out-x
     closes-past-end-requires
-    add-i
+    add-j
     loop-less
     loop-again
     returns)

@@ -123,7 +123,7 @@ replyTo s (finish i a) =
 replyTo s (set-clock t) = if (late s t) (Reply.Late (moment t)) (Reply.Clock (moment t))
 
 -- the number of a reply
-unfoldable pub numberOf : Reply → ℕ
+abbrev pub numberOf : Reply → ℕ
 numberOf (Reply.Refused n) = n
 numberOf (Reply.Arrived i queued) = 20
 numberOf (Reply.Sent i place) = 21
@@ -136,7 +136,7 @@ numberOf (Reply.Clock t) = 27
 numberOf (Reply.Late t) = 28
 
 -- "the value (0 for a refusal)"
-unfoldable pub valueOf : Reply → ℕ
+abbrev pub valueOf : Reply → ℕ
 valueOf (Reply.Refused n) = 0
 valueOf (Reply.Arrived i queued) = queued
 valueOf (Reply.Sent i place) = place
@@ -149,7 +149,7 @@ valueOf (Reply.Clock t) = t .0
 valueOf (Reply.Late t) = t .0
 
 -- the stream that a call itself names, "the event's own stream byte"
-unfoldable pub calledStream : Call → ℕ
+abbrev pub calledStream : Call → ℕ
 calledStream (Call.Arrival n place) = n
 calledStream Call.Turn = 0
 calledStream (Call.OwnTurn n j) = n
@@ -157,7 +157,7 @@ calledStream (Call.Done a) = 0
 calledStream (Call.Clock t) = 0
 
 -- "the stream (0 where it is a move, wait or clock; the stream served for done; a refused call shows the event's own stream byte)"
-unfoldable pub streamOf : Call → Reply → ℕ
+abbrev pub streamOf : Call → Reply → ℕ
 streamOf k (Reply.Refused n) = calledStream k
 streamOf k (Reply.Arrived i queued) = i
 streamOf k (Reply.Sent i place) = i
@@ -176,15 +176,7 @@ outcome s v = record { session = apply s v; reply = replyTo s v }
 unfoldable pub answerTo : Session → Call → Answer
 answerTo s k = outcome s (verdict s k)
 
--- the run of a list of calls: each answer's session is that of the next call
-
-unfoldable pub run : Session → List Call → List Answer
-run s [] = []
-run s (k ∷ ks) =
-    let a = answerTo s k in
-    a ∷ run (a .session) ks
-
--- the session after all of them
+-- the session after a list of calls: each call's session is that of the answer before it
 unfoldable pub after : Session → List Call → Session
 after s [] = s
 after s (k ∷ ks) = after (answerTo s k .session) ks

@@ -1,0 +1,6 @@
+pub mod Worked
+pub mod Each
+pub mod Decimal
+pub mod Lines
+pub mod Storing
+pub mod Texts

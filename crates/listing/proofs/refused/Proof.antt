@@ -1,0 +1,66 @@
+-- `refused` stores the word, and then the number behind it.
+use borrow.Author.Needs.{needs}
+use native.Mathlib.Omega.{arith}
+use mathlib.Core.Path.{refl}
+use mathlib.Core.List.{[], _∷_, map}
+use lib.ListN.{replicate}
+use Rattle.cells.proofs.Runs.{wrote-none, wrote-more}
+use Rattle.listing.specs.Line.{ascii, decimal, onward, rendered, refusedFields, text-size}
+use Rattle.listing.proofs.Texts.{rendered-length, refused-room, written}
+use Rattle.listing.proofs.refused.Statement.{statement}
+use Rattle.listing.proofs.refused.Tie as tie
+use Rattle.listing.proofs.refused.Reads as reads
+use Rattle.listing.proofs.refused.Lts as lts
+use Rattle.cells.proofs.put_bytes.Reads as put-bytes-reads
+use Rattle.listing.proofs.put_onward.Reads as put-onward-reads
+
+-- src/lib.rt:45:22
+slice-aggregate-put-bytes : tie.Need-slice-aggregate-put-bytes
+slice-aggregate-put-bytes c = search needs
+
+-- src/lib.rt:45:5
+put-bytes-requires : tie.Need-put-bytes-requires
+put-bytes-requires c κs = search needs
+
+-- src/lib.rt:47:26
+slice-aggregate-put-onward : tie.Need-slice-aggregate-put-onward
+slice-aggregate-put-onward c = search needs
+
+-- src/lib.rt:47:50
+slice-aggregate-put-onward-2 : tie.Need-slice-aggregate-put-onward-2
+slice-aggregate-put-onward-2 c = search needs
+
+-- src/lib.rt:47:9
+put-onward-requires : tie.Need-put-onward-requires
+unfolding ascii refusedFields
+put-onward-requires c κs =
+    let a = c .before .before .before .before .before .before .before .args in
+    let f = c .before .before .before .before .before .before .before .fits in
+    omega (
+      arith,
+      refused-room (a .number) (f .number .fits),
+      rendered-length (ascii "refused") (map decimal (a .number ∷ [])),
+      c .before .before .before .put-bytes .kept .0,
+    )
+
+-- src/lib.rt:39:1
+returns : tie.Need-returns
+unfolding ascii rendered refusedFields
+returns c =
+    let a = c .before .before .before .before .before .before .before .before .before .args in
+    let f = c .before .before .before .before .before .before .before .before .before .fits in
+    let number = c .before .put-onward in
+    let word = wrote-more (ascii "refused") (wrote-none (replicate text-size 0)) refl (c .before .before .before .before .before .put-bytes .ensures) in
+    let all = wrote-more (onward (map decimal (a .number ∷ []))) word (number .ensures .0) (number .ensures .1) in
+    written (refusedFields (a .number)) (refused-room (a .number) (f .number .fits)) all
+
+pub refused-spec : {M : Type 1} → statement M
+refused-spec =
+    tie.close
+    (tie.spec
+    slice-aggregate-put-bytes
+    put-bytes-requires
+    slice-aggregate-put-onward
+    slice-aggregate-put-onward-2
+    put-onward-requires
+    returns)

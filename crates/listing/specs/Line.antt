@@ -1,0 +1,68 @@
+-- What the program prints, as bytes: "a header, then a line per event, fields parted by one space, numbers in decimal, each line ended by a newline", or one line that says `refused N`.
+use mathlib.Core.List.{List, [], _∷_, _++_, map}
+use mathlib.Core.Path.{_≡_}
+use Prim.Native.Nat.{ℕ, zero, suc, _+_, _-_, _/_, _%_, _≤_}
+use Prim.Native.Char.{code}
+use Prim.Native.String.{String}
+use lib.ListN.{length, take, replicate}
+use Rattle.listing.specs.declared.Text.{Text}
+
+-- the bytes of a word, one for each of its letters
+unfoldable pub ascii : String → List ℕ
+ascii String.[] = []
+ascii (String._∷_ letter rest) = code letter ∷ ascii rest
+
+abbrev pub space : ℕ
+space = code " "
+
+abbrev pub newline : ℕ
+newline = code "\n"
+
+abbrev pub zero-digit : ℕ
+zero-digit = code "0"
+
+-- the digits of n, the highest first: those of n / 10, and then the last; 0 has none. So many divisions are made at most.
+unfoldable pub digits : ℕ → ℕ → List ℕ
+digits zero n = []
+digits (suc divisions) zero = []
+digits (suc divisions) (suc m) = digits divisions (suc m / 10) ++ ((zero-digit + suc m % 10) ∷ [])
+
+-- "numbers in decimal": n divisions are enough, and 0 is one zero
+unfoldable pub decimal : ℕ → List ℕ
+decimal zero = zero-digit ∷ []
+decimal (suc m) = digits (suc m) (suc m)
+
+-- "fields parted by one space": what follows the first of them, "ended by a newline"
+unfoldable pub onward : List (List ℕ) → List ℕ
+onward [] = newline ∷ []
+onward (field ∷ rest) = space ∷ (field ++ onward rest)
+
+-- the line of some fields, however many
+unfoldable pub rendered : List (List ℕ) → List ℕ
+rendered [] = newline ∷ []
+rendered (field ∷ rest) = field ++ onward rest
+
+-- the header
+unfoldable pub headerFields : List (List ℕ)
+headerFields = map ascii ("event" ∷ "answer" ∷ "stream" ∷ "value" ∷ "clock" ∷ [])
+
+-- a line per event: "its number from 1, the reply, the stream, .. the value, .. the clock afterwards"
+unfoldable pub eventFields : ℕ → ℕ → ℕ → ℕ → ℕ → List (List ℕ)
+eventFields number answer stream value clock = map decimal (number ∷ answer ∷ stream ∷ value ∷ clock ∷ [])
+
+-- "If reading or opening refuses it prints `refused N`, nothing more."
+unfoldable pub refusedFields : ℕ → List (List ℕ)
+refusedFields number = ascii "refused" ∷ map decimal (number ∷ [])
+
+-- the line of some fields as the code hands it over: at the start of a fixed number of bytes, zeros after it
+abbrev pub text-size : ℕ
+text-size = 128
+
+unfoldable pub textOf : List (List ℕ) → Text
+textOf fields =
+    let line = rendered fields in
+    record { bytes = line ++ replicate (text-size - length line) 0; len = length line }
+
+-- the part that is used lies within a text; both parts follow from the contract's equation, and are said so that a caller may hand on `&bytes[..len]` without a proof
+abbrev pub Within : Text → Type 0
+Within text = (text .len ≤ length (text .bytes)) × (text .len ≡ length (take (text .len) (text .bytes)))

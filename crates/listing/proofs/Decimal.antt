@@ -6,9 +6,9 @@ use native.Mathlib.Omega.{arith}
 use native.Mathlib.Decide.{decLe}
 use native.Mathlib.Nat.{not-suc-le-zero, pow-suc, div-lt-iff-lt-mul, zero-lt-suc}
 use lib.ListN.{length, getD, length-append, List·getD-append}
-use Rattle.listing.specs.Line.{zero-digit, digits, decimal}
+use Rattle.listing.specs.Line.{zero-digit, lastDigit, digits, decimal}
+use Rattle.listing.specs.Laws.{Each, Digit, speltAfter, DecimalReadsBack, DecimalIsDigits, NoLeadingZero}
 use Rattle.listing.proofs.Each.{each-append}
-use Rattle.listing.specs.Laws.{Each, Digit, speltAfter, DecimalReadsBack, DecimalIsDigits, NoLeadingZero, NumbersAreShort}
 
 -- ---- the two equations
 
@@ -26,20 +26,19 @@ digits-same (suc f) g zero hf hg = sym (digits-none g)
 digits-same (suc f) zero (suc m) hf hg = absurd (not-suc-le-zero hg)
 digits-same (suc f) (suc g) (suc m) hf hg = rw (digits-same f g (suc m / 10) (omega arith) (omega arith))
 
-pub decimal-small : (n : ℕ) → n < 10 → decimal n ≡ (zero-digit + n) ∷ []
+pub decimal-small : (n : ℕ) → n < 10 → decimal n ≡ lastDigit n
 unfolding decimal digits
 decimal-small zero h = refl
 decimal-small (suc m) h =
     let tenth : suc m / 10 ≡ 0 = omega arith in
-    let last : suc m % 10 ≡ suc m = omega arith in
-    rw (tenth, last, digits-none m)
+    rw (tenth, digits-none m)
 
 digits-decimal : (divisions n : ℕ) → 1 ≤ n → n ≤ divisions → digits divisions n ≡ decimal n
 unfolding decimal
 digits-decimal divisions zero l h = absurd (not-suc-le-zero l)
 digits-decimal divisions (suc m) l h = digits-same divisions (suc m) (suc m) h (omega arith)
 
-pub decimal-more : (n : ℕ) → 10 ≤ n → decimal n ≡ decimal (n / 10) ++ ((zero-digit + n % 10) ∷ [])
+pub decimal-more : (n : ℕ) → 10 ≤ n → decimal n ≡ decimal (n / 10) ++ lastDigit n
 unfolding decimal digits
 decimal-more zero h = absurd (not-suc-le-zero h)
 decimal-more (suc m) h = rw (digits-decimal m (suc m / 10) (omega arith) (omega arith))
@@ -48,7 +47,7 @@ pub decimal-small-length : (n : ℕ) → n < 10 → length (decimal n) ≡ 1
 decimal-small-length n h = rw (decimal-small n h)
 
 pub decimal-more-length : (n : ℕ) → 10 ≤ n → length (decimal n) ≡ length (decimal (n / 10)) + 1
-decimal-more-length n h = rw (decimal-more n h) (length-append (decimal (n / 10)) ((zero-digit + n % 10) ∷ []))
+decimal-more-length n h = rw (decimal-more n h) (length-append (decimal (n / 10)) (lastDigit n))
 
 -- ---- the step
 
@@ -79,11 +78,11 @@ decimal-length =
     more n l tenth zero h = absurd (omega arith)
     more n l tenth (suc k) h =
         let q : n / 10 < 10 ^ suc k = div-lt-iff-lt-mul (zero-lt-suc 9) .1 (rw pow-suc at h) in
-        rw (decimal-more n l, length-append (decimal (n / 10)) ((zero-digit + n % 10) ∷ [])) (omega (arith, tenth k q))
+        rw (decimal-more n l, length-append (decimal (n / 10)) (lastDigit n)) (omega (arith, tenth k q))
 
 -- a number of 64 bits has at most 20 digits
-pub numbers-are-short : NumbersAreShort
-numbers-are-short n h = decimal-length n 19 (omega arith)
+pub decimal-short : (n : ℕ) → n < 2 ^ 64 → length (decimal n) ≤ 20
+decimal-short n h = decimal-length n 19 (omega arith)
 
 spelt-append : (n : ℕ) (a b : List ℕ) → speltAfter n (a ++ b) ≡ speltAfter (speltAfter n a) b
 unfolding speltAfter
@@ -95,14 +94,14 @@ unfolding speltAfter
 decimal-reads-back =
     by-digits (λ n. speltAfter 0 (decimal n) ≡ n)
     (λ n l. rw (decimal-small n l) (omega arith))
-    (λ n l tenth. rw (decimal-more n l, spelt-append 0 (decimal (n / 10)) ((zero-digit + n % 10) ∷ []), tenth) (omega arith))
+    (λ n l tenth. rw (decimal-more n l, spelt-append 0 (decimal (n / 10)) (lastDigit n), tenth) (omega arith))
 
 pub decimal-is-digits : DecimalIsDigits
 unfolding Each
 decimal-is-digits =
     by-digits (λ n. Each Digit (decimal n))
     (λ n l. rw (decimal-small n l) ((omega arith, omega arith), tt))
-    (λ n l tenth. rw (decimal-more n l) (each-append Digit (decimal (n / 10)) ((zero-digit + n % 10) ∷ []) tenth ((omega arith, omega arith), tt)))
+    (λ n l tenth. rw (decimal-more n l) (each-append Digit (decimal (n / 10)) (lastDigit n) tenth ((omega arith, omega arith), tt)))
 
 -- it has a digit, and the first of a number other than 0 is above 0
 decimal-front : (n : ℕ) → (1 ≤ length (decimal n)) × (1 ≤ n → zero-digit < getD (decimal n) 0 0)
@@ -110,8 +109,7 @@ decimal-front =
     by-digits (λ n. (1 ≤ length (decimal n)) × (1 ≤ n → zero-digit < getD (decimal n) 0 0))
     (λ n l. rw (decimal-small n l) (omega arith, λ (pos : 1 ≤ n). omega arith))
     (λ n l tenth.
-    let last = (zero-digit + n % 10) ∷ [] in
-    rw (decimal-more n l, length-append (decimal (n / 10)) last, List·getD-append (decimal (n / 10)) last 0 0 (tenth .0))
+    rw (decimal-more n l, length-append (decimal (n / 10)) (lastDigit n), List·getD-append (decimal (n / 10)) (lastDigit n) 0 0 (tenth .0))
     (omega (arith, tenth .0), λ (pos : 1 ≤ n). tenth .1 (omega arith)))
 
 pub decimal-some : (n : ℕ) → 1 ≤ length (decimal n)

@@ -2,5 +2,5 @@ pub mod Worked
 pub mod Each
 pub mod Decimal
 pub mod Lines
-pub mod Storing
 pub mod Texts
+pub mod Storing

@@ -2,9 +2,10 @@
 use mathlib.Core.Path.{_≡_, refl, sym, ap, subst, _∙_}
 use mathlib.Core.List.{List, [], _∷_, _++_, map, append-assoc, append-nil, head-eq-of-cons-eq}
 use Prim.Native.Nat.{ℕ, _+_, _≤_, _<_}
+use Prim.Native.Char.{code}
 use native.Mathlib.Omega.{arith}
 use lib.ListN.{length}
-use Rattle.listing.specs.Line.{ascii, space, newline, decimal, onward, rendered, headerFields, eventFields, refusedFields}
+use Rattle.listing.specs.Line.{ascii, space, newline, zero-digit, decimal, onward, rendered, headerFields, eventFields, refusedFields}
 use Rattle.listing.specs.Laws.{Each, Digit, Field, PrintsFields, LinesTell, FieldsTell, NumbersTell, NewlineEnds, KindsDiffer}
 use Rattle.listing.proofs.Each.{each-append, each-weaker}
 use Rattle.listing.proofs.Decimal.{decimal-is-digits, decimal-some, decimal-tells}
@@ -156,7 +157,7 @@ pub prints-fields : PrintsFields
 prints-fields = (header-fields, refused-fields, event-fields)
 
 -- a letter begins no number
-letter-no-number : (letter n : ℕ) (rest : List ℕ) → 64 < letter → letter ∷ rest ≡ decimal n → ⊥
+letter-no-number : (letter n : ℕ) (rest : List ℕ) → zero-digit + 9 < letter → letter ∷ rest ≡ decimal n → ⊥
 unfolding Each
 letter-no-number letter n rest l h =
     let first : Each Digit (letter ∷ rest) = subst (Each Digit) (sym h) (decimal-is-digits n) in
@@ -169,8 +170,8 @@ kinds-differ refusal number answer stream value clock =
     let refused = refused-fields refusal in (
       (λ h.
           let words : ascii "event" ≡ ascii "refused" = head-eq-of-cons-eq (fields-tell headerFields (refusedFields refusal) header-fields refused h) in
-          let letters : _≡_ {A = ℕ} 101 114 = head-eq-of-cons-eq words in
+          let letters : code "e" ≡ code "r" = head-eq-of-cons-eq words in
           omega (arith, letters)),
-      (λ h. letter-no-number 101 number _ (omega arith) (head-eq-of-cons-eq (fields-tell headerFields (eventFields number answer stream value clock) header-fields event h))),
-      λ h. letter-no-number 114 number _ (omega arith) (head-eq-of-cons-eq (fields-tell (refusedFields refusal) (eventFields number answer stream value clock) refused event h)),
+      (λ h. letter-no-number (code "e") number _ (omega arith) (head-eq-of-cons-eq (fields-tell headerFields (eventFields number answer stream value clock) header-fields event h))),
+      λ h. letter-no-number (code "r") number _ (omega arith) (head-eq-of-cons-eq (fields-tell (refusedFields refusal) (eventFields number answer stream value clock) refused event h)),
     )

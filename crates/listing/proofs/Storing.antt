@@ -1,5 +1,5 @@
 -- Storing a line: the digits of a number from the last one on, and numbers one after the other.
-use mathlib.Core.Path.{_≡_, refl, sym, ap, _∙_}
+use mathlib.Core.Path.{_≡_, refl, sym}
 use mathlib.Core.List.{List, [], _∷_, _++_, map}
 use Prim.Native.Nat.{ℕ, zero, suc, _+_, _-_, _/_, _%_, _≤_, _<_}
 use native.Mathlib.Omega.{arith}
@@ -7,7 +7,7 @@ use native.Mathlib.Numerals.{add-one}
 use lib.ListN.{length, getD, drop, set, length-append, drop-of-length-le}
 use lib.Seq.{sets, set-comm, drop-cons}
 use Rattle.cells.proofs.Runs.{sets-append}
-use Rattle.listing.specs.Line.{space, newline, zero-digit, decimal, onward}
+use Rattle.listing.specs.Line.{space, newline, zero-digit, lastDigit, decimal, onward}
 use Rattle.listing.proofs.Decimal.{by-digits, decimal-small, decimal-more, decimal-small-length, decimal-more-length}
 
 -- ---- digits
@@ -15,20 +15,20 @@ use Rattle.listing.proofs.Decimal.{by-digits, decimal-small, decimal-mo
 -- the last digits of n, so many, with zeros in front where it has fewer
 unfoldable pub lastDigits : ℕ → ℕ → List ℕ
 lastDigits zero n = []
-lastDigits (suc width) n = lastDigits width (n / 10) ++ ((zero-digit + n % 10) ∷ [])
+lastDigits (suc width) n = lastDigits width (n / 10) ++ lastDigit n
 
 length-last : (width n : ℕ) → length (lastDigits width n) ≡ width
 unfolding lastDigits
 length-last zero n = refl
 length-last (suc width) n =
-    rw (length-append (lastDigits width (n / 10)) ((zero-digit + n % 10) ∷ []), length-last width (n / 10)) (omega arith)
+    rw (length-append (lastDigits width (n / 10)) (lastDigit n), length-last width (n / 10)) (omega arith)
 
 -- as many as it has are its decimal
 pub last-all : (n : ℕ) → lastDigits (length (decimal n)) n ≡ decimal n
 unfolding lastDigits
 last-all =
     by-digits (λ n. lastDigits (length (decimal n)) n ≡ decimal n)
-    (λ n l. let e : n % 10 ≡ n = omega arith in rw (decimal-small-length n l, decimal-small n l, e))
+    (λ n l. rw (decimal-small-length n l, decimal-small n l))
     (λ n l tenth. rw (decimal-more-length n l, decimal-more n l, add-one, tenth))
 
 -- a store behind a run may come before it
@@ -46,7 +46,7 @@ digit-more out at i rest h =
     let before = lastDigits width (rest / 10) in
     let one-less : i - at ≡ suc width = omega arith in
     let behind : at + length before ≡ i - 1 = omega (arith, length-last width (rest / 10)) in
-    rw (one-less, sets-append before ((zero-digit + rest % 10) ∷ []) out at, behind)
+    rw (one-less, sets-append before (lastDigit rest) out at, behind)
     (set-first before out at (i - 1) (zero-digit + rest % 10) (omega (arith, behind)))
 
 -- ---- numbers
@@ -74,11 +74,12 @@ module _ (numbers : List ℕ) (i : ℕ) (l : i < length numbers) where
   onward-length =
       rw (onward-next, length-append next (onward (map decimal (drop (i + 1) numbers)))) (omega arith)
 
-  -- a turn of the loop
-  pub onward-more : (out : List ℕ) (end : ℕ)
-      → sets (sets (set out end space) (end + 1) next) (end + 1 + length next) (onward (map decimal (drop (i + 1) numbers)))
-      ≡ sets out end (onward (map decimal (drop i numbers)))
-  onward-more out end =
+  -- a turn of the loop: the space and the next number are stored
+  pub onward-more : (out stored : List ℕ) (end after : ℕ)
+      → after ≡ end + 1 + length next
+      → stored ≡ sets (set out end space) (end + 1) next
+      → sets stored after (onward (map decimal (drop (i + 1) numbers))) ≡ sets out end (onward (map decimal (drop i numbers)))
+  onward-more out stored end after a h =
       let after-space : end + 1 ≡ suc end = omega arith in
-      rw (onward-next, after-space)
+      rw (h, a, onward-next, after-space)
       (sym (sets-append next (onward (map decimal (drop (i + 1) numbers))) (set out end space) (suc end)))

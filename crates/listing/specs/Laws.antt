@@ -75,19 +75,16 @@ KindsDiffer =
     × (rendered headerFields ≡ rendered (eventFields number answer stream value clock) → ⊥)
     × (rendered (refusedFields refusal) ≡ rendered (eventFields number answer stream value clock) → ⊥)
 
--- A text has as many bytes as is said, and its first `len` are the line.
-abbrev pub TextHoldsLine : Type 0
-TextHoldsLine =
-    (fields : List (List ℕ)) → length (rendered fields) ≤ text-size
-    → (length (textOf fields .bytes) ≡ text-size) × (take (textOf fields .len) (textOf fields .bytes) ≡ rendered fields)
+-- a text's bytes are as many as the code says, and the first `len` of them are the line of the fields
+abbrev pub Holds : List (List ℕ) → Type 0
+Holds fields =
+    (length (textOf fields .bytes) ≡ text-size) × (take (textOf fields .len) (textOf fields .bytes) ≡ rendered fields)
 
--- A line has room in a text if it has up to six fields and each is as short as a number of 64 bits or shorter.
-abbrev pub Short : List ℕ → Type 0
-Short field = length field ≤ 20
-
-abbrev pub LinesHaveRoom : Type 0
-LinesHaveRoom =
-    (fields : List (List ℕ)) → Each Short fields → length fields ≤ 6 → length (rendered fields) ≤ text-size
-
-abbrev pub NumbersAreShort : Type 0
-NumbersAreShort = (n : ℕ) → n < 2 ^ 64 → Short (decimal n)
+-- Each text that the code hands over holds its line whole: numbers of 64 bits have room.
+abbrev pub TextsHoldLines : Type 0
+TextsHoldLines =
+    Holds headerFields
+    × ((number : ℕ) → number < 2 ^ 64 → Holds (refusedFields number))
+    × ((number answer stream value clock : ℕ)
+    → Each (λ n. n < 2 ^ 64) (number ∷ answer ∷ stream ∷ value ∷ clock ∷ [])
+    → Holds (eventFields number answer stream value clock))

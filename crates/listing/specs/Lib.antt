@@ -1,3 +1,3 @@
 pub mod Line
-pub mod Laws
 pub mod Cases
+pub mod Laws

@@ -21,11 +21,15 @@ newline = code "\n"
 abbrev pub zero-digit : ℕ
 zero-digit = code "0"
 
+-- the last digit of n
+abbrev pub lastDigit : ℕ → List ℕ
+lastDigit n = (zero-digit + n % 10) ∷ []
+
 -- the digits of n, the highest first: those of n / 10, and then the last; 0 has none. So many divisions are made at most.
 unfoldable pub digits : ℕ → ℕ → List ℕ
 digits zero n = []
 digits (suc divisions) zero = []
-digits (suc divisions) (suc m) = digits divisions (suc m / 10) ++ ((zero-digit + suc m % 10) ∷ [])
+digits (suc divisions) (suc m) = digits divisions (suc m / 10) ++ lastDigit (suc m)
 
 -- "numbers in decimal": n divisions are enough, and 0 is one zero
 unfoldable pub decimal : ℕ → List ℕ

@@ -4,7 +4,7 @@ use native.Mathlib.Omega.{arith}
 use mathlib.Core.Path.{_≡_}
 use lib.ListN.{length}
 use Rattle.listing.specs.Line.{decimal}
-use Rattle.listing.proofs.Decimal.{numbers-are-short, decimal-small-length, decimal-more-length}
+use Rattle.listing.proofs.Decimal.{decimal-short, decimal-small-length, decimal-more-length}
 use Rattle.listing.proofs.digit_count.Statement.{statement}
 use Rattle.listing.proofs.digit_count.Tie as tie
 
@@ -14,27 +14,22 @@ Inv-loop n count₀ rest₀ count rest = count + length (decimal rest) ≡ lengt
 abbrev μ-loop : tie.MeasureT-loop
 μ-loop n count₀ rest₀ count rest = rest
 
--- src/lib.rt:89:5
 loop-holds : tie.Need-loop-holds Inv-loop μ-loop
 loop-holds c = omega arith
 
--- src/lib.rt:90:9
 add-count : tie.Need-add-count Inv-loop μ-loop
 add-count c =
     let n = c .before .before .args .n in
-    omega (arith, c .before .loop .inv, numbers-are-short n (c .before .before .fits .n .fits))
+    omega (arith, c .before .loop .inv, decimal-short n (c .before .before .fits .n .fits))
 
--- src/lib.rt:89:5
 loop-less : tie.Need-loop-less Inv-loop μ-loop
 loop-less c = omega arith
 
--- src/lib.rt:89:5
 loop-again : tie.Need-loop-again Inv-loop μ-loop
 loop-again c =
     let loop = c .before .loop in
     omega (arith, loop .inv, decimal-more-length (loop .rest) (omega arith))
 
--- src/lib.rt:84:1
 returns : tie.Need-returns Inv-loop μ-loop
 returns c =
     let loop = c .before .loop in

@@ -7,19 +7,13 @@ use Rattle.listing.specs.Line.{ascii, onward, rendered, headerFields, te
 use Rattle.listing.proofs.Texts.{header-room, written}
 use Rattle.listing.proofs.header.Statement.{statement}
 use Rattle.listing.proofs.header.Tie as tie
-use Rattle.listing.proofs.header.Reads as reads
-use Rattle.listing.proofs.header.Lts as lts
-use Rattle.cells.proofs.put_bytes.Reads as put-bytes-reads
 
--- src/lib.rt:22:22
 slice-aggregate-put-bytes : tie.Need-slice-aggregate-put-bytes
 slice-aggregate-put-bytes c = search needs
 
--- src/lib.rt:22:5
 put-bytes-requires : tie.Need-put-bytes-requires
 put-bytes-requires c κs = search needs
 
--- src/lib.rt:16:1
 returns : tie.Need-returns
 unfolding ascii onward rendered headerFields
 returns c =

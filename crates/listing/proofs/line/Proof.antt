@@ -5,39 +5,31 @@ use mathlib.Core.List.{[], _∷_, map}
 use lib.ListN.{replicate}
 use Rattle.cells.proofs.Runs.{wrote-none, wrote-more}
 use Rattle.listing.specs.Line.{decimal, onward, rendered, eventFields, text-size}
-use Rattle.listing.proofs.Decimal.{numbers-are-short}
+use Rattle.listing.specs.Laws.{Each}
+use Rattle.listing.proofs.Decimal.{decimal-short}
 use Rattle.listing.proofs.Texts.{rendered-length, event-room, written}
 use Rattle.listing.proofs.line.Statement.{statement}
 use Rattle.listing.proofs.line.Tie as tie
-use Rattle.listing.proofs.line.Reads as reads
-use Rattle.listing.proofs.line.Lts as lts
-use Rattle.listing.proofs.put_decimal.Reads as put-decimal-reads
-use Rattle.listing.proofs.put_onward.Reads as put-onward-reads
 
--- src/lib.rt:31:27
 slice-aggregate-put-decimal : tie.Need-slice-aggregate-put-decimal
 slice-aggregate-put-decimal c = search needs
 
--- src/lib.rt:31:9
 put-decimal-requires : tie.Need-put-decimal-requires
-put-decimal-requires c κs = omega (arith, numbers-are-short (c .before .args .number) (c .before .fits .number .fits))
+put-decimal-requires c κs = omega (arith, decimal-short (c .before .args .number) (c .before .fits .number .fits))
 
--- src/lib.rt:33:26
 slice-aggregate-put-onward : tie.Need-slice-aggregate-put-onward
 slice-aggregate-put-onward c = search needs
 
--- src/lib.rt:33:43
 slice-aggregate-put-onward-2 : tie.Need-slice-aggregate-put-onward-2
 slice-aggregate-put-onward-2 c = search needs
 
--- src/lib.rt:33:9
 put-onward-requires : tie.Need-put-onward-requires
-unfolding eventFields
+unfolding Each eventFields
 put-onward-requires c κs =
     let a = c .before .before .before .before .before .args in
     let f = c .before .before .before .before .before .fits in
     let first = c .before .before .before .put-decimal in
-    let room = event-room (a .number) (a .answer) (a .stream) (a .value) (a .clock) (f .number .fits) (f .answer .fits) (f .stream .fits) (f .value .fits) (f .clock .fits) in
+    let room = event-room (a .number) (a .answer) (a .stream) (a .value) (a .clock) (f .number .fits, (f .answer .fits, (f .stream .fits, (f .value .fits, (f .clock .fits, tt))))) in
     omega (
       arith,
       room,
@@ -46,15 +38,14 @@ put-onward-requires c κs =
       first .kept .0,
     )
 
--- src/lib.rt:26:1
 returns : tie.Need-returns
-unfolding rendered eventFields
+unfolding Each rendered eventFields
 returns c =
     let a = c .before .before .before .before .before .before .before .args in
     let f = c .before .before .before .before .before .before .before .fits in
     let first = c .before .before .before .before .before .put-decimal in
     let others = c .before .put-onward in
-    let room = event-room (a .number) (a .answer) (a .stream) (a .value) (a .clock) (f .number .fits) (f .answer .fits) (f .stream .fits) (f .value .fits) (f .clock .fits) in
+    let room = event-room (a .number) (a .answer) (a .stream) (a .value) (a .clock) (f .number .fits, (f .answer .fits, (f .stream .fits, (f .value .fits, (f .clock .fits, tt))))) in
     let one = wrote-more (decimal (a .number)) (wrote-none (replicate text-size 0)) (first .ensures .0) (first .ensures .1) in
     let all = wrote-more (onward (map decimal (a .answer ∷ a .stream ∷ a .value ∷ a .clock ∷ []))) one (others .ensures .0) (others .ensures .1) in
     written (eventFields (a .number) (a .answer) (a .stream) (a .value) (a .clock)) room all

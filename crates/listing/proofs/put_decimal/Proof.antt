@@ -1,17 +1,14 @@
 -- `put_decimal` stores the digits from the last one on: `digit-more` is the turn, `last-all` the start.
-use Prim.Native.Nat.{ℕ, _+_, _-_, _≤_}
+use borrow.Author.Needs.{needs}
+use Prim.Native.Nat.{_+_, _-_, _≤_}
 use native.Mathlib.Omega.{arith}
 use mathlib.Core.Path.{_≡_, refl, ap, _∙_}
 use lib.ListN.{length, length-set}
 use lib.Seq.{sets}
 use Rattle.listing.specs.Line.{decimal}
 use Rattle.listing.proofs.Storing.{lastDigits, last-all, digit-more}
-use borrow.Author.Needs.{needs}
 use Rattle.listing.proofs.put_decimal.Statement.{statement}
 use Rattle.listing.proofs.put_decimal.Tie as tie
-use Rattle.listing.proofs.put_decimal.Reads as reads
-use Rattle.listing.proofs.put_decimal.Lts as lts
-use Rattle.listing.proofs.digit_count.Reads as digit-count-reads
 
 abbrev Inv-loop : tie.InvT-loop
 Inv-loop out₀ at n end rest₀ i₀ out rest i =
@@ -20,42 +17,33 @@ Inv-loop out₀ at n end rest₀ i₀ out rest i =
 abbrev μ-loop : tie.MeasureT-loop
 μ-loop out₀ at n end rest₀ i₀ out rest i = i
 
--- src/lib.rt:72:20
 digit-count-requires : tie.Need-digit-count-requires Inv-loop μ-loop
 digit-count-requires c κs = search needs
 
--- src/lib.rt:72:15
 add-end : tie.Need-add-end Inv-loop μ-loop
 add-end c = omega (arith, c .digit-count .ensures)
 
--- src/lib.rt:75:5
 loop-holds : tie.Need-loop-holds Inv-loop μ-loop
 loop-holds c =
     let a = c .before .before .args in
     let width : a .at + c .digit-count .result - a .at ≡ length (decimal (a .n)) = omega (arith, c .digit-count .ensures) in
     (omega arith, omega arith, refl, rw (width, last-all (a .n)))
 
--- src/lib.rt:76:9
 sub-i : tie.Need-sub-i Inv-loop μ-loop
 sub-i c = omega arith
 
--- src/lib.rt:77:25
 cast-out : tie.Need-cast-out Inv-loop μ-loop
 cast-out c = omega arith
 
--- src/lib.rt:77:18
 add-out : tie.Need-add-out Inv-loop μ-loop
 add-out c = omega arith
 
--- src/lib.rt:77:9
 slice-write-out : tie.Need-slice-write-out Inv-loop μ-loop
 slice-write-out c = omega (arith, c .before .before .digit-count .ensures)
 
--- src/lib.rt:75:5
 loop-less : tie.Need-loop-less Inv-loop μ-loop
 loop-less c = omega arith
 
--- src/lib.rt:75:5
 loop-again : tie.Need-loop-again Inv-loop μ-loop
 loop-again c =
     let loop = c .before .loop in
@@ -66,11 +54,9 @@ loop-again c =
       digit-more (loop .out) at (loop .i) (loop .rest) (omega arith) ∙ loop .inv .3,
     )
 
--- src/lib.rt:67:1
 same-length : tie.Need-same-length Inv-loop μ-loop
 same-length c = c .before .loop .inv .2
 
--- src/lib.rt:67:1
 returns : tie.Need-returns Inv-loop μ-loop
 unfolding lastDigits
 returns c =

@@ -1,18 +1,14 @@
 -- `put_onward` stores number after number: what is left to store is that of the numbers left, `onward-more` is the turn.
-use borrow.Author.Needs.{needs}
 use Prim.Native.Nat.{_+_, _-_, _≤_, _<_}
 use native.Mathlib.Omega.{arith}
 use mathlib.Core.Path.{_≡_, refl, ap, _∙_}
 use mathlib.Core.List.{map}
 use lib.ListN.{length, drop, length-set}
 use lib.Seq.{sets}
-use Rattle.listing.specs.Line.{space, newline, decimal, onward}
+use Rattle.listing.specs.Line.{decimal, onward}
 use Rattle.listing.proofs.Storing.{onward-some, onward-none, onward-length, onward-more}
 use Rattle.listing.proofs.put_onward.Statement.{statement}
 use Rattle.listing.proofs.put_onward.Tie as tie
-use Rattle.listing.proofs.put_onward.Reads as reads
-use Rattle.listing.proofs.put_onward.Lts as lts
-use Rattle.listing.proofs.put_decimal.Reads as put-decimal-reads
 
 abbrev Inv-loop : tie.InvT-loop
 Inv-loop out₀ at numbers end₀ i₀ out end i =
@@ -24,44 +20,35 @@ Inv-loop out₀ at numbers end₀ i₀ out end i =
 abbrev μ-loop : tie.MeasureT-loop
 μ-loop out₀ at numbers end₀ i₀ out end i = length numbers - i
 
--- src/lib.rt:57:5
 loop-holds : tie.Need-loop-holds Inv-loop μ-loop
 loop-holds c = (omega arith, refl, refl, refl)
 
--- src/lib.rt:58:9
 slice-write-out : tie.Need-slice-write-out Inv-loop μ-loop
 slice-write-out c =
     let loop = c .before .loop in
     omega (arith, onward-some (map decimal (drop (loop .i) (c .before .before .before .before .args .numbers .now))))
 
--- src/lib.rt:59:32
 add-put-decimal : tie.Need-add-put-decimal Inv-loop μ-loop
 add-put-decimal c = omega arith
 
--- src/lib.rt:59:41
 mul-put-decimal : tie.Need-mul-put-decimal Inv-loop μ-loop
 mul-put-decimal c = omega arith
 
--- src/lib.rt:59:41
 shared-slice-read-put-decimal : tie.Need-shared-slice-read-put-decimal Inv-loop μ-loop
 shared-slice-read-put-decimal c = omega arith
 
--- src/lib.rt:59:9
 put-decimal-requires : tie.Need-put-decimal-requires Inv-loop μ-loop
 put-decimal-requires c κs =
     let loop = c .before .before .before .loop in
     let numbers = c .before .before .before .before .before .before .args .numbers .now in
-    omega (arith, length-set (loop .out) (loop .end) space, onward-length numbers (loop .i) (omega arith))
+    simp length-set (omega (arith, onward-length numbers (loop .i) (omega arith)))
 
--- src/lib.rt:60:9
 add-i : tie.Need-add-i Inv-loop μ-loop
 add-i c = omega arith
 
--- src/lib.rt:57:5
 loop-less : tie.Need-loop-less Inv-loop μ-loop
 loop-less c = omega arith
 
--- src/lib.rt:57:5
 loop-again : tie.Need-loop-again Inv-loop μ-loop
 loop-again c =
     let loop = c .before .before .before .before .before .before .loop in
@@ -69,26 +56,22 @@ loop-again c =
     let put = c .before .before .put-decimal in
     let here : loop .i < length numbers = omega arith in (
       omega arith,
-      put .kept .0 ∙ length-set (loop .out) (loop .end) space ∙ loop .inv .1,
+      put .kept .0 ∙ length-set (loop .out) (loop .end) _ ∙ loop .inv .1,
       omega (arith, put .ensures .0, onward-length numbers (loop .i) here, loop .inv .2),
-      rw (put .ensures .1, put .ensures .0) (onward-more numbers (loop .i) here (loop .out) (loop .end)) ∙ loop .inv .3,
+      onward-more numbers (loop .i) here (loop .out) (put .last .0) (loop .end) (put .result) (put .ensures .0) (put .ensures .1) ∙ loop .inv .3,
     )
 
--- src/lib.rt:62:5
 slice-write-out-2 : tie.Need-slice-write-out-2 Inv-loop μ-loop
 slice-write-out-2 c =
     let loop = c .before .loop in
     omega (arith, onward-some (map decimal (drop (loop .i) (c .before .before .before .before .args .numbers .now))))
 
--- src/lib.rt:63:5
 add-result : tie.Need-add-result Inv-loop μ-loop
 add-result c = omega arith
 
--- src/lib.rt:50:1
 same-length : tie.Need-same-length Inv-loop μ-loop
-same-length c = length-set (c .before .loop .out) (c .before .loop .end) newline ∙ c .before .loop .inv .1
+same-length c = length-set (c .before .loop .out) (c .before .loop .end) _ ∙ c .before .loop .inv .1
 
--- src/lib.rt:50:1
 returns : tie.Need-returns Inv-loop μ-loop
 returns c =
     let loop = c .before .loop in

@@ -9,28 +9,19 @@ use Rattle.listing.specs.Line.{ascii, decimal, onward, rendered, refused
 use Rattle.listing.proofs.Texts.{rendered-length, refused-room, written}
 use Rattle.listing.proofs.refused.Statement.{statement}
 use Rattle.listing.proofs.refused.Tie as tie
-use Rattle.listing.proofs.refused.Reads as reads
-use Rattle.listing.proofs.refused.Lts as lts
-use Rattle.cells.proofs.put_bytes.Reads as put-bytes-reads
-use Rattle.listing.proofs.put_onward.Reads as put-onward-reads
 
--- src/lib.rt:45:22
 slice-aggregate-put-bytes : tie.Need-slice-aggregate-put-bytes
 slice-aggregate-put-bytes c = search needs
 
--- src/lib.rt:45:5
 put-bytes-requires : tie.Need-put-bytes-requires
 put-bytes-requires c κs = search needs
 
--- src/lib.rt:47:26
 slice-aggregate-put-onward : tie.Need-slice-aggregate-put-onward
 slice-aggregate-put-onward c = search needs
 
--- src/lib.rt:47:50
 slice-aggregate-put-onward-2 : tie.Need-slice-aggregate-put-onward-2
 slice-aggregate-put-onward-2 c = search needs
 
--- src/lib.rt:47:9
 put-onward-requires : tie.Need-put-onward-requires
 unfolding ascii refusedFields
 put-onward-requires c κs =
@@ -43,7 +34,6 @@ put-onward-requires c κs =
       c .before .before .before .put-bytes .kept .0,
     )
 
--- src/lib.rt:39:1
 returns : tie.Need-returns
 unfolding ascii rendered refusedFields
 returns c =

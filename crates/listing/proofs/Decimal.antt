@@ -7,7 +7,7 @@ use native.Mathlib.Decide.{decLe}
 use native.Mathlib.Nat.{not-suc-le-zero, pow-suc, div-lt-iff-lt-mul, zero-lt-suc}
 use lib.ListN.{length, getD, length-append, List·getD-append}
 use Rattle.listing.specs.Line.{zero-digit, lastDigit, digits, decimal}
-use Rattle.listing.specs.Laws.{Each, Digit, speltAfter, DecimalReadsBack, DecimalIsDigits, NoLeadingZero}
+use Rattle.listing.specs.Laws.{Each, Digit, speltAfter, DecimalReadsBack, DecimalIsDigits, NoLeadingZero, DecimalIsShort}
 use Rattle.listing.proofs.Each.{each-append}
 
 -- ---- the two equations
@@ -81,8 +81,8 @@ decimal-length =
         rw (decimal-more n l, length-append (decimal (n / 10)) (lastDigit n)) (omega (arith, tenth k q))
 
 -- a number of 64 bits has at most 20 digits
-pub decimal-short : (n : ℕ) → n < 2 ^ 64 → length (decimal n) ≤ 20
-decimal-short n h = decimal-length n 19 (omega arith)
+pub decimal-is-short : DecimalIsShort
+decimal-is-short n h = decimal-length n 19 (omega arith)
 
 spelt-append : (n : ℕ) (a b : List ℕ) → speltAfter n (a ++ b) ≡ speltAfter (speltAfter n a) b
 unfolding speltAfter

@@ -5,7 +5,7 @@ use Prim.Native.Nat.{ℕ, _+_, _≤_, _<_}
 use Prim.Native.Char.{code}
 use native.Mathlib.Omega.{arith}
 use lib.ListN.{length}
-use Rattle.listing.specs.Line.{ascii, space, newline, zero-digit, decimal, onward, rendered, headerFields, eventFields, refusedFields}
+use Rattle.listing.specs.Line.{ascii, space, newline, zero-digit, decimal, onward, rendered, headerFields}
 use Rattle.listing.specs.Laws.{Each, Digit, Field, PrintsFields, LinesTell, FieldsTell, NumbersTell, NewlineEnds, KindsDiffer}
 use Rattle.listing.proofs.Each.{each-append, each-weaker}
 use Rattle.listing.proofs.Decimal.{decimal-is-digits, decimal-some, decimal-tells}
@@ -145,16 +145,12 @@ header-fields : Each Field headerFields
 unfolding Each ascii headerFields
 header-fields = (omega arith, (omega arith, (omega arith, (omega arith, (omega arith, tt)))))
 
-refused-fields : (number : ℕ) → Each Field (refusedFields number)
-unfolding Each ascii refusedFields
-refused-fields number = ((omega arith, omega arith), decimal-fields (number ∷ []))
-
-event-fields : (number answer stream value clock : ℕ) → Each Field (eventFields number answer stream value clock)
-unfolding eventFields
-event-fields number answer stream value clock = decimal-fields (number ∷ answer ∷ stream ∷ value ∷ clock ∷ [])
+refused-fields : (numbers : List ℕ) → Each Field (ascii "refused" ∷ map decimal numbers)
+unfolding Each ascii
+refused-fields numbers = ((omega arith, omega arith), decimal-fields numbers)
 
 pub prints-fields : PrintsFields
-prints-fields = (header-fields, refused-fields, event-fields)
+prints-fields = (header-fields, λ numbers. (decimal-fields numbers, refused-fields numbers))
 
 -- a letter begins no number
 letter-no-number : (letter n : ℕ) (rest : List ℕ) → zero-digit + 9 < letter → letter ∷ rest ≡ decimal n → ⊥
@@ -164,14 +160,14 @@ letter-no-number letter n rest l h =
     omega (arith, first .0 .1)
 
 pub kinds-differ : KindsDiffer
-unfolding ascii headerFields refusedFields eventFields
-kinds-differ refusal number answer stream value clock =
-    let event = event-fields number answer stream value clock in
+unfolding ascii headerFields
+kinds-differ number others refusal =
+    let event = decimal-fields (number ∷ others) in
     let refused = refused-fields refusal in (
       (λ h.
-          let words : ascii "event" ≡ ascii "refused" = head-eq-of-cons-eq (fields-tell headerFields (refusedFields refusal) header-fields refused h) in
+          let words : ascii "event" ≡ ascii "refused" = head-eq-of-cons-eq (fields-tell headerFields (ascii "refused" ∷ map decimal refusal) header-fields refused h) in
           let letters : code "e" ≡ code "r" = head-eq-of-cons-eq words in
           omega (arith, letters)),
-      (λ h. letter-no-number (code "e") number _ (omega arith) (head-eq-of-cons-eq (fields-tell headerFields (eventFields number answer stream value clock) header-fields event h))),
-      λ h. letter-no-number (code "r") number _ (omega arith) (head-eq-of-cons-eq (fields-tell (refusedFields refusal) (eventFields number answer stream value clock) refused event h)),
+      (λ h. letter-no-number (code "e") number _ (omega arith) (head-eq-of-cons-eq (fields-tell headerFields (map decimal (number ∷ others)) header-fields event h))),
+      λ h. letter-no-number (code "r") number _ (omega arith) (head-eq-of-cons-eq (fields-tell (ascii "refused" ∷ map decimal refusal) (map decimal (number ∷ others)) refused event h)),
     )

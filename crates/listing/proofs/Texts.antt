@@ -7,16 +7,12 @@ use native.Mathlib.Nat.{sub-zero, zero-sub, suc-sub-suc}
 use lib.ListN.{length, take, drop, replicate, length-append, length-replicate}
 use lib.Seq.{take-at}
 use Rattle.cells.proofs.Runs.{sets-start, Wrote}
-use Rattle.listing.specs.Line.{ascii, decimal, onward, rendered, headerFields, eventFields, refusedFields, text-size, textOf, Within}
-use Rattle.listing.specs.Laws.{Each, Holds, TextsHoldLines}
+use Rattle.listing.specs.Line.{decimal, onward, rendered, text-size, textOf, Within}
+use Rattle.listing.specs.Laws.{Each, Short, TextHoldsLine}
 use Rattle.listing.proofs.Each.{each-map}
-use Rattle.listing.proofs.Decimal.{decimal-short}
+use Rattle.listing.proofs.Decimal.{decimal-is-short}
 
 -- ---- room
-
--- a field that is as short as a number of 64 bits
-abbrev Short : List ℕ → Type 0
-Short field = length field ≤ 20
 
 onward-room : (fields : List (List ℕ)) → Each Short fields → length (onward fields) ≤ 21 * length fields + 1
 unfolding Each onward
@@ -29,28 +25,15 @@ unfolding rendered
 rendered-length field rest = length-append field (onward rest)
 
 -- up to six short fields have room
-pub fields-have-room : (field : List ℕ) (rest : List (List ℕ)) → Each Short (field ∷ rest) → length rest ≤ 5 → length (rendered (field ∷ rest)) ≤ text-size
-unfolding Each
-fields-have-room field rest p few =
-    rw (rendered-length field rest) (omega (arith, p .0, onward-room rest (p .1), few))
+pub fields-have-room : (fields : List (List ℕ)) → Each Short fields → length fields ≤ 6 → length (rendered fields) ≤ text-size
+unfolding Each rendered
+fields-have-room [] p few = omega arith
+fields-have-room (field ∷ rest) p few =
+    rw (length-append field (onward rest)) (omega (arith, p .0, onward-room rest (p .1), few))
 
--- so the program's lines have room
-pub header-room : length (rendered headerFields) ≤ text-size
-unfolding ascii onward rendered headerFields
-header-room = omega arith
-
-pub refused-room : (number : ℕ) → number < 2 ^ 64 → length (rendered (refusedFields number)) ≤ text-size
-unfolding Each ascii refusedFields
-refused-room number n = fields-have-room (ascii "refused") (map decimal (number ∷ [])) (omega arith, (decimal-short number n, tt)) (omega arith)
-
-pub event-room : (number answer stream value clock : ℕ)
-    → Each (λ n. n < 2 ^ 64) (number ∷ answer ∷ stream ∷ value ∷ clock ∷ [])
-    → length (rendered (eventFields number answer stream value clock)) ≤ text-size
-unfolding eventFields
-event-room number answer stream value clock p =
-    fields-have-room (decimal number) (map decimal (answer ∷ stream ∷ value ∷ clock ∷ []))
-    (each-map (λ n. n < 2 ^ 64) Short decimal decimal-short (number ∷ answer ∷ stream ∷ value ∷ clock ∷ []) p)
-    (omega arith)
+pub numbers-have-room : (numbers : List ℕ) → Each (λ n. n < 2 ^ 64) numbers → length (map decimal numbers) ≤ 6 → length (rendered (map decimal numbers)) ≤ text-size
+numbers-have-room numbers p few =
+    fields-have-room (map decimal numbers) (each-map (λ n. n < 2 ^ 64) Short decimal decimal-is-short numbers p) few
 
 -- ---- the line at the start
 
@@ -83,12 +66,7 @@ module _ (fields : List (List ℕ)) (room : length (rendered fields) ≤ text-si
       ∙ ap (λ rest. line ++ rest) (drop-replicate (length line) text-size 0) in
       rw (stored, w .next) (refl, (omega (arith, room, text-length), sym (ap length text-line)))
 
-  pub holds : Holds fields
-  holds = (text-length, text-line)
-
-pub texts-hold-lines : TextsHoldLines
-texts-hold-lines = (
-  holds headerFields header-room,
-  (λ number n. holds (refusedFields number) (refused-room number n)),
-  λ number answer stream value clock p. holds (eventFields number answer stream value clock) (event-room number answer stream value clock p),
-)
+pub text-holds-line : TextHoldsLine
+text-holds-line fields short few =
+    let room = fields-have-room fields short few in
+    (text-length fields room, text-line fields room)

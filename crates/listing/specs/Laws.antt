@@ -3,7 +3,7 @@ use mathlib.Core.Path.{_≡_}
 use mathlib.Core.List.{List, [], _∷_, _++_, map}
 use Prim.Native.Nat.{ℕ, _+_, _-_, _*_, _^_, _≤_, _<_}
 use lib.ListN.{length, take}
-use Rattle.listing.specs.Line.{ascii, space, newline, zero-digit, decimal, rendered, headerFields, eventFields, refusedFields, text-size, textOf}
+use Rattle.listing.specs.Line.{ascii, space, newline, zero-digit, decimal, rendered, headerFields, text-size, textOf}
 use Rattle.listing.specs.Cases.{Case, cases}
 
 -- each element of a list has what P says
@@ -40,12 +40,11 @@ NoLeadingZero = (n : ℕ) (rest : List ℕ) → decimal n ≡ zero-digit ∷ res
 abbrev pub Field : List ℕ → Type 0
 Field field = (1 ≤ length field) × Each (λ byte. space < byte) field
 
--- What the program prints consists of fields.
+-- What the program prints consists of fields: the header, numbers as in the line of an event, and a refusal.
 abbrev pub PrintsFields : Type 0
 PrintsFields =
     Each Field headerFields
-    × ((number : ℕ) → Each Field (refusedFields number))
-    × ((number answer stream value clock : ℕ) → Each Field (eventFields number answer stream value clock))
+    × ((numbers : List ℕ) → Each Field (map decimal numbers) × Each Field (ascii "refused" ∷ map decimal numbers))
 
 -- A line tells its fields, however many: equal lines have equal fields, whatever lines come after them.
 abbrev pub LinesTell : Type 0
@@ -67,24 +66,23 @@ NewlineEnds =
     (fields : List (List ℕ)) → Each Field fields
     → (front : List ℕ) × (rendered fields ≡ front ++ (newline ∷ [])) × Each (λ byte. byte ≡ newline → ⊥) front
 
--- Header, refusal and the line of an event are told apart.
+-- Header, refusal and the line of an event are told apart, whatever numbers stand in them.
 abbrev pub KindsDiffer : Type 0
 KindsDiffer =
-    (refusal number answer stream value clock : ℕ)
-    → (rendered headerFields ≡ rendered (refusedFields refusal) → ⊥)
-    × (rendered headerFields ≡ rendered (eventFields number answer stream value clock) → ⊥)
-    × (rendered (refusedFields refusal) ≡ rendered (eventFields number answer stream value clock) → ⊥)
+    (number : ℕ) (others refusal : List ℕ)
+    → (rendered headerFields ≡ rendered (ascii "refused" ∷ map decimal refusal) → ⊥)
+    × (rendered headerFields ≡ rendered (map decimal (number ∷ others)) → ⊥)
+    × (rendered (ascii "refused" ∷ map decimal refusal) ≡ rendered (map decimal (number ∷ others)) → ⊥)
 
--- a text's bytes are as many as the code says, and the first `len` of them are the line of the fields
-abbrev pub Holds : List (List ℕ) → Type 0
-Holds fields =
-    (length (textOf fields .bytes) ≡ text-size) × (take (textOf fields .len) (textOf fields .bytes) ≡ rendered fields)
+-- a field that is no longer than a number of 64 bits may be
+abbrev pub Short : List ℕ → Type 0
+Short field = length field ≤ 20
 
--- Each text that the code hands over holds its line whole: numbers of 64 bits have room.
-abbrev pub TextsHoldLines : Type 0
-TextsHoldLines =
-    Holds headerFields
-    × ((number : ℕ) → number < 2 ^ 64 → Holds (refusedFields number))
-    × ((number answer stream value clock : ℕ)
-    → Each (λ n. n < 2 ^ 64) (number ∷ answer ∷ stream ∷ value ∷ clock ∷ [])
-    → Holds (eventFields number answer stream value clock))
+abbrev pub DecimalIsShort : Type 0
+DecimalIsShort = (n : ℕ) → n < 2 ^ 64 → Short (decimal n)
+
+-- The text of up to six short fields holds their line whole: it has as many bytes as the code says, and the first `len` of them are the line.
+abbrev pub TextHoldsLine : Type 0
+TextHoldsLine =
+    (fields : List (List ℕ)) → Each Short fields → length fields ≤ 6
+    → (length (textOf fields .bytes) ≡ text-size) × (take (textOf fields .len) (textOf fields .bytes) ≡ rendered fields)

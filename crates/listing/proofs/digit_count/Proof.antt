@@ -4,7 +4,7 @@ use native.Mathlib.Omega.{arith}
 use mathlib.Core.Path.{_≡_}
 use lib.ListN.{length}
 use Rattle.listing.specs.Line.{decimal}
-use Rattle.listing.proofs.Decimal.{decimal-short, decimal-small-length, decimal-more-length}
+use Rattle.listing.proofs.Decimal.{decimal-is-short, decimal-small-length, decimal-more-length}
 use Rattle.listing.proofs.digit_count.Statement.{statement}
 use Rattle.listing.proofs.digit_count.Tie as tie
 
@@ -20,7 +20,7 @@ loop-holds c = omega arith
 add-count : tie.Need-add-count Inv-loop μ-loop
 add-count c =
     let n = c .before .before .args .n in
-    omega (arith, c .before .loop .inv, decimal-short n (c .before .before .fits .n .fits))
+    omega (arith, c .before .loop .inv, decimal-is-short n (c .before .before .fits .n .fits))
 
 loop-less : tie.Need-loop-less Inv-loop μ-loop
 loop-less c = omega arith

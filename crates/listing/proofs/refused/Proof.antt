@@ -1,14 +1,21 @@
 -- `refused` stores the word, and then the number behind it.
 use borrow.Author.Needs.{needs}
+use Prim.Native.Nat.{ℕ, _^_, _≤_, _<_}
 use native.Mathlib.Omega.{arith}
 use mathlib.Core.Path.{refl}
 use mathlib.Core.List.{[], _∷_, map}
-use lib.ListN.{replicate}
+use lib.ListN.{length, replicate}
 use Rattle.cells.proofs.Runs.{wrote-none, wrote-more}
 use Rattle.listing.specs.Line.{ascii, decimal, onward, rendered, refusedFields, text-size}
-use Rattle.listing.proofs.Texts.{rendered-length, refused-room, written}
+use Rattle.listing.specs.Laws.{Each}
+use Rattle.listing.proofs.Decimal.{decimal-is-short}
+use Rattle.listing.proofs.Texts.{rendered-length, fields-have-room, written}
 use Rattle.listing.proofs.refused.Statement.{statement}
 use Rattle.listing.proofs.refused.Tie as tie
+
+refused-room : (number : ℕ) → number < 2 ^ 64 → length (rendered (refusedFields number)) ≤ text-size
+unfolding Each ascii refusedFields
+refused-room number h = fields-have-room (refusedFields number) (omega arith, (decimal-is-short number h, tt)) (omega arith)
 
 slice-aggregate-put-bytes : tie.Need-slice-aggregate-put-bytes
 slice-aggregate-put-bytes c = search needs

@@ -1,13 +1,15 @@
 -- Decimal numbers: one digit, or those of the tenth and one more; what holds of all of them is shown by that step.
 use mathlib.Core.Path.{_≡_, refl, sym, ap, _∙_}
-use mathlib.Core.List.{List, [], _∷_, _++_}
+use mathlib.Core.Logic.{⊎-elim}
+use mathlib.Core.List.{List, [], _∷_, _++_, append-nil}
 use Prim.Native.Nat.{ℕ, zero, suc, _+_, _-_, _*_, _/_, _%_, _^_, _≤_, _<_}
 use native.Mathlib.Omega.{arith}
 use native.Mathlib.Decide.{decLe}
-use native.Mathlib.Nat.{not-suc-le-zero, pow-suc, div-lt-iff-lt-mul, zero-lt-suc}
+use native.Mathlib.Nat.{not-suc-le-zero, pow-suc, div-lt-iff-lt-mul, zero-lt-suc, eq-zero-or-pos}
 use lib.ListN.{length, getD, length-append, List·getD-append}
+use lib.Seq.{append-snoc}
 use Rattle.listing.specs.Line.{zero-digit, lastDigit, digits, decimal}
-use Rattle.listing.specs.Laws.{Each, Digit, speltAfter, DecimalReadsBack, DecimalIsDigits, NoLeadingZero, DecimalIsShort}
+use Rattle.listing.specs.Laws.{Each, Digit, speltAfter, DecimalReadsBack, DecimalIsDigits, NoLeadingZero, OneDecimal, DecimalIsShort}
 use Rattle.listing.proofs.Each.{each-append}
 
 -- ---- the two equations
@@ -121,6 +123,32 @@ no-leading-zero zero rest h = cc
 no-leading-zero (suc m) rest h =
     let e : getD (decimal (suc m)) 0 0 ≡ zero-digit = ap (λ l. getD l 0 0) h in
     absurd (omega (arith, decimal-front (suc m) .1 (omega arith), e))
+
+-- digits behind a number other than 0 are digits behind its decimal
+spelt-behind : (n : ℕ) (text : List ℕ) → 1 ≤ n → Each Digit text → decimal (speltAfter n text) ≡ decimal n ++ text
+unfolding Each speltAfter
+spelt-behind n [] l p = sym (append-nil (decimal n))
+spelt-behind n (digit ∷ rest) l p =
+    let m = n * 10 + (digit - zero-digit) in
+    let tenth : m / 10 ≡ n = omega (arith, p .0) in
+    let last : zero-digit + m % 10 ≡ digit = omega (arith, p .0) in
+    spelt-behind m rest (omega arith) (p .1)
+    ∙ rw (decimal-more m (omega arith), tenth, last) (append-snoc (decimal n) digit rest)
+
+pub one-decimal : OneDecimal
+unfolding Each speltAfter
+one-decimal [] some p plain = absurd (not-suc-le-zero some)
+one-decimal (digit ∷ rest) some p plain =
+    let value = 0 * 10 + (digit - zero-digit) in
+    ⊎-elim
+    (λ (none : value ≡ 0).
+    let first : digit ≡ zero-digit = omega (arith, p .0, none) in
+    let alone : rest ≡ [] = plain rest (ap (λ d. d ∷ rest) first) in
+    rw (alone, first) (decimal-small 0 (omega arith)))
+    (λ (pos : 0 < value).
+    let last : zero-digit + value % 10 ≡ digit = omega (arith, p .0) in
+    spelt-behind value rest pos (p .1) ∙ rw (decimal-small value (omega (arith, p .0)), last))
+    (eq-zero-or-pos value)
 
 pub decimal-tells : (m n : ℕ) → decimal m ≡ decimal n → m ≡ n
 decimal-tells m n h = sym (decimal-reads-back m) ∙ ap (speltAfter 0) h ∙ decimal-reads-back n

@@ -5,7 +5,7 @@ use Prim.Native.Nat.{ℕ, _+_, _≤_, _<_}
 use Prim.Native.Char.{code}
 use native.Mathlib.Omega.{arith}
 use lib.ListN.{length}
-use Rattle.listing.specs.Line.{ascii, space, newline, zero-digit, decimal, onward, rendered, headerFields}
+use Rattle.listing.specs.Line.{ascii, space, newline, zero-digit, decimal, onward, rendered, headerFields, refusedWord}
 use Rattle.listing.specs.Laws.{Each, Digit, Field, PrintsFields, LinesTell, FieldsTell, NumbersTell, NewlineEnds, KindsDiffer}
 use Rattle.listing.proofs.Each.{each-append, each-weaker}
 use Rattle.listing.proofs.Decimal.{decimal-is-digits, decimal-some, decimal-tells}
@@ -145,7 +145,7 @@ header-fields : Each Field headerFields
 unfolding Each ascii headerFields
 header-fields = (omega arith, (omega arith, (omega arith, (omega arith, (omega arith, tt)))))
 
-refused-fields : (numbers : List ℕ) → Each Field (ascii "refused" ∷ map decimal numbers)
+refused-fields : (numbers : List ℕ) → Each Field (refusedWord ∷ map decimal numbers)
 unfolding Each ascii
 refused-fields numbers = ((omega arith, omega arith), decimal-fields numbers)
 
@@ -165,9 +165,9 @@ kinds-differ number others refusal =
     let event = decimal-fields (number ∷ others) in
     let refused = refused-fields refusal in (
       (λ h.
-          let words : ascii "event" ≡ ascii "refused" = head-eq-of-cons-eq (fields-tell headerFields (ascii "refused" ∷ map decimal refusal) header-fields refused h) in
+          let words : ascii "event" ≡ refusedWord = head-eq-of-cons-eq (fields-tell headerFields (refusedWord ∷ map decimal refusal) header-fields refused h) in
           let letters : code "e" ≡ code "r" = head-eq-of-cons-eq words in
           omega (arith, letters)),
       (λ h. letter-no-number (code "e") number _ (omega arith) (head-eq-of-cons-eq (fields-tell headerFields (map decimal (number ∷ others)) header-fields event h))),
-      λ h. letter-no-number (code "r") number _ (omega arith) (head-eq-of-cons-eq (fields-tell (ascii "refused" ∷ map decimal refusal) (map decimal (number ∷ others)) refused event h)),
+      λ h. letter-no-number (code "r") number _ (omega arith) (head-eq-of-cons-eq (fields-tell (refusedWord ∷ map decimal refusal) (map decimal (number ∷ others)) refused event h)),
     )

@@ -3,7 +3,7 @@ use mathlib.Core.Path.{_≡_}
 use mathlib.Core.List.{List, [], _∷_, _++_, map}
 use Prim.Native.Nat.{ℕ, _+_, _-_, _*_, _^_, _≤_, _<_}
 use lib.ListN.{length, take}
-use Rattle.listing.specs.Line.{ascii, space, newline, zero-digit, decimal, rendered, headerFields, text-size, textOf}
+use Rattle.listing.specs.Line.{ascii, space, newline, zero-digit, decimal, rendered, headerFields, refusedWord, text-size, textOf}
 use Rattle.listing.specs.Cases.{Case, cases}
 
 -- each element of a list has what P says
@@ -33,8 +33,16 @@ abbrev pub DecimalIsDigits : Type 0
 DecimalIsDigits = (n : ℕ) → Each Digit (decimal n)
 
 -- A decimal that begins with a zero is that zero alone.
+abbrev pub NoNeedlessZero : List ℕ → Type 0
+NoNeedlessZero text = (rest : List ℕ) → text ≡ zero-digit ∷ rest → rest ≡ []
+
 abbrev pub NoLeadingZero : Type 0
-NoLeadingZero = (n : ℕ) (rest : List ℕ) → decimal n ≡ zero-digit ∷ rest → rest ≡ []
+NoLeadingZero = (n : ℕ) → NoNeedlessZero (decimal n)
+
+-- And nothing else is one: digits without a needless zero are the decimal of the number that they spell.
+abbrev pub OneDecimal : Type 0
+OneDecimal =
+    (text : List ℕ) → 1 ≤ length text → Each Digit text → NoNeedlessZero text → decimal (speltAfter 0 text) ≡ text
 
 -- a field: one byte or more, each above the space, and so above the newline
 abbrev pub Field : List ℕ → Type 0
@@ -44,7 +52,7 @@ Field field = (1 ≤ length field) × Each (λ byte. space < byte) field
 abbrev pub PrintsFields : Type 0
 PrintsFields =
     Each Field headerFields
-    × ((numbers : List ℕ) → Each Field (map decimal numbers) × Each Field (ascii "refused" ∷ map decimal numbers))
+    × ((numbers : List ℕ) → Each Field (map decimal numbers) × Each Field (refusedWord ∷ map decimal numbers))
 
 -- A line tells its fields, however many: equal lines have equal fields, whatever lines come after them.
 abbrev pub LinesTell : Type 0
@@ -70,9 +78,9 @@ NewlineEnds =
 abbrev pub KindsDiffer : Type 0
 KindsDiffer =
     (number : ℕ) (others refusal : List ℕ)
-    → (rendered headerFields ≡ rendered (ascii "refused" ∷ map decimal refusal) → ⊥)
+    → (rendered headerFields ≡ rendered (refusedWord ∷ map decimal refusal) → ⊥)
     × (rendered headerFields ≡ rendered (map decimal (number ∷ others)) → ⊥)
-    × (rendered (ascii "refused" ∷ map decimal refusal) ≡ rendered (map decimal (number ∷ others)) → ⊥)
+    × (rendered (refusedWord ∷ map decimal refusal) ≡ rendered (map decimal (number ∷ others)) → ⊥)
 
 -- a field that is no longer than a number of 64 bits may be
 abbrev pub Short : List ℕ → Type 0

@@ -46,7 +46,7 @@ unfoldable pub rendered : List (List ℕ) → List ℕ
 rendered [] = newline ∷ []
 rendered (field ∷ rest) = field ++ onward rest
 
--- the header
+-- "a header"
 unfoldable pub headerFields : List (List ℕ)
 headerFields = map ascii ("event" ∷ "answer" ∷ "stream" ∷ "value" ∷ "clock" ∷ [])
 
@@ -55,8 +55,11 @@ unfoldable pub eventFields : ℕ → ℕ → ℕ → ℕ → ℕ → List (List 
 eventFields number answer stream value clock = map decimal (number ∷ answer ∷ stream ∷ value ∷ clock ∷ [])
 
 -- "If reading or opening refuses it prints `refused N`, nothing more."
+abbrev pub refusedWord : List ℕ
+refusedWord = ascii "refused"
+
 unfoldable pub refusedFields : ℕ → List (List ℕ)
-refusedFields number = ascii "refused" ∷ map decimal (number ∷ [])
+refusedFields number = refusedWord ∷ map decimal (number ∷ [])
 
 -- the line of some fields as the code hands it over: at the start of a fixed number of bytes, zeros after it
 abbrev pub text-size : ℕ

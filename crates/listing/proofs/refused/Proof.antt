@@ -6,7 +6,7 @@ use mathlib.Core.Path.{refl}
 use mathlib.Core.List.{[], _∷_, map}
 use lib.ListN.{length, replicate}
 use Rattle.cells.proofs.Runs.{wrote-none, wrote-more}
-use Rattle.listing.specs.Line.{ascii, decimal, onward, rendered, refusedFields, text-size}
+use Rattle.listing.specs.Line.{ascii, decimal, onward, rendered, refusedWord, refusedFields, text-size}
 use Rattle.listing.specs.Laws.{Each}
 use Rattle.listing.proofs.Decimal.{decimal-is-short}
 use Rattle.listing.proofs.Texts.{rendered-length, fields-have-room, written}
@@ -37,7 +37,7 @@ put-onward-requires c κs =
     omega (
       arith,
       refused-room (a .number) (f .number .fits),
-      rendered-length (ascii "refused") (map decimal (a .number ∷ [])),
+      rendered-length refusedWord (map decimal (a .number ∷ [])),
       c .before .before .before .put-bytes .kept .0,
     )
 
@@ -47,7 +47,7 @@ returns c =
     let a = c .before .before .before .before .before .before .before .before .before .args in
     let f = c .before .before .before .before .before .before .before .before .before .fits in
     let number = c .before .put-onward in
-    let word = wrote-more (ascii "refused") (wrote-none (replicate text-size 0)) refl (c .before .before .before .before .before .put-bytes .ensures) in
+    let word = wrote-more refusedWord (wrote-none (replicate text-size 0)) refl (c .before .before .before .before .before .put-bytes .ensures) in
     let all = wrote-more (onward (map decimal (a .number ∷ []))) word (number .ensures .0) (number .ensures .1) in
     written (refusedFields (a .number)) (refused-room (a .number) (f .number .fits)) all
 

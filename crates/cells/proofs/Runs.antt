@@ -16,6 +16,9 @@ sets-append (x ∷ a) b l at =
     let e : at + suc (length a) ≡ suc at + length a = omega arith in
     rw (e, sets-append a b (set l at x) (suc at))
 
+pub sets-next : (a b l : List ℕ) (at n : ℕ) → length a ≡ n → sets (sets l at a) (at + n) b ≡ sets l at (a ++ b)
+sets-next a b l at n e = rw (← e) (sym (sets-append a b l at))
+
 -- a run from the start: the run, and then what stood after it
 pub sets-start : (v l : List ℕ) → length v ≤ length l → sets l 0 v ≡ v ++ drop (length v) l
 sets-start v l h =

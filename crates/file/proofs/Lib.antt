@@ -1,0 +1,11 @@
+pub mod Columns
+pub mod Lengths
+pub mod Stores
+pub mod Trace
+pub mod Accepted
+pub mod Writes
+pub mod WriteBack
+pub mod ReadBack
+pub mod Events
+pub mod Round
+pub mod Listing

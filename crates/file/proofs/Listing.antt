@@ -1,0 +1,11 @@
+-- Listing (P), read and written by computing.
+use mathlib.Core.Path.{refl}
+use Rattle.table.specs.Fold.{if, listTo, allTo}
+use Rattle.cells.specs.Cells.{cell, numberAt}
+use Rattle.file.specs.Event.{eventOf, eventFrom, eventAt, isTrace}
+use Rattle.file.specs.File.{entry, contents, streamCells, tableBody, fileOf, column, tableAt, isEntry, isContents, isLaidOut, readOf}
+use Rattle.file.specs.Laws.{ListingReads}
+
+pub listing-reads : ListingReads
+unfolding if listTo allTo cell numberAt eventOf eventFrom eventAt isTrace entry contents streamCells tableBody fileOf column tableAt isEntry isContents isLaidOut readOf
+listing-reads = (refl, refl, refl, refl)

@@ -1,0 +1,80 @@
+-- The parts of a file, stored from place to place.
+use mathlib.Core.Path.{_≡_, refl, sym, ap, _∙_}
+use mathlib.Core.List.{List, _++_}
+use Prim.Native.Nat.{ℕ, suc, _+_, _*_, _≤_}
+use native.Mathlib.Omega.{arith}
+use lib.ListN.{length, drop, length-append}
+use lib.Seq.{sets}
+use Rattle.table.specs.Admission.{reservedAt, periodAt}
+use Rattle.table.specs.declared.Table.{Table}
+use Rattle.cells.specs.Cells.{cell}
+use Rattle.cells.proofs.Numbers.{length-cell}
+use Rattle.cells.proofs.Runs.{sets-next, sets-start, Wrote, wrote-more}
+use Rattle.file.specs.File.{entry, contents, table-start, streamCells, tableBody, fileOf}
+use Rattle.file.proofs.Lengths.{length-contents, length-streams, length-four}
+
+-- three cells of four bytes, and four
+three : (out : List ℕ) (at a b c : ℕ)
+    → sets (sets (sets out at (cell 4 a)) (at + 4) (cell 4 b)) (at + 8) (cell 4 c) ≡ sets out at (cell 4 a ++ cell 4 b ++ cell 4 c)
+three out at a b c =
+    let eight : length (cell 4 a ++ cell 4 b) ≡ 8 = length-append (cell 4 a) (cell 4 b) ∙ omega (arith, length-cell 4 a, length-cell 4 b) in
+    rw (sets-next (cell 4 a) (cell 4 b) out at 4 (length-cell 4 a)) (sets-next (cell 4 a ++ cell 4 b) (cell 4 c) out at 8 eight)
+
+pub entry-stored : (out : List ℕ) (at kind offset len : ℕ)
+    → sets (sets (sets out at (cell 4 kind)) (at + 4) (cell 4 offset)) (at + 8) (cell 4 len) ≡ sets out at (entry kind offset len)
+unfolding entry
+entry-stored = three
+
+pub contents-stored : (out : List ℕ) (table trace : ℕ)
+    → sets (sets (sets out 0 (cell 2 2)) 2 (entry 1 table-start table)) 14 (entry 2 (table-start + table) trace) ≡ sets out 0 (contents table trace)
+unfolding contents entry cell
+contents-stored out table trace = refl
+
+pub table-stored : (out : List ℕ) (at : ℕ) (t : Table)
+    → sets
+    (sets (sets (sets (sets out at (cell 4 (t .worst))) (at + 4) (cell 4 (t .span))) (at + 8) (cell 4 (t .padding))) (at + 12) (cell 4 (t .count)))
+    (at + 16)
+    (streamCells t (t .count))
+    ≡ sets out at (tableBody t)
+unfolding tableBody
+table-stored out at t =
+    let a = cell 4 (t .worst) ++ cell 4 (t .span) ++ cell 4 (t .padding) in
+    let twelve : length a ≡ 12 = simp (length-append, length-cell) in
+    rw (
+      three out at (t .worst) (t .span) (t .padding),
+      sets-next a (cell 4 (t .count)) out at 12 twelve,
+    )
+    (sets-next (a ++ cell 4 (t .count)) (streamCells t (t .count)) out at 16 (length-four (t .worst) (t .span) (t .padding) (t .count)))
+
+-- a turn of the loop that stores the streams
+pub stream-stored : (out : List ℕ) (at : ℕ) (t : Table) (i : ℕ)
+    → sets (sets (sets out at (streamCells t i)) (at + 8 * i) (cell 4 (reservedAt t i))) (at + 8 * i + 4) (cell 4 (periodAt t i))
+    ≡ sets out at (streamCells t (suc i))
+unfolding streamCells
+stream-stored out at t i =
+    let e = cell 4 (reservedAt t i) in
+    let p = cell 4 (periodAt t i) in
+    sets-next e p (sets out at (streamCells t i)) (at + 8 * i) 4 (length-cell 4 (reservedAt t i))
+    ∙ sets-next (streamCells t i) (e ++ p) out at (8 * i) (length-streams t i)
+
+pub file-parts : (t : Table) (trace : List ℕ) → fileOf t trace ≡ contents (length (tableBody t)) (length trace) ++ tableBody t ++ trace
+unfolding fileOf
+file-parts t trace = refl
+
+-- the contents table, the table body and the trace, each where the one before it ends, are the file
+pub file-stored : (t : Table) (trace out : List ℕ) (table : ℕ) → table ≡ length (tableBody t) → length (fileOf t trace) ≤ length out
+    → sets (sets (sets out 0 (contents table (length trace))) table-start (tableBody t)) (table-start + table) trace
+    ≡ fileOf t trace ++ drop (length (fileOf t trace)) out
+file-stored t trace out table e h = whole .holds ∙ sets-start (fileOf t trace) out h
+  where
+    first : Wrote out (contents table (length trace)) table-start (sets out 0 (contents table (length trace)))
+    first = record { next = sym (length-contents table (length trace)); holds = refl }
+
+    second : Wrote out (contents table (length trace) ++ tableBody t) (table-start + table) (sets (sets out 0 (contents table (length trace))) table-start (tableBody t))
+    second = wrote-more (tableBody t) first (ap (λ (n : ℕ). table-start + n) e) refl
+
+    parts : contents table (length trace) ++ tableBody t ++ trace ≡ fileOf t trace
+    parts = rw e (sym (file-parts t trace))
+
+    whole : Wrote out (fileOf t trace) (table-start + table + length trace) (sets (sets (sets out 0 (contents table (length trace))) table-start (tableBody t)) (table-start + table) trace)
+    whole = rw (← parts) (wrote-more trace second refl refl)

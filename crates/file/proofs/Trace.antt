@@ -1,0 +1,28 @@
+-- What the test of a trace says.
+use mathlib.Core.Bool.{true}
+use mathlib.Core.Path.{_≡_}
+use mathlib.Core.List.{List}
+use Prim.Native.Nat.{ℕ, _*_, _%_, _≤_, _<_}
+use native.Mathlib.Omega.{arith}
+use borrow.Author.Tests.{eqb-true, leb-true}
+use lib.ListN.{length}
+use Rattle.table.proofs.Tests.{both}
+use Rattle.table.proofs.Folds.{all-at}
+use Rattle.file.specs.Event.{event-size, events-max, eventsIn, eventAt, formed, isTrace}
+
+pub record Trace (trace : List ℕ) : Type 0 where
+  pub whole : length trace ≡ event-size * eventsIn trace
+  pub events-high : eventsIn trace ≤ events-max
+  pub all-formed : (i : ℕ) → i < eventsIn trace → formed (eventAt trace i) ≡ true
+
+pub trace-of : (trace : List ℕ) → isTrace trace ≡ true → Trace trace
+unfolding isTrace
+trace-of trace h =
+    let a = both _ _ h in
+    let b = both _ _ (a .0) in
+    let even : length trace % 16 ≡ 0 = eqb-true _ _ (b .0) in
+    record {
+      whole = omega arith;
+      events-high = leb-true _ _ (b .1);
+      all-formed = all-at (λ i. formed (eventAt trace i)) (eventsIn trace) (a .1);
+    }

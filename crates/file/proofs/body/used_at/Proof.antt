@@ -1,0 +1,33 @@
+-- `used_at` is its definition: the number below the count, else 0.
+use native.Mathlib.Omega.{arith}
+use borrow.Author.Tests.{lt-ltb, le-ltb}
+use Rattle.table.specs.Fold.{if}
+use Rattle.file.proofs.body.used_at.Statement.{statement}
+use Rattle.file.proofs.body.used_at.Tie as tie
+
+mul-word-at : tie.Need-mul-word-at
+mul-word-at c = omega arith
+
+add-word-at : tie.Need-add-word-at
+add-word-at c = omega arith
+
+word-at-requires : tie.Need-word-at-requires
+word-at-requires c κs = tt
+
+returns : tie.Need-returns
+unfolding if
+returns c = rw (lt-ltb _ _ (c .before .if1 .taken)) (c .word-at .ensures)
+
+returns-2 : tie.Need-returns-2
+unfolding if
+returns-2 c = rw (le-ltb _ _ (c .if1 .left))
+
+pub used-at-spec : {M : Type 1} → statement M
+used-at-spec =
+    tie.close
+    (tie.spec
+    mul-word-at
+    add-word-at
+    word-at-requires
+    returns
+    returns-2)

@@ -1,0 +1,35 @@
+-- `is_contents` is its definition: the number of entries, and an entry for each body.
+use native.Mathlib.Omega.{arith}
+use Rattle.file.specs.File.{isContents}
+use Rattle.file.proofs.contents.is_contents.Statement.{statement}
+use Rattle.file.proofs.contents.is_contents.Tie as tie
+
+number-at-requires : tie.Need-number-at-requires
+number-at-requires c κs = tt
+
+sub-is-entry : tie.Need-sub-is-entry
+sub-is-entry c = omega arith
+
+is-entry-requires : tie.Need-is-entry-requires
+is-entry-requires c κs = omega arith
+
+sub-is-entry-2 : tie.Need-sub-is-entry-2
+sub-is-entry-2 c = omega arith
+
+is-entry-requires-2 : tie.Need-is-entry-requires-2
+is-entry-requires-2 c κs = omega arith
+
+returns : tie.Need-returns
+unfolding isContents
+returns c = rw (c .is-entry2 .ensures, c .before .is-entry .ensures, c .before .before .number-at .ensures)
+
+pub is-contents-spec : {M : Type 1} → statement M
+is-contents-spec =
+    tie.close
+    (tie.spec
+    number-at-requires
+    sub-is-entry
+    is-entry-requires
+    sub-is-entry-2
+    is-entry-requires-2
+    returns)

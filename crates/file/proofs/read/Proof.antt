@@ -1,0 +1,106 @@
+-- `read` answers as `readOf`: each way out is a law of `Accepted`, test by test.
+use mathlib.Core.Path.{_≡_, sym, ap, _∙_}
+use Prim.Native.Nat.{_-_, _≤_}
+use native.Mathlib.Omega.{arith}
+use Rattle.file.specs.File.{table-start, tableLength, countAt}
+use Rattle.file.proofs.Accepted.{count-fails, length-fails, contents-fail, trace-decides, read-refused, read-accepted}
+use Rattle.file.proofs.read.Statement.{statement}
+use Rattle.file.proofs.read.Tie as tie
+
+add-number-at : tie.Need-add-number-at
+add-number-at c = omega arith
+
+number-at-requires : tie.Need-number-at-requires
+number-at-requires c κs = tt
+
+returns : tie.Need-returns
+returns c =
+    let file = c .before .before .before .args .file .now in
+    sym (read-refused file (count-fails file (rw (c .before .number-at .ensures) at (c .if1 .taken))))
+
+table-length-requires : tie.Need-table-length-requires
+table-length-requires c κs = omega arith
+
+add-start : tie.Need-add-start
+add-start c = omega (arith, c .table-length .ensures)
+
+add-if2 : tie.Need-add-if2
+add-if2 c = omega (arith, c .table-length .ensures)
+
+returns-2 : tie.Need-returns-2
+returns-2 c =
+    let n = c .before .before .before .number-at .ensures in
+    let file = c .before .before .before .before .before .args .file .now in
+    let count : countAt file table-start ≤ 8 = rw n at (c .before .before .if1 .left) in
+    sym (read-refused file (length-fails file count (omega (arith, n, c .before .table-length .ensures))))
+
+sub-end : tie.Need-sub-end
+sub-end c = omega arith
+
+is-contents-requires : tie.Need-is-contents-requires
+is-contents-requires c κs = (omega arith, omega arith)
+
+sub-trace : tie.Need-sub-trace
+sub-trace c = omega arith
+
+part-trace-start : tie.Need-part-trace-start
+part-trace-start c = omega arith
+
+part-trace-end : tie.Need-part-trace-end
+part-trace-end c = omega arith
+
+is-trace-requires : tie.Need-is-trace-requires
+is-trace-requires c κs = tt
+
+returns-3 : tie.Need-returns-3
+returns-3 c =
+    let s = c .before .before .before .before .before .before in
+    let n = s .before .before .number-at .ensures in
+    let file = s .before .before .before .before .args .file .now in
+    let count : countAt file table-start ≤ 8 = rw n at (s .before .if1 .left) in
+    let e : s .table-length .result ≡ tableLength (countAt file table-start) = s .table-length .ensures ∙ ap tableLength n in
+    let there = rw e at (sym (c .before .before .before .before .is-contents .ensures) ∙ c .before .before .before .if3 .taken) in
+    let right = rw e at (sym (c .before .is-trace .ensures) ∙ c .if4 .taken) in
+    rw (n, e) (sym (read-accepted file (trace-decides file count (omega (arith, e, s .before .if1 .left)) there ∙ right)))
+
+returns-4 : tie.Need-returns-4
+returns-4 c =
+    let s = c .before .before .before .before .before .before in
+    let n = s .before .before .number-at .ensures in
+    let file = s .before .before .before .before .args .file .now in
+    let count : countAt file table-start ≤ 8 = rw n at (s .before .if1 .left) in
+    let e : s .table-length .result ≡ tableLength (countAt file table-start) = s .table-length .ensures ∙ ap tableLength n in
+    let there = rw e at (sym (c .before .before .before .before .is-contents .ensures) ∙ c .before .before .before .if3 .taken) in
+    let wrong = rw e at (sym (c .before .is-trace .ensures) ∙ c .if4 .left) in
+    sym (read-refused file (trace-decides file count (omega (arith, e, s .before .if1 .left)) there ∙ wrong))
+
+returns-5 : tie.Need-returns-5
+returns-5 c =
+    let s = c .before .before .before in
+    let n = s .before .before .number-at .ensures in
+    let file = s .before .before .before .before .args .file .now in
+    let count : countAt file table-start ≤ 8 = rw n at (s .before .if1 .left) in
+    let e : s .table-length .result ≡ tableLength (countAt file table-start) = s .table-length .ensures ∙ ap tableLength n in
+    let wrong = rw e at (sym (c .before .is-contents .ensures) ∙ c .if3 .left) in
+    sym (read-refused file (contents-fail file count (omega (arith, e, s .before .if1 .left)) wrong))
+
+pub read-spec : {M : Type 1} → statement M
+read-spec =
+    tie.close
+    (tie.spec
+    add-number-at
+    number-at-requires
+    returns
+    table-length-requires
+    add-start
+    add-if2
+    returns-2
+    sub-end
+    is-contents-requires
+    sub-trace
+    part-trace-start
+    part-trace-end
+    is-trace-requires
+    returns-3
+    returns-4
+    returns-5)

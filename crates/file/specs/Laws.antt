@@ -1,0 +1,111 @@
+-- What is proved of the session file.
+use mathlib.Core.Bool.{true}
+use mathlib.Core.Path.{_≡_}
+use mathlib.Core.List.{List, _++_}
+use Prim.Native.Nat.{ℕ, _+_, _*_, _^_, _≤_, _<_}
+use lib.ListN.{length, take, drop}
+use Rattle.table.specs.Fold.{listTo}
+use Rattle.table.specs.Ranges.{streams-max}
+use Rattle.table.specs.Admission.{reservedAt, periodAt}
+use Rattle.table.specs.declared.Table.{Table}
+use Rattle.cells.specs.Cells.{Bytes}
+use Rattle.file.specs.Event.{event-size, events-max, eventsIn, eventAt, formed, bytesOf}
+use Rattle.file.specs.File.{table-start, tableLength, part, tableIn, traceIn, column, fileOf, isLaidOut, readOf}
+use Rattle.file.specs.Writing.{isWritable, writeOf, writtenOn}
+use Rattle.file.specs.Listing.{listing-table, listing-events, listing-file}
+use Rattle.file.specs.declared.Reading.the-variants.{LaidOut}
+use Rattle.file.specs.declared.Writing.the-variants.{Written}
+use Rattle.file.specs.declared.event.Event.{Event}
+use Rattle.file.specs.declared.event.Event.the-variants.{Arrival, Turn, OwnTurn, Done, Clock, Malformed}
+
+-- a table's numbers, "all unsigned and of 32 bits", as every table of the code has them
+pub record Words (t : Table) : Type 0 where
+  pub worst-fits : t .worst < 2 ^ 32
+  pub span-fits : t .span < 2 ^ 32
+  pub padding-fits : t .padding < 2 ^ 32
+  pub reserved-fits : (i : ℕ) → reservedAt t i < 2 ^ 32
+  pub period-fits : (i : ℕ) → periodAt t i < 2 ^ 32
+
+-- a table with 0 in the places past its count, where a file has nothing
+unfoldable pub trimmed : Table → Table
+trimmed t =
+    record {
+      worst = t .worst;
+      span = t .span;
+      padding = t .padding;
+      count = t .count;
+      reserved = column (reservedAt t) (t .count);
+      period = column (periodAt t) (t .count);
+    }
+
+-- "A written session file reads back to the same table and trace": whatever stood in the buffer, and whatever stands after the file
+abbrev pub WrittenReadsBack : Type 0
+WrittenReadsBack =
+    (t : Table) (trace out : List ℕ) (n : ℕ) → Words t → writeOf t trace out ≡ Written n
+    → let file = take n (writtenOn t trace out) in
+    let start = table-start + tableLength (t .count) in
+    (readOf file ≡ LaidOut (t .count) start n (eventsIn trace)) × (tableIn file ≡ trimmed t) × (part start n file ≡ trace)
+
+-- A table that was read has numbers of 32 bits and nothing past its count. So it is read back as it is.
+abbrev pub TableReadIsTrimmed : Type 0
+TableReadIsTrimmed = (file : List ℕ) → Bytes file → Words (tableIn file) × (trimmed (tableIn file) ≡ tableIn file)
+
+-- "an accepted file is written again byte for byte"
+abbrev pub AcceptedWritesBack : Type 0
+AcceptedWritesBack =
+    (file out : List ℕ) (count start end events : ℕ) → Bytes file → readOf file ≡ LaidOut count start end events → length file ≤ length out
+    → (writeOf (tableIn file) (part start end file) out ≡ Written (length file))
+    × (writtenOn (tableIn file) (part start end file) out ≡ file ++ drop (length file) out)
+
+-- "Anything else is 16": the files that are accepted are those of some table and trace that can be written, and no others.
+abbrev pub AcceptedAreTheWritten : Type 0
+AcceptedAreTheWritten =
+    ((t : Table) (trace : List ℕ) → Words t → isWritable t trace ≡ true → isLaidOut (fileOf t trace) ≡ true)
+    × ((file : List ℕ) → Bytes file → isLaidOut file ≡ true
+    → (isWritable (tableIn file) (traceIn file) ≡ true) × (file ≡ fileOf (tableIn file) (traceIn file)))
+
+-- The trace of an accepted file is a part of it, and no event of it is malformed.
+pub record Within (file : List ℕ) (count start end events : ℕ) : Type 0 where
+  pub count-high : count ≤ streams-max
+  pub events-high : events ≤ events-max
+  pub in-middle : start ≡ table-start + tableLength count
+  pub whole-events : end ≡ start + event-size * events
+  pub in-file : end ≤ length file
+  pub all-formed : (i : ℕ) → i < events → formed (eventAt (part start end file) i) ≡ true
+
+abbrev pub AcceptedIsWithin : Type 0
+AcceptedIsWithin =
+    (file : List ℕ) (count start end events : ℕ) → readOf file ≡ LaidOut count start end events → Within file count start end events
+
+-- the longest file that is accepted has 64,106 bytes
+abbrev pub LongestFile : Type 0
+LongestFile = (file : List ℕ) (count start end events : ℕ) → readOf file ≡ LaidOut count start end events → length file ≤ 64_106
+
+-- an event whose numbers have room in its cells
+abbrev pub Coded : Event → Type 0
+Coded (Arrival stream place) = (stream < 256) × (place < 2 ^ 64)
+Coded Turn = Unit
+Coded (OwnTurn stream index) = (stream < 256) × (index < 2 ^ 64)
+Coded (Done duration) = duration < 2 ^ 64
+Coded (Clock time) = time < 2 ^ 64
+Coded Malformed = ⊥
+
+-- an event's bytes, at its place in a trace, are read as that event
+abbrev pub EventReadsBack : Type 0
+EventReadsBack =
+    (e : Event) (before after : List ℕ) (i : ℕ) → Coded e → length before ≡ event-size * i
+    → eventAt (before ++ (bytesOf e ++ after)) i ≡ e
+
+-- and an event that was read has the bytes that it was read from
+abbrev pub EventWritesBack : Type 0
+EventWritesBack =
+    (trace : List ℕ) (i : ℕ) → Bytes trace → formed (eventAt trace i) ≡ true
+    → Coded (eventAt trace i) × (bytesOf (eventAt trace i) ≡ take event-size (drop (event-size * i) trace))
+
+-- Listing (P) is read as document 01 gives it, and it is the file of its table and trace.
+abbrev pub ListingReads : Type 0
+ListingReads =
+    (readOf listing-file ≡ LaidOut 2 58 234 11)
+    × (tableIn listing-file ≡ listing-table)
+    × (listTo (eventAt (traceIn listing-file)) 11 ≡ listing-events)
+    × (fileOf listing-table (traceIn listing-file) ≡ listing-file)

@@ -1,0 +1,104 @@
+// The table body.
+use cells::number_at;
+use cells::put_number;
+use table::Table;
+ghost use mathlib.Core.Path.{_≡_};
+ghost use Prim.Native.Nat.{_+_, _*_, _≤_, _<_};
+ghost use lib.Dec.{ltb};
+ghost use lib.Seq.{sets};
+ghost use Rattle.table.specs.Fold.{if};
+ghost use Rattle.cells.specs.Cells.{cell, numberAt};
+ghost use Rattle.file.specs.File.{table-start, streamCells, tableBody, tableLength, column, tableAt};
+
+// How long the table body of this many streams is.
+pub(crate) fn table_length(count: usize) -> usize
+    requires { ⌜ count ≤ 8 ⌝ }
+    ensures { λ r. ⌜ r ≡ tableLength count ⌝ }
+{
+    16 + 8 * count
+}
+
+// The table whose body starts at an index.
+pub(crate) fn table_at(file: &[u8], at: usize) -> Table
+    requires { ⌜ at ≤ table-start ⌝ }
+    ensures { λ r. ⌜ r ≡ tableAt (now (file .entry)) at ⌝ }
+{
+    let count = word_at(file, at + 12) as usize;
+    let reserved = column_at(file, at + 16, count);
+    let period = column_at(file, at + 20, count);
+    Table {
+        worst: word_at(file, at),
+        span: word_at(file, at + 4),
+        padding: word_at(file, at + 8),
+        count,
+        reserved,
+        period,
+    }
+}
+
+// A number of each stream, eight bytes apart, and 0 past the count.
+fn column_at(file: &[u8], from: usize, count: usize) -> [u32; 8]
+    requires { ⌜ from ≤ table-start + 20 ⌝ }
+    ensures { λ r. ⌜ r ≡ column (λ i. numberAt 4 (now (file .entry)) (from + 8 * i)) count ⌝ }
+{
+    let mut numbers = [0u32; 8];
+    let mut i = 0;
+    while i < 8 {
+        numbers[i] = used_at(file, from, count, i);
+        i += 1;
+    }
+    numbers
+}
+
+// The number of the stream at i, or 0 past the count.
+fn used_at(file: &[u8], from: usize, count: usize, i: usize) -> u32
+    requires { ⌜ (from ≤ table-start + 20) × (i < 8) ⌝ }
+    ensures { λ r. ⌜ r ≡ if (ltb i count) (numberAt 4 (now (file .entry)) (from + 8 * i)) 0 ⌝ }
+{
+    if i < count {
+        word_at(file, from + 8 * i)
+    } else {
+        0
+    }
+}
+
+// The number in the four bytes from an index on.
+fn word_at(bytes: &[u8], at: usize) -> u32
+    ensures { λ r. ⌜ r ≡ numberAt 4 (now (bytes .entry)) at ⌝ }
+{
+    number_at(bytes, at, 4) as u32
+}
+
+// Stores a table body from an index on.
+pub(crate) fn put_table(out: &mut [u8], at: usize, table: Table)
+    requires { ⌜ (at ≤ table-start) × (table .count ≤ 8) ⌝ }
+    ensures { λ _. ⌜ now (out .exit) ≡ sets (now (out .entry)) at (tableBody table) ⌝ }
+{
+    put_word(out, at, table.worst);
+    put_word(out, at + 4, table.span);
+    put_word(out, at + 8, table.padding);
+    put_number(out, at + 12, 4, table.count as u64);
+    put_streams(out, at + 16, table);
+}
+
+// Stores e and p of each stream from an index on.
+fn put_streams(out: &mut [u8], at: usize, table: Table)
+    requires { ⌜ (at ≤ table-start + 16) × (table .count ≤ 8) ⌝ }
+    ensures { λ _. ⌜ now (out .exit) ≡ sets (now (out .entry)) at (streamCells table (table .count)) ⌝ }
+{
+    let reserved = table.reserved;
+    let period = table.period;
+    let mut i = 0;
+    while i < table.count {
+        put_word(out, at + 8 * i, reserved[i]);
+        put_word(out, at + 8 * i + 4, period[i]);
+        i += 1;
+    }
+}
+
+// Stores a number in the four bytes from an index on.
+fn put_word(out: &mut [u8], at: usize, word: u32)
+    ensures { λ _. ⌜ now (out .exit) ≡ sets (now (out .entry)) at (cell 4 word) ⌝ }
+{
+    put_number(out, at, 4, word as u64);
+}

@@ -1,6 +1,7 @@
 pub mod Columns
 pub mod Lengths
 pub mod Stores
+pub mod EventKinds
 pub mod Trace
 pub mod Accepted
 pub mod Writes

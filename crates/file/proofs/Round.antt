@@ -7,7 +7,7 @@ use native.Mathlib.Omega.{arith}
 use borrow.Author.Tests.{eqb-true, le-leb}
 use lib.Dec.{eqb}
 use lib.ListN.{length, take, drop}
-use lib.Seq.{take-at}
+use lib.Seq.{take-at, drop-at}
 use Rattle.table.specs.Fold.{if}
 use Rattle.table.specs.declared.Table.{Table}
 use Rattle.cells.specs.Cells.{numberAt, Bytes}
@@ -15,7 +15,7 @@ use Rattle.cells.proofs.Numbers.{number-lt}
 use Rattle.file.specs.Event.{eventsIn}
 use Rattle.file.specs.File.{table-start, tableLength, part, countAt, traceStart, traceEnd, traceIn, tableAt, tableIn, fileOf, isLaidOut}
 use Rattle.file.specs.Writing.{isWritable, writeRefusal, writeOf, writtenOn}
-use Rattle.file.specs.Laws.{trimmed, WrittenReadsBack, TableReadIsTrimmed, AcceptedWritesBack, AcceptedAreTheWritten, Within, AcceptedIsWithin, LongestFile}
+use Rattle.file.specs.Laws.{trimmed, WrittenReadsBack, RefusedChangesNothing, RestIsUnchanged, TableReadIsTrimmed, AcceptedWritesBack, AcceptedAreTheWritten, Within, AcceptedIsWithin, LongestFile}
 use Rattle.file.specs.declared.Writing.the-variants.{Written, Refused}
 use Rattle.file.proofs.Columns.{column-lt, column-again}
 use Rattle.file.proofs.Lengths.{length-file}
@@ -85,6 +85,23 @@ written-reads-back t trace out n q h =
       table-back t trace q right,
       trace-is,
     )
+
+pub rest-is-unchanged : RestIsUnchanged
+rest-is-unchanged t trace out n h =
+    let w = written t trace out n h in
+    rw (write-done t trace out (w .0) .1, w .1) (drop-at (fileOf t trace) (drop n out) n (w .1))
+
+-- ---- what was refused
+
+not-wrote : (b : Bool) (size refusal : ℕ) {n : ℕ} → if b (Written size) (Refused refusal) ≡ Refused n → b ≡ false
+unfolding if
+not-wrote true size refusal h = absurd (let never : _≡_ {A = ℕ} 0 1 = cc in omega arith)
+not-wrote false size refusal h = refl
+
+pub refused-changes-nothing : RefusedChangesNothing
+unfolding writeOf writtenOn if
+refused-changes-nothing t trace out n h =
+    rw (not-wrote (eqb (writeRefusal t trace (length out)) 0) (length (fileOf t trace)) (writeRefusal t trace (length out)) h)
 
 -- ---- what was accepted is written back
 

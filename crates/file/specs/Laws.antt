@@ -14,7 +14,7 @@ use Rattle.file.specs.File.{table-start, tableLength, part, tableIn, tra
 use Rattle.file.specs.Writing.{isWritable, writeOf, writtenOn}
 use Rattle.file.specs.Listing.{listing-table, listing-events, listing-file}
 use Rattle.file.specs.declared.Reading.the-variants.{LaidOut}
-use Rattle.file.specs.declared.Writing.the-variants.{Written}
+use Rattle.file.specs.declared.Writing.the-variants.{Written, Refused}
 use Rattle.file.specs.declared.event.Event.{Event}
 use Rattle.file.specs.declared.event.Event.the-variants.{Arrival, Turn, OwnTurn, Done, Clock, Malformed}
 
@@ -56,6 +56,15 @@ AcceptedWritesBack =
     (file out : List ℕ) (count start end events : ℕ) → Bytes file → readOf file ≡ LaidOut count start end events → length file ≤ length out
     → (writeOf (tableIn file) (part start end file) out ≡ Written (length file))
     × (writtenOn (tableIn file) (part start end file) out ≡ file ++ drop (length file) out)
+
+-- "A refused call returns its number and changes no byte of session or buffer."
+abbrev pub RefusedChangesNothing : Type 0
+RefusedChangesNothing = (t : Table) (trace out : List ℕ) (n : ℕ) → writeOf t trace out ≡ Refused n → writtenOn t trace out ≡ out
+
+-- "Writing leaves bytes after the file unchanged"
+abbrev pub RestIsUnchanged : Type 0
+RestIsUnchanged =
+    (t : Table) (trace out : List ℕ) (n : ℕ) → writeOf t trace out ≡ Written n → drop n (writtenOn t trace out) ≡ drop n out
 
 -- "Anything else is 16": the files that are accepted are those of some table and trace that can be written, and no others.
 abbrev pub AcceptedAreTheWritten : Type 0

@@ -7,12 +7,13 @@ ghost use Prim.Native.Nat.{_+_, _*_, _≤_, _<_};
 ghost use lib.Dec.{ltb};
 ghost use lib.Seq.{sets};
 ghost use Rattle.table.specs.Fold.{if};
+ghost use Rattle.table.specs.Ranges.{streams-max};
 ghost use Rattle.cells.specs.Cells.{cell, numberAt};
 ghost use Rattle.file.specs.File.{table-start, streamCells, tableBody, tableLength, column, tableAt};
 
 // How long the table body of this many streams is.
 pub(crate) fn table_length(count: usize) -> usize
-    requires { ⌜ count ≤ 8 ⌝ }
+    requires { ⌜ count ≤ streams-max ⌝ }
     ensures { λ r. ⌜ r ≡ tableLength count ⌝ }
 {
     16 + 8 * count
@@ -43,7 +44,7 @@ fn column_at(file: &[u8], from: usize, count: usize) -> [u32; 8]
 {
     let mut numbers = [0u32; 8];
     let mut i = 0;
-    while i < 8 {
+    while i < Table::STREAMS_MAX {
         numbers[i] = used_at(file, from, count, i);
         i += 1;
     }
@@ -52,7 +53,7 @@ fn column_at(file: &[u8], from: usize, count: usize) -> [u32; 8]
 
 // The number of the stream at i, or 0 past the count.
 fn used_at(file: &[u8], from: usize, count: usize, i: usize) -> u32
-    requires { ⌜ (from ≤ table-start + 20) × (i < 8) ⌝ }
+    requires { ⌜ (from ≤ table-start + 20) × (i < streams-max) ⌝ }
     ensures { λ r. ⌜ r ≡ if (ltb i count) (numberAt 4 (now (file .entry)) (from + 8 * i)) 0 ⌝ }
 {
     if i < count {
@@ -71,7 +72,7 @@ fn word_at(bytes: &[u8], at: usize) -> u32
 
 // Stores a table body from an index on.
 pub(crate) fn put_table(out: &mut [u8], at: usize, table: Table)
-    requires { ⌜ (at ≤ table-start) × (table .count ≤ 8) ⌝ }
+    requires { ⌜ (at ≤ table-start) × (table .count ≤ streams-max) ⌝ }
     ensures { λ _. ⌜ now (out .exit) ≡ sets (now (out .entry)) at (tableBody table) ⌝ }
 {
     put_word(out, at, table.worst);
@@ -83,7 +84,7 @@ pub(crate) fn put_table(out: &mut [u8], at: usize, table: Table)
 
 // Stores e and p of each stream from an index on.
 fn put_streams(out: &mut [u8], at: usize, table: Table)
-    requires { ⌜ (at ≤ table-start + 16) × (table .count ≤ 8) ⌝ }
+    requires { ⌜ (at ≤ table-start + 16) × (table .count ≤ streams-max) ⌝ }
     ensures { λ _. ⌜ now (out .exit) ≡ sets (now (out .entry)) at (streamCells table (table .count)) ⌝ }
 {
     let reserved = table.reserved;

@@ -4,6 +4,7 @@ use cells::put_number;
 ghost use mathlib.Core.Path.{_≡_};
 ghost use Prim.Native.Nat.{_≤_};
 ghost use lib.Seq.{sets};
+ghost use Rattle.table.specs.Ranges.{streams-max};
 ghost use Rattle.file.specs.File.{entry, contents, table-start, tableLength, isEntry, isContents};
 
 // Where the table body starts.
@@ -32,7 +33,7 @@ fn is_entry(file: &[u8], at: usize, kind: u64, offset: usize, len: usize) -> boo
 
 // Stores the contents table for bodies of these lengths.
 pub(crate) fn put_contents(out: &mut [u8], table: usize, trace: usize)
-    requires { ⌜ table ≤ tableLength 8 ⌝ }
+    requires { ⌜ table ≤ tableLength streams-max ⌝ }
     ensures { λ _. ⌜ now (out .exit) ≡ sets (now (out .entry)) 0 (contents table trace) ⌝ }
 {
     put_number(out, 0, 2, 2);

@@ -43,11 +43,10 @@ const AFTER_TRACE: usize = 0;
 pub fn read(file: &[u8]) -> Reading
     ensures { λ r. ⌜ r ≡ readOf (now (file .entry)) ⌝ }
 {
-    let listed = number_at(file, TABLE_START + 12, 4);
-    if 8 < listed {
+    let count = number_at(file, TABLE_START + 12, 4) as usize;
+    if Table::STREAMS_MAX < count {
         return Reading::Refused(16);
     }
-    let count = listed as usize;
     let start = TABLE_START + table_length(count);
     if file.len() < start + AFTER_TRACE {
         return Reading::Refused(16);

@@ -1,15 +1,14 @@
 -- `event_at` answers as `eventAt`: past the last whole event, at a reserved byte that is not 0, and by the kinds.
 use mathlib.Core.Path.{sym, _∙_}
 use native.Mathlib.Omega.{arith}
-use borrow.Author.Tests.{eq-eqb, ne-eqb, lt-ltb, le-ltb}
-use Rattle.table.specs.Fold.{if}
-use Rattle.file.specs.Event.{eventAt, eventFrom}
+use Rattle.file.proofs.EventKinds.{event-past, event-reserved, event-there}
 use Rattle.file.proofs.event.event_at.Statement.{statement}
 use Rattle.file.proofs.event.event_at.Tie as tie
 
 returns : tie.Need-returns
-unfolding eventAt if
-returns c = rw (le-ltb _ _ (c .if1 .taken))
+returns c =
+    let a = c .before .before .args in
+    event-past (a .trace .now) (a .i) (c .if1 .taken)
 
 mul-at : tie.Need-mul-at
 mul-at c = omega arith
@@ -21,9 +20,10 @@ number-at-requires : tie.Need-number-at-requires
 number-at-requires c κs = tt
 
 returns-2 : tie.Need-returns-2
-unfolding eventAt eventFrom if
 returns-2 c =
-    rw (lt-ltb _ _ (c .before .before .if1 .left), ← c .before .number-at .ensures, ne-eqb _ _ (c .if2 .taken))
+    let b = c .before in
+    let a = b .before .before .before .args in
+    event-reserved (a .trace .now) (a .i) (b .before .if1 .left) (λ z. c .if2 .taken (b .number-at .ensures ∙ z))
 
 number-at-requires-2 : tie.Need-number-at-requires-2
 number-at-requires-2 c κs = tt
@@ -44,12 +44,12 @@ event-of-requires : tie.Need-event-of-requires
 event-of-requires c κs = tt
 
 returns-3 : tie.Need-returns-3
-unfolding eventAt eventFrom if
 returns-3 c =
     let b = c .before .before .before .before in
+    let a = b .before .before .before .before .args in
+    let zero = sym (b .before .number-at .ensures) ∙ b .if2 .left in
     rw (
-      lt-ltb _ _ (b .before .before .if1 .left),
-      eq-eqb _ _ (sym (b .before .number-at .ensures) ∙ b .if2 .left),
+      event-there (a .trace .now) (a .i) (b .before .before .if1 .left) zero,
       c .event-of .ensures,
       c .before .number-at4 .ensures,
       c .before .before .number-at3 .ensures,

@@ -9,8 +9,8 @@ use lib.ListN.{length}
 use Rattle.table.specs.Fold.{if}
 use Rattle.table.proofs.Tests.{both}
 use Rattle.cells.specs.Cells.{numberAt}
-use Rattle.file.specs.Event.{eventsIn, isTrace}
-use Rattle.file.specs.File.{table-start, countAt, traceStart, after-trace, traceEnd, traceIn, isEntry, isContents, isLaidOut, readOf}
+use Rattle.file.specs.File.{table-start}
+use Rattle.file.specs.Reading.{eventsIn, isTrace, countAt, traceStart, after-trace, traceEnd, traceIn, isEntry, isContents, isLaidOut, readOf}
 use Rattle.file.specs.declared.Reading.the-variants.{LaidOut, Refused}
 
 -- ---- entries

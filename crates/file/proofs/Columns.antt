@@ -9,7 +9,7 @@ use borrow.Author.Tests.{lt-ltb, le-ltb}
 use Rattle.table.specs.Fold.{if, listTo}
 use Rattle.table.proofs.Tests.{le-or-lt}
 use Rattle.table.proofs.Lists.{length-listTo, getD-listTo}
-use Rattle.file.specs.File.{column}
+use Rattle.file.specs.Reading.{column}
 
 list-agree : (f g : ℕ → ℕ) (n : ℕ) → ((i : ℕ) → i < n → f i ≡ g i) → listTo f n ≡ listTo g n
 unfolding listTo

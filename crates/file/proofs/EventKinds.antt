@@ -7,7 +7,8 @@ use borrow.Author.Tests.{eq-eqb, ne-eqb, lt-ltb, le-ltb}
 use lib.Dec.{eqb}
 use Rattle.table.specs.Fold.{if}
 use Rattle.cells.specs.Cells.{numberAt}
-use Rattle.file.specs.Event.{eventOf, eventFrom, event-size, eventsIn, eventAt}
+use Rattle.file.specs.File.{event-size}
+use Rattle.file.specs.Reading.{eventOf, eventFrom, eventsIn, eventAt}
 use Rattle.file.specs.declared.event.Event.the-variants.{Arrival, Turn, OwnTurn, Done, Clock, Malformed}
 
 -- the event of a kind, a stream and a value

@@ -12,7 +12,8 @@ use Rattle.table.specs.Fold.{if}
 use Rattle.table.proofs.Tests.{both, by-if}
 use Rattle.cells.specs.Cells.{cell, numberAt, Bytes}
 use Rattle.cells.proofs.Numbers.{number-cell, number-past, number-lt, cell-number}
-use Rattle.file.specs.Event.{eventOf, eventFrom, event-size, eventsIn, eventAt, formed, eventCells, bytesOf}
+use Rattle.file.specs.File.{event-size, eventCells, bytesOf}
+use Rattle.file.specs.Reading.{eventOf, eventFrom, eventsIn, eventAt, formed}
 use Rattle.file.specs.Laws.{Coded, EventReadsBack, EventWritesBack}
 use Rattle.file.specs.declared.event.Event.{Event}
 use Rattle.file.specs.declared.event.Event.the-variants.{Arrival, Turn, OwnTurn, Done, Clock, Malformed}

@@ -7,7 +7,8 @@ use lib.ListN.{length, length-append}
 use Rattle.table.specs.Admission.{reservedAt, periodAt}
 use Rattle.table.specs.declared.Table.{Table}
 use Rattle.cells.specs.Cells.{cell}
-use Rattle.file.specs.File.{entry, contents, table-start, streamCells, tableBody, tableLength, fileOf}
+use Rattle.file.specs.File.{entry, contents, table-start, streamCells, tableBody, fileOf}
+use Rattle.file.specs.Reading.{tableLength}
 
 pub length-contents : (table trace : ℕ) → length (contents table trace) ≡ table-start
 unfolding contents entry cell

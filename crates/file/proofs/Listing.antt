@@ -2,8 +2,8 @@
 use mathlib.Core.Path.{refl}
 use Rattle.table.specs.Fold.{if, listTo, allTo}
 use Rattle.cells.specs.Cells.{cell, numberAt}
-use Rattle.file.specs.Event.{eventOf, eventFrom, eventAt, isTrace}
-use Rattle.file.specs.File.{entry, contents, streamCells, tableBody, fileOf, column, tableAt, isEntry, isContents, isLaidOut, readOf}
+use Rattle.file.specs.File.{entry, contents, streamCells, tableBody, fileOf}
+use Rattle.file.specs.Reading.{eventOf, eventFrom, eventAt, isTrace, column, tableAt, isEntry, isContents, isLaidOut, readOf}
 use Rattle.file.specs.Laws.{ListingReads}
 
 pub listing-reads : ListingReads

@@ -12,8 +12,8 @@ use Rattle.table.specs.declared.Table.{Table}
 use Rattle.table.proofs.Folds.{at-or-below}
 use Rattle.cells.specs.Cells.{cell, numberAt}
 use Rattle.cells.proofs.Numbers.{length-cell, number-cell, number-past}
-use Rattle.file.specs.Event.{isTrace}
-use Rattle.file.specs.File.{entry, contents, table-start, streamCells, tableBody, tableLength, fileOf, countAt, traceStart, traceEnd, traceIn, tableAt, tableIn, isLaidOut}
+use Rattle.file.specs.File.{entry, contents, table-start, streamCells, tableBody, fileOf}
+use Rattle.file.specs.Reading.{isTrace, tableLength, countAt, traceStart, traceEnd, traceIn, tableAt, tableIn, isLaidOut}
 use Rattle.file.specs.Writing.{isWritable}
 use Rattle.file.specs.Laws.{Words, trimmed}
 use Rattle.file.proofs.Columns.{column-agree}

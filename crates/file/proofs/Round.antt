@@ -12,10 +12,10 @@ use Rattle.table.specs.Fold.{if}
 use Rattle.table.specs.declared.Table.{Table}
 use Rattle.cells.specs.Cells.{numberAt, Bytes}
 use Rattle.cells.proofs.Numbers.{number-lt}
-use Rattle.file.specs.Event.{eventsIn}
-use Rattle.file.specs.File.{table-start, tableLength, part, countAt, traceStart, traceEnd, traceIn, tableAt, tableIn, fileOf, isLaidOut}
+use Rattle.file.specs.File.{table-start, fileOf}
+use Rattle.file.specs.Reading.{eventsIn, tableLength, part, countAt, traceStart, traceEnd, traceIn, tableAt, tableIn, isLaidOut}
 use Rattle.file.specs.Writing.{isWritable, writeRefusal, writeOf, writtenOn}
-use Rattle.file.specs.Laws.{trimmed, WrittenReadsBack, RefusedChangesNothing, RestIsUnchanged, TableReadIsTrimmed, AcceptedWritesBack, AcceptedAreTheWritten, Within, AcceptedIsWithin, LongestFile}
+use Rattle.file.specs.Laws.{trimmed, WrittenIsWithin, WrittenReadsBack, RefusedChangesNothing, RestIsUnchanged, TableReadIsTrimmed, AcceptedWritesBack, AcceptedAreTheWritten, Within, AcceptedIsWithin, LongestFile}
 use Rattle.file.specs.declared.Writing.the-variants.{Written, Refused}
 use Rattle.file.proofs.Columns.{column-lt, column-again}
 use Rattle.file.proofs.Lengths.{length-file}
@@ -69,6 +69,11 @@ unfolding writeOf
 written t trace out n h =
     let q = wrote (eqb (writeRefusal t trace (length out)) 0) (writeRefusal t trace (length out)) h in
     (eqb-true _ _ (q .0), q .1)
+
+pub written-is-within : WrittenIsWithin
+written-is-within t trace out n h =
+    let w = written t trace out n h in
+    omega (arith, w .1, writable-of t trace (length out) (w .0) .fits)
 
 pub written-reads-back : WrittenReadsBack
 written-reads-back t trace out n q h =

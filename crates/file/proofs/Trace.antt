@@ -10,7 +10,8 @@ use lib.ListN.{length}
 use Rattle.table.specs.Fold.{allTo}
 use Rattle.table.proofs.Tests.{both}
 use Rattle.table.proofs.Folds.{all-at}
-use Rattle.file.specs.Event.{event-size, events-max, eventsIn, eventAt, formed, isTrace}
+use Rattle.file.specs.File.{event-size, events-max}
+use Rattle.file.specs.Reading.{eventsIn, eventAt, formed, isTrace}
 
 pub record Trace (trace : List ℕ) : Type 0 where
   pub whole : length trace ≡ event-size * eventsIn trace

@@ -10,7 +10,8 @@ use Rattle.table.specs.Admission.{reservedAt, periodAt}
 use Rattle.table.specs.declared.Table.{Table}
 use Rattle.cells.specs.Cells.{cell, numberAt, Bytes}
 use Rattle.cells.proofs.Numbers.{cell-number}
-use Rattle.file.specs.File.{entry, contents, table-start, streamCells, tableBody, tableLength, fileOf, countAt, traceStart, traceEnd, traceIn, tableAt, tableIn, isLaidOut}
+use Rattle.file.specs.File.{entry, contents, table-start, streamCells, tableBody, fileOf}
+use Rattle.file.specs.Reading.{tableLength, countAt, traceStart, traceEnd, traceIn, tableAt, tableIn, isLaidOut}
 use Rattle.file.proofs.Columns.{column-at}
 use Rattle.file.proofs.Lengths.{length-table}
 use Rattle.file.proofs.Stores.{file-parts}

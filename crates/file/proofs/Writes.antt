@@ -10,8 +10,8 @@ use Rattle.table.specs.Fold.{if}
 use Rattle.table.specs.Refusal.{given, _or-next_}
 use Rattle.table.specs.declared.Table.{Table}
 use Rattle.table.proofs.Tests.{both, given-none, or-next-none}
-use Rattle.file.specs.Event.{isTrace}
-use Rattle.file.specs.File.{table-start, tableLength, fileOf}
+use Rattle.file.specs.File.{table-start, fileOf}
+use Rattle.file.specs.Reading.{isTrace, tableLength}
 use Rattle.file.specs.Writing.{isWritable, writeRefusal, writeOf, writtenOn}
 use Rattle.file.specs.declared.Writing.the-variants.{Written, Refused}
 use Rattle.file.proofs.Lengths.{length-file}

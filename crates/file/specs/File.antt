@@ -1,19 +1,12 @@
--- The session file of document 01: its bytes, and what reading makes of any bytes.
-use mathlib.Core.Bool.{Bool, _&&_}
+-- The session file of document 01: the page to hold beside its section "Session file". Reading and writing are said over it.
 use mathlib.Core.List.{List, [], _++_}
-use Prim.Native.Nat.{ℕ, zero, suc, _+_, _-_, _*_}
-use lib.Dec.{leb, ltb, eqb}
-use lib.ListN.{length, take, drop}
-use Rattle.table.specs.Fold.{if, listTo}
-use Rattle.table.specs.Ranges.{streams-max}
+use Prim.Native.Nat.{ℕ, zero, suc, _+_}
+use lib.ListN.{length}
 use Rattle.table.specs.Admission.{reservedAt, periodAt}
 use Rattle.table.specs.declared.Table.{Table}
-use Rattle.cells.specs.Cells.{cell, numberAt}
-use Rattle.file.specs.Event.{eventsIn, isTrace}
-use Rattle.file.specs.declared.Reading.{Reading}
-use Rattle.file.specs.declared.Reading.the-variants.{LaidOut, Refused}
-
--- ---- what a file is
+use Rattle.cells.specs.Cells.{cell}
+use Rattle.file.specs.declared.event.Event.{Event}
+use Rattle.file.specs.declared.event.Event.the-variants.{Arrival, Turn, OwnTurn, Done, Clock, Malformed}
 
 -- "Two entries of 12 bytes: kind, offset, length, four bytes each."
 unfoldable pub entry : ℕ → ℕ → ℕ → List ℕ
@@ -23,11 +16,11 @@ entry kind offset len = cell 4 kind ++ cell 4 offset ++ cell 4 len
 abbrev pub table-start : ℕ
 table-start = 26
 
--- "Two bytes: number of entries, always 2. [..] Entry one is kind 1 (table), at offset 26; entry two is kind 2 (trace), right after it", for bodies of these lengths
+-- "Two bytes: number of entries, always 2. [..] Entry one is kind 1 (table), at offset 26; entry two is kind 2 (trace), right after it": for bodies of these lengths
 unfoldable pub contents : ℕ → ℕ → List ℕ
 contents table trace = cell 2 2 ++ entry 1 table-start table ++ entry 2 (table-start + table) trace
 
--- "e and p of each stream, four bytes each", of the first n
+-- "then e and p of each stream, four bytes each": of the first n streams
 unfoldable pub streamCells : Table → ℕ → List ℕ
 streamCells t zero = []
 streamCells t (suc n) = streamCells t n ++ (cell 4 (reservedAt t n) ++ cell 4 (periodAt t n))
@@ -37,81 +30,26 @@ unfoldable pub tableBody : Table → List ℕ
 tableBody t =
     cell 4 (t .worst) ++ cell 4 (t .span) ++ cell 4 (t .padding) ++ cell 4 (t .count) ++ streamCells t (t .count)
 
--- "Contents table first, then the bodies; numbers little-endian": table, trace, and "the file ends with it"
+-- "Trace body: 0 to 4,000 events of 16 bytes"
+abbrev pub events-max : ℕ
+events-max = 4_000
+
+abbrev pub event-size : ℕ
+event-size = 16
+
+-- "Event: kind, stream, six zero bytes, eight bytes of value."
+unfoldable pub eventCells : ℕ → ℕ → ℕ → List ℕ
+eventCells kind stream value = cell 1 kind ++ cell 1 stream ++ cell 6 0 ++ cell 8 value
+
+-- "Kinds: 1 arrival, 2 turn, 3 own turn, 4 done, 5 clock. Turn has stream 0 and value 0; done and clock have stream 0." What is malformed has no bytes.
+unfoldable pub bytesOf : Event → List ℕ
+bytesOf (Arrival stream place) = eventCells 1 stream place
+bytesOf Turn = eventCells 2 0 0
+bytesOf (OwnTurn stream index) = eventCells 3 stream index
+bytesOf (Done duration) = eventCells 4 0 duration
+bytesOf (Clock time) = eventCells 5 0 time
+bytesOf Malformed = []
+
+-- "Contents table first, then the bodies; numbers little-endian": the table, the trace, and "the file ends with it"
 unfoldable pub fileOf : Table → List ℕ → List ℕ
 fileOf t trace = contents (length (tableBody t)) (length trace) ++ tableBody t ++ trace
-
--- ---- where its parts are, in any bytes
-
--- the count in a table body that starts at an index
-abbrev pub countAt : List ℕ → ℕ → ℕ
-countAt file at = numberAt 4 file (at + 12)
-
--- the length of a table body: W, H, k and count, and e and p of each stream
-abbrev pub tableLength : ℕ → ℕ
-tableLength count = 16 + 8 * count
-
--- "trace, right after it"
-abbrev pub traceStart : List ℕ → ℕ
-traceStart file = table-start + tableLength (countAt file table-start)
-
--- "the file ends with it"
-abbrev pub after-trace : ℕ
-after-trace = 0
-
-abbrev pub traceEnd : List ℕ → ℕ
-traceEnd file = length file - after-trace
-
--- the part of a list from one index up to another
-abbrev pub part : ℕ → ℕ → List ℕ → List ℕ
-part start end bytes = take (end - start) (drop start bytes)
-
--- "Trace body: [..] a part of the file that starts in its middle."
-abbrev pub traceIn : List ℕ → List ℕ
-traceIn file = part (traceStart file) (traceEnd file) file
-
--- a number for each of the eight places of a table, and 0 past the count
-unfoldable pub column : (ℕ → ℕ) → ℕ → List ℕ
-column f count = listTo (λ i. if (ltb i count) (f i) 0) streams-max
-
--- the table whose body starts at an index
-unfoldable pub tableAt : List ℕ → ℕ → Table
-tableAt file at =
-    record {
-      worst = numberAt 4 file at;
-      span = numberAt 4 file (at + 4);
-      padding = numberAt 4 file (at + 8);
-      count = countAt file at;
-      reserved = column (λ i. numberAt 4 file (at + 16 + 8 * i)) (countAt file at);
-      period = column (λ i. numberAt 4 file (at + 20 + 8 * i)) (countAt file at);
-    }
-
-abbrev pub tableIn : List ℕ → Table
-tableIn file = tableAt file table-start
-
--- ---- reading
-
--- the entry at an index has this kind, offset and length
-unfoldable pub isEntry : List ℕ → ℕ → ℕ → ℕ → ℕ → Bool
-isEntry file at kind offset len =
-    eqb (numberAt 4 file at) kind && eqb (numberAt 4 file (at + 4)) offset && eqb (numberAt 4 file (at + 8)) len
-
--- the contents table is that of a file whose trace starts and ends there
-unfoldable pub isContents : List ℕ → ℕ → ℕ → Bool
-isContents file start end =
-    eqb (numberAt 2 file 0) 2
-    && isEntry file 2 1 table-start (start - table-start)
-    && isEntry file 14 2 start (end - start)
-
--- "count (0 to 8)"; the table body is not cut short; and "Reading does not judge the table"
-unfoldable pub isLaidOut : List ℕ → Bool
-isLaidOut file =
-    leb (countAt file table-start) streams-max
-    && leb (traceStart file + after-trace) (length file)
-    && isContents file (traceStart file) (traceEnd file)
-    && isTrace (traceIn file)
-
--- "Anything else is 16."
-unfoldable pub readOf : List ℕ → Reading
-readOf file =
-    if (isLaidOut file) (LaidOut (countAt file table-start) (traceStart file) (traceEnd file) (eventsIn (traceIn file))) (Refused 16)

@@ -9,8 +9,8 @@ use Rattle.table.specs.Ranges.{streams-max}
 use Rattle.table.specs.Admission.{reservedAt, periodAt}
 use Rattle.table.specs.declared.Table.{Table}
 use Rattle.cells.specs.Cells.{Bytes}
-use Rattle.file.specs.Event.{event-size, events-max, eventsIn, eventAt, formed, bytesOf}
-use Rattle.file.specs.File.{table-start, tableLength, part, tableIn, traceIn, column, fileOf, isLaidOut, readOf}
+use Rattle.file.specs.File.{event-size, events-max, bytesOf, table-start, fileOf}
+use Rattle.file.specs.Reading.{eventsIn, eventAt, formed, tableLength, part, tableIn, traceIn, column, isLaidOut, readOf}
 use Rattle.file.specs.Writing.{isWritable, writeOf, writtenOn}
 use Rattle.file.specs.Listing.{listing-table, listing-events, listing-file}
 use Rattle.file.specs.declared.Reading.the-variants.{LaidOut}
@@ -60,6 +60,10 @@ AcceptedWritesBack =
 -- "A refused call returns its number and changes no byte of session or buffer."
 abbrev pub RefusedChangesNothing : Type 0
 RefusedChangesNothing = (t : Table) (trace out : List ℕ) (n : ℕ) → writeOf t trace out ≡ Refused n → writtenOn t trace out ≡ out
+
+-- the file that is written is within the buffer
+abbrev pub WrittenIsWithin : Type 0
+WrittenIsWithin = (t : Table) (trace out : List ℕ) (n : ℕ) → writeOf t trace out ≡ Written n → n ≤ length out
 
 -- "Writing leaves bytes after the file unchanged"
 abbrev pub RestIsUnchanged : Type 0

@@ -1,5 +1,5 @@
-pub mod Event
 pub mod File
+pub mod Reading
 pub mod Writing
 pub mod Listing
 pub mod Laws

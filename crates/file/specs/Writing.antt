@@ -8,8 +8,8 @@ use Rattle.table.specs.Fold.{if}
 use Rattle.table.specs.Refusal.{given, _or-next_}
 use Rattle.table.specs.Ranges.{streams-max}
 use Rattle.table.specs.declared.Table.{Table}
-use Rattle.file.specs.Event.{isTrace}
 use Rattle.file.specs.File.{fileOf}
+use Rattle.file.specs.Reading.{isTrace}
 use Rattle.file.specs.declared.Writing.{Writing}
 use Rattle.file.specs.declared.Writing.the-variants.{Written, Refused}
 

@@ -9,7 +9,8 @@ ghost use lib.Seq.{sets};
 ghost use Rattle.table.specs.Fold.{if};
 ghost use Rattle.table.specs.Ranges.{streams-max};
 ghost use Rattle.cells.specs.Cells.{cell, numberAt};
-ghost use Rattle.file.specs.File.{table-start, streamCells, tableBody, tableLength, column, tableAt};
+ghost use Rattle.file.specs.File.{table-start, streamCells, tableBody};
+ghost use Rattle.file.specs.Reading.{tableLength, column, tableAt};
 
 // How long the table body of this many streams is.
 pub(crate) fn table_length(count: usize) -> usize

@@ -5,7 +5,8 @@ ghost use mathlib.Core.Path.{_≡_};
 ghost use Prim.Native.Nat.{_≤_};
 ghost use lib.Seq.{sets};
 ghost use Rattle.table.specs.Ranges.{streams-max};
-ghost use Rattle.file.specs.File.{entry, contents, table-start, tableLength, isEntry, isContents};
+ghost use Rattle.file.specs.File.{entry, contents, table-start};
+ghost use Rattle.file.specs.Reading.{tableLength, isEntry, isContents};
 
 // Where the table body starts.
 pub(crate) const TABLE_START: usize = 26;

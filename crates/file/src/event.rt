@@ -2,7 +2,7 @@
 use cells::number_at;
 ghost use mathlib.Core.Path.{_≡_};
 ghost use Rattle.table.specs.Fold.{allTo};
-ghost use Rattle.file.specs.Event.{eventOf, eventAt, formed, isTrace};
+ghost use Rattle.file.specs.Reading.{eventOf, eventAt, formed, isTrace};
 
 // What an event asks for. Streams are counted from 1, a queue's places from 0.
 pub enum Event {
@@ -90,8 +90,7 @@ pub(crate) fn is_trace(trace: &[u8]) -> bool
     ensures { λ r. ⌜ r ≡ isTrace (now (trace .entry)) ⌝ }
 {
     let events = trace.len() / Event::SIZE;
-    let whole = (trace.len() % Event::SIZE == 0) & (events <= Event::MOST);
-    if whole {
+    if (trace.len() % Event::SIZE == 0) & (events <= Event::MOST) {
         all_formed(trace, events)
     } else {
         false

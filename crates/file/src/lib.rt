@@ -16,7 +16,10 @@ pub use event::event_at;
 use event::is_trace;
 use table::Table;
 ghost use mathlib.Core.Path.{_≡_};
-ghost use Rattle.file.specs.File.{tableIn, readOf};
+ghost use Prim.Native.Nat.{_+_, _*_, _≤_};
+ghost use Rattle.table.specs.Ranges.{streams-max};
+ghost use Rattle.file.specs.File.{table-start, events-max, event-size};
+ghost use Rattle.file.specs.Reading.{tableLength, after-trace, tableIn, readOf};
 ghost use Rattle.file.specs.Writing.{writeRefusal, writeOf, writtenOn};
 
 // What reading says: how many streams there are, where the trace is and how many events it has; or the refusal.
@@ -83,12 +86,11 @@ pub fn write(table: Table, trace: &[u8], out: &mut [u8]) -> Writing
     if refusal != 0 {
         return Writing::Refused(refusal);
     }
+    let size = file_length(table.count, trace.len());
     let body = table_length(table.count);
-    let start = TABLE_START + body;
-    let size = start + trace.len() + AFTER_TRACE;
     put_contents(out, body, trace.len());
     put_table(out, TABLE_START, table);
-    put_bytes(out, start, trace);
+    put_bytes(out, TABLE_START + body, trace);
     Writing::Written(size)
 }
 
@@ -100,9 +102,16 @@ fn write_refusal(table: Table, trace: &[u8], room: usize) -> u64
         return 16;
     }
     if is_trace(trace) {
-        let start = TABLE_START + table_length(table.count);
-        let size = start + trace.len() + AFTER_TRACE;
+        let size = file_length(table.count, trace.len());
         return if room < size { 17 } else { 0 };
     }
     16
+}
+
+// How long the file of this many streams and a trace of this length is.
+fn file_length(count: usize, trace: usize) -> usize
+    requires { ⌜ (count ≤ streams-max) × (trace ≤ event-size * events-max) ⌝ }
+    ensures { λ r. ⌜ r ≡ table-start + tableLength count + trace + after-trace ⌝ }
+{
+    TABLE_START + table_length(count) + trace + AFTER_TRACE
 }

@@ -1,8 +1,11 @@
 -- `read` answers as `readOf`: each way out is a law of `Accepted`, test by test.
 use mathlib.Core.Path.{_≡_, sym, ap, _∙_}
-use Prim.Native.Nat.{_-_, _≤_}
+use mathlib.Core.List.{List}
+use Prim.Native.Nat.{ℕ, _+_, _≤_}
 use native.Mathlib.Omega.{arith}
-use Rattle.file.specs.File.{table-start, tableLength, countAt}
+use lib.ListN.{length}
+use Rattle.file.specs.File.{table-start}
+use Rattle.file.specs.Reading.{countAt, tableLength, traceStart, after-trace}
 use Rattle.file.proofs.Accepted.{count-fails, length-fails, contents-fail, trace-decides, read-refused, read-accepted}
 use Rattle.file.proofs.read.Statement.{statement}
 use Rattle.file.proofs.read.Tie as tie
@@ -52,37 +55,47 @@ part-trace-end c = omega arith
 is-trace-requires : tie.Need-is-trace-requires
 is-trace-requires c κs = tt
 
+-- what the contents table and the trace are judged with
+record Start (file : List ℕ) (length-read : ℕ) : Type 0 where
+  count-high : countAt file table-start ≤ 8
+  length-is : length-read ≡ tableLength (countAt file table-start)
+  long : traceStart file + after-trace ≤ length file
+
+start : (c : tie.Else2) → Start (c .before .before .before .before .before .args .file .now) (c .before .table-length .result)
+start c =
+    let n = c .before .before .before .number-at .ensures in
+    record {
+      count-high = rw n at (c .before .before .if1 .left);
+      length-is = c .before .table-length .ensures ∙ ap tableLength n;
+      long = omega (arith, n, c .before .table-length .ensures);
+    }
+
 returns-3 : tie.Need-returns-3
 returns-3 c =
-    let s = c .before .before .before .before .before .before in
-    let n = s .before .before .number-at .ensures in
-    let file = s .before .before .before .before .args .file .now in
-    let count : countAt file table-start ≤ 8 = rw n at (s .before .if1 .left) in
-    let e : s .table-length .result ≡ tableLength (countAt file table-start) = s .table-length .ensures ∙ ap tableLength n in
-    let there = rw e at (sym (c .before .before .before .before .is-contents .ensures) ∙ c .before .before .before .if3 .taken) in
-    let right = rw e at (sym (c .before .is-trace .ensures) ∙ c .if4 .taken) in
-    rw (n, e) (sym (read-accepted file (trace-decides file count (omega (arith, e, s .before .if1 .left)) there ∙ right)))
+    let there = c .before .before .before in
+    let q = start (there .before .before) in
+    let n = there .before .before .before .before .before .number-at .ensures in
+    let file = there .before .before .before .before .before .before .before .args .file .now in
+    let contents = rw (q .length-is) at (sym (there .before .is-contents .ensures) ∙ there .if3 .taken) in
+    let trace = rw (q .length-is) at (sym (c .before .is-trace .ensures) ∙ c .if4 .taken) in
+    rw (n, q .length-is)
+    (sym (read-accepted file (trace-decides file (q .count-high) (q .long) contents ∙ trace)))
 
 returns-4 : tie.Need-returns-4
 returns-4 c =
-    let s = c .before .before .before .before .before .before in
-    let n = s .before .before .number-at .ensures in
-    let file = s .before .before .before .before .args .file .now in
-    let count : countAt file table-start ≤ 8 = rw n at (s .before .if1 .left) in
-    let e : s .table-length .result ≡ tableLength (countAt file table-start) = s .table-length .ensures ∙ ap tableLength n in
-    let there = rw e at (sym (c .before .before .before .before .is-contents .ensures) ∙ c .before .before .before .if3 .taken) in
-    let wrong = rw e at (sym (c .before .is-trace .ensures) ∙ c .if4 .left) in
-    sym (read-refused file (trace-decides file count (omega (arith, e, s .before .if1 .left)) there ∙ wrong))
+    let there = c .before .before .before in
+    let q = start (there .before .before) in
+    let file = there .before .before .before .before .before .before .before .args .file .now in
+    let contents = rw (q .length-is) at (sym (there .before .is-contents .ensures) ∙ there .if3 .taken) in
+    let trace = rw (q .length-is) at (sym (c .before .is-trace .ensures) ∙ c .if4 .left) in
+    sym (read-refused file (trace-decides file (q .count-high) (q .long) contents ∙ trace))
 
 returns-5 : tie.Need-returns-5
 returns-5 c =
-    let s = c .before .before .before in
-    let n = s .before .before .number-at .ensures in
-    let file = s .before .before .before .before .args .file .now in
-    let count : countAt file table-start ≤ 8 = rw n at (s .before .if1 .left) in
-    let e : s .table-length .result ≡ tableLength (countAt file table-start) = s .table-length .ensures ∙ ap tableLength n in
-    let wrong = rw e at (sym (c .before .is-contents .ensures) ∙ c .if3 .left) in
-    sym (read-refused file (contents-fail file count (omega (arith, e, s .before .if1 .left)) wrong))
+    let q = start (c .before .before) in
+    let file = c .before .before .before .before .before .before .before .args .file .now in
+    let contents = rw (q .length-is) at (sym (c .before .is-contents .ensures) ∙ c .if3 .left) in
+    sym (read-refused file (contents-fail file (q .count-high) (q .long) contents))
 
 pub read-spec : {M : Type 1} → statement M
 read-spec =

@@ -14,50 +14,44 @@ returns c =
 is-trace-requires : tie.Need-is-trace-requires
 is-trace-requires c κs = tt
 
-table-length-requires : tie.Need-table-length-requires
-table-length-requires c κs = omega arith
-
-add-start : tie.Need-add-start
-add-start c = omega (arith, c .table-length .ensures)
-
-add-size : tie.Need-add-size
-add-size c =
-    let s = c .before .before .before .before .before .before in
-    omega (arith, c .table-length .ensures, trace-of (s .args .trace .now) (sym (c .before .before .is-trace .ensures) ∙ c .before .if2 .taken))
-
-add-size-2 : tie.Need-add-size-2
-add-size-2 c =
-    let s = c .before .before .before .before .before .before in
-    omega (arith, c .table-length .ensures, trace-of (s .args .trace .now) (sym (c .before .before .is-trace .ensures) ∙ c .before .if2 .taken))
+file-length-requires : tie.Need-file-length-requires
+file-length-requires c κs =
+    let a = c .before .before .before .before .before .args in
+    let right = trace-of (a .trace .now) (sym (c .before .is-trace .ensures) ∙ c .if2 .taken) in
+    (omega arith, omega (arith, right .whole, right .events-high))
 
 returns-2 : tie.Need-returns-2
 returns-2 c =
     let b = c .before .before .before in
     let a = b .before .before .before .before .args in
-    sym (room-refused (a .table) (a .trace .now) (a .room) (omega arith) (sym (b .is-trace .ensures) ∙ c .before .before .if2 .taken) (omega (arith, c .before .table-length .ensures)))
+    sym
+    (room-refused
+    (a .table)
+    (a .trace .now)
+    (a .room)
+    (omega arith)
+    (sym (b .is-trace .ensures) ∙ c .before .before .if2 .taken)
+    (omega (arith, c .before .file-length .ensures)))
 
 returns-3 : tie.Need-returns-3
 returns-3 c =
     let b = c .before .before .before in
     let a = b .before .before .before .before .args in
-    sym (none-refused (a .table) (a .trace .now) (a .room) (omega arith) (sym (b .is-trace .ensures) ∙ c .before .before .if2 .taken) (omega (arith, c .before .table-length .ensures)))
+    sym
+    (none-refused
+    (a .table)
+    (a .trace .now)
+    (a .room)
+    (omega arith)
+    (sym (b .is-trace .ensures) ∙ c .before .before .if2 .taken)
+    (omega (arith, c .before .file-length .ensures)))
 
 returns-4 : tie.Need-returns-4
 returns-4 c =
     let b = c .before in
-    let a = c .before .before .before .before .before .args in
+    let a = b .before .before .before .before .args in
     sym (trace-refused (a .table) (a .trace .now) (a .room) (omega arith) (sym (b .is-trace .ensures) ∙ c .if2 .left))
 
 pub write-refusal-spec : {M : Type 1} → statement M
 write-refusal-spec =
-    tie.close
-    (tie.spec
-    returns
-    is-trace-requires
-    table-length-requires
-    add-start
-    add-size
-    add-size-2
-    returns-2
-    returns-3
-    returns-4)
+    tie.close (tie.spec returns is-trace-requires file-length-requires returns-2 returns-3 returns-4)

@@ -6,7 +6,7 @@ use lib.Dec.{ltb}
 use Rattle.table.specs.Fold.{if, listTo}
 use Rattle.table.proofs.Lists.{Filled, filled-more, filled-all}
 use Rattle.cells.specs.Cells.{numberAt}
-use Rattle.file.specs.File.{column}
+use Rattle.file.specs.Reading.{column}
 use Rattle.file.proofs.body.column_at.Statement.{statement}
 use Rattle.file.proofs.body.column_at.Tie as tie
 

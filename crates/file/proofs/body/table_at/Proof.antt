@@ -1,7 +1,7 @@
 -- `table_at` is its definition: every number is read where it says.
 use native.Mathlib.Omega.{arith}
 use borrow.Author.Needs.{needs}
-use Rattle.file.specs.File.{tableAt}
+use Rattle.file.specs.Reading.{tableAt}
 use Rattle.file.proofs.body.table_at.Statement.{statement}
 use Rattle.file.proofs.body.table_at.Tie as tie
 

@@ -1,6 +1,6 @@
 -- `is_contents` is its definition: the number of entries, and an entry for each body.
 use native.Mathlib.Omega.{arith}
-use Rattle.file.specs.File.{isContents}
+use Rattle.file.specs.Reading.{isContents}
 use Rattle.file.proofs.contents.is_contents.Statement.{statement}
 use Rattle.file.proofs.contents.is_contents.Tie as tie
 

@@ -1,6 +1,6 @@
 -- `is_entry` is its definition: the three numbers are read where it says.
 use native.Mathlib.Omega.{arith}
-use Rattle.file.specs.File.{isEntry}
+use Rattle.file.specs.Reading.{isEntry}
 use Rattle.file.proofs.contents.is_entry.Statement.{statement}
 use Rattle.file.proofs.contents.is_entry.Tie as tie
 

@@ -4,7 +4,7 @@ use native.Mathlib.Omega.{arith}
 use native.Mathlib.Numerals.{add-one}
 use Prim.Native.Nat.{_≤_, _-_}
 use Rattle.table.specs.Fold.{allTo}
-use Rattle.file.specs.Event.{eventAt, formed}
+use Rattle.file.specs.Reading.{eventAt, formed}
 use Rattle.file.proofs.event.all_formed.Statement.{statement}
 use Rattle.file.proofs.event.all_formed.Tie as tie
 

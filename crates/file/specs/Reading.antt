@@ -1,0 +1,130 @@
+-- What reading makes of any bytes.
+use mathlib.Core.Bool.{Bool, true, false, _&&_}
+use mathlib.Core.List.{List}
+use Prim.Native.Nat.{ℕ, _+_, _-_, _*_, _/_, _%_}
+use lib.Dec.{leb, ltb, eqb}
+use lib.ListN.{length, take, drop}
+use Rattle.table.specs.Fold.{if, allTo, listTo}
+use Rattle.table.specs.Ranges.{streams-max}
+use Rattle.table.specs.declared.Table.{Table}
+use Rattle.cells.specs.Cells.{numberAt}
+use Rattle.file.specs.File.{table-start, events-max, event-size}
+use Rattle.file.specs.declared.Reading.{Reading}
+use Rattle.file.specs.declared.Reading.the-variants.{LaidOut, Refused}
+use Rattle.file.specs.declared.event.Event.{Event}
+use Rattle.file.specs.declared.event.Event.the-variants.{Arrival, Turn, OwnTurn, Done, Clock, Malformed}
+
+-- ---- events
+
+-- "Kinds: 1 arrival, 2 turn, 3 own turn, 4 done, 5 clock. Turn has stream 0 and value 0; done and clock have stream 0."
+unfoldable pub eventOf : ℕ → ℕ → ℕ → Event
+eventOf kind stream value =
+    if (eqb kind 1) (Arrival stream value)
+    (if (eqb kind 2 && eqb stream 0 && eqb value 0) Turn
+    (if (eqb kind 3) (OwnTurn stream value)
+    (if (eqb kind 4 && eqb stream 0) (Done value)
+    (if (eqb kind 5 && eqb stream 0) (Clock value)
+    Malformed))))
+
+-- "Event: kind, stream, six zero bytes, eight bytes of value": the event in the 16 bytes from an index on
+unfoldable pub eventFrom : List ℕ → ℕ → Event
+eventFrom trace at =
+    if (eqb (numberAt 6 trace (at + 2)) 0) (eventOf (numberAt 1 trace at) (numberAt 1 trace (at + 1)) (numberAt 8 trace (at + 8))) Malformed
+
+-- how many whole events a trace has
+abbrev pub eventsIn : List ℕ → ℕ
+eventsIn trace = length trace / event-size
+
+-- the event at i of a trace, counted from 0; there is none past the last whole one
+unfoldable pub eventAt : List ℕ → ℕ → Event
+eventAt trace i = if (ltb i (eventsIn trace)) (eventFrom trace (event-size * i)) Malformed
+
+abbrev pub formed : Event → Bool
+formed (Arrival stream place) = true
+formed Turn = true
+formed (OwnTurn stream index) = true
+formed (Done duration) = true
+formed (Clock time) = true
+formed Malformed = false
+
+-- "Trace body: 0 to 4,000 events of 16 bytes", each "of the above form"
+unfoldable pub isTrace : List ℕ → Bool
+isTrace trace =
+    eqb (length trace % event-size) 0
+    && leb (eventsIn trace) events-max
+    && allTo (λ i. formed (eventAt trace i)) (eventsIn trace)
+
+-- ---- where the parts of a file are
+
+-- the count in a table body that starts at an index
+abbrev pub countAt : List ℕ → ℕ → ℕ
+countAt file at = numberAt 4 file (at + 12)
+
+-- the length of a table body: W, H, k and count, and e and p of each stream
+abbrev pub tableLength : ℕ → ℕ
+tableLength count = 16 + 8 * count
+
+-- "trace, right after it"
+abbrev pub traceStart : List ℕ → ℕ
+traceStart file = table-start + tableLength (countAt file table-start)
+
+-- "the file ends with it"
+abbrev pub after-trace : ℕ
+after-trace = 0
+
+abbrev pub traceEnd : List ℕ → ℕ
+traceEnd file = length file - after-trace
+
+-- the part of a list from one index up to another
+abbrev pub part : ℕ → ℕ → List ℕ → List ℕ
+part start end bytes = take (end - start) (drop start bytes)
+
+-- "Trace body: [..] a part of the file that starts in its middle."
+abbrev pub traceIn : List ℕ → List ℕ
+traceIn file = part (traceStart file) (traceEnd file) file
+
+-- a number for each of the eight places of a table, and 0 past the count
+unfoldable pub column : (ℕ → ℕ) → ℕ → List ℕ
+column f count = listTo (λ i. if (ltb i count) (f i) 0) streams-max
+
+-- the table whose body starts at an index
+unfoldable pub tableAt : List ℕ → ℕ → Table
+tableAt file at =
+    record {
+      worst = numberAt 4 file at;
+      span = numberAt 4 file (at + 4);
+      padding = numberAt 4 file (at + 8);
+      count = countAt file at;
+      reserved = column (λ i. numberAt 4 file (at + 16 + 8 * i)) (countAt file at);
+      period = column (λ i. numberAt 4 file (at + 20 + 8 * i)) (countAt file at);
+    }
+
+abbrev pub tableIn : List ℕ → Table
+tableIn file = tableAt file table-start
+
+-- ---- reading
+
+-- the entry at an index has this kind, offset and length
+unfoldable pub isEntry : List ℕ → ℕ → ℕ → ℕ → ℕ → Bool
+isEntry file at kind offset len =
+    eqb (numberAt 4 file at) kind && eqb (numberAt 4 file (at + 4)) offset && eqb (numberAt 4 file (at + 8)) len
+
+-- the contents table is that of a file whose trace starts and ends there
+unfoldable pub isContents : List ℕ → ℕ → ℕ → Bool
+isContents file start end =
+    eqb (numberAt 2 file 0) 2
+    && isEntry file 2 1 table-start (start - table-start)
+    && isEntry file 14 2 start (end - start)
+
+-- "count (0 to 8)"; the table body is not cut short; and "Reading does not judge the table"
+unfoldable pub isLaidOut : List ℕ → Bool
+isLaidOut file =
+    leb (countAt file table-start) streams-max
+    && leb (traceStart file + after-trace) (length file)
+    && isContents file (traceStart file) (traceEnd file)
+    && isTrace (traceIn file)
+
+-- "Anything else is 16."
+unfoldable pub readOf : List ℕ → Reading
+readOf file =
+    if (isLaidOut file) (LaidOut (countAt file table-start) (traceStart file) (traceEnd file) (eventsIn (traceIn file))) (Refused 16)

@@ -1,0 +1,437 @@
+// The rules of document 01, each from its own sentence, with exact fractions and plain lists.
+#include "engine.h"
+
+#include <string.h>
+
+typedef unsigned __int128 wide;
+
+// A fraction that is never rounded; two are compared by cross products.
+struct fraction {
+    wide over;
+    uint64_t under;
+};
+
+static bool fraction_below(struct fraction a, struct fraction b)
+{
+    return a.over * b.under < b.over * a.under;
+}
+
+static struct reply answer(enum number number, uint32_t stream, uint64_t value)
+{
+    return (struct reply){number, stream, value};
+}
+
+static struct reply refusal(enum number number)
+{
+    return answer(number, 0, 0);
+}
+
+// --- Reservation table ---
+
+// "Zero stands for the default, which is 1."
+static uint32_t padding_of(const struct table *t)
+{
+    return t->padding == 0 ? PADDING_DEFAULT : t->padding;
+}
+
+// "Granted budget g = e + k × W"
+uint64_t granted_budget(const struct table *t, const struct reservation *r)
+{
+    return (uint64_t)r->reserved + (uint64_t)padding_of(t) * t->worst;
+}
+
+// "Load = sum of g × (H / p) over the streams, plus W × (H / smallest p)." The largest H / p is that of the smallest p.
+uint64_t table_load(const struct table *t)
+{
+    uint64_t load = 0;
+    uint64_t most = 0;
+    for (uint32_t i = 0; i < t->count; i++) {
+        const struct reservation *r = &t->reservations[i];
+        uint64_t times = t->span / r->period;
+        load += granted_budget(t, r) * times;
+        if (times > most)
+            most = times;
+    }
+    return load + t->worst * most;
+}
+
+// "p outside its range or not dividing H"
+static bool period_bad(const struct table *t, uint32_t period)
+{
+    return period < PERIOD_MIN || period > PERIOD_MAX || t->span % period != 0;
+}
+
+// "Opening: 1, 2, 3, 4, then 5 and 6 stream by stream, then 7"
+static enum number admit(const struct table *t)
+{
+    if (t->count == 0 || t->count > STREAM_MAX)
+        return BAD_COUNT;
+    if (t->worst < WORST_MIN || t->worst > WORST_MAX)
+        return BAD_WORST;
+    if (t->span < SPAN_MIN || t->span > SPAN_MAX)
+        return BAD_SPAN;
+    if (t->padding > PADDING_MAX)
+        return BAD_PADDING;
+    for (uint32_t i = 0; i < t->count; i++) {
+        const struct reservation *r = &t->reservations[i];
+        if (period_bad(t, r->period))
+            return BAD_PERIOD;
+        if (r->reserved == 0 || granted_budget(t, r) > r->period)
+            return BAD_RESERVED;
+    }
+    // "Admitted exactly if load ≤ H"
+    return table_load(t) > t->span ? OVERLOAD : ADMITTED;
+}
+
+// --- Slots and the latest safe moment ---
+
+// "Horizon h = smallest deadline."
+uint64_t session_horizon(const struct session *s)
+{
+    uint64_t horizon = s->streams[0].deadline;
+    for (uint32_t i = 1; i < s->table.count; i++)
+        if (s->streams[i].deadline < horizon)
+            horizon = s->streams[i].deadline;
+    return horizon;
+}
+
+// "(c + n × W) × p ≤ (h − r) × g": slot n has its micro-deadline by the horizon.
+static bool slot_fits(const struct session *s, uint32_t i, uint64_t horizon, uint64_t n)
+{
+    const struct stream *m = &s->streams[i];
+    uint64_t period = s->table.reservations[i].period;
+    return (m->charge + n * s->table.worst) * period <= (horizon - m->release) * m->granted;
+}
+
+// "Slots of a stream: the number s of whole n ≥ 1 with (c + n × W) × p ≤ (h − r) × g."
+static uint64_t slots(const struct session *s, uint32_t i, uint64_t horizon)
+{
+    const struct stream *m = &s->streams[i];
+    uint64_t period = s->table.reservations[i].period;
+    uint64_t used = m->charge * period;
+    uint64_t room = (horizon - m->release) * m->granted;
+    return room < used ? 0 : (room - used) / (s->table.worst * period);
+}
+
+// "Filled slots: the smaller of s and the queue length; the first so many queued requests are the set"
+static uint64_t filled(const struct session *s, uint32_t i, uint64_t horizon)
+{
+    uint64_t length = s->streams[i].length;
+    // Most queues are shorter than the slots, and then no division is needed.
+    if (length == 0 || slot_fits(s, i, horizon, length))
+        return length;
+    return slots(s, i, horizon);
+}
+
+// "the remainder of a stream is (h − r) × g / p − c, negative after an overrun", times H so that it is whole
+static int64_t scaled_remainder(const struct session *s, uint32_t i, uint64_t horizon)
+{
+    const struct stream *m = &s->streams[i];
+    uint64_t span = s->table.span;
+    uint64_t times = span / s->table.reservations[i].period;
+    return (int64_t)((horizon - m->release) * m->granted * times) - (int64_t)(m->charge * span);
+}
+
+// "Latest safe moment L = h less the sum of all remainders, rounded down once."
+static uint64_t latest_safe(const struct session *s, uint64_t horizon)
+{
+    int64_t sum = 0;
+    uint64_t span = s->table.span;
+    for (uint32_t i = 0; i < s->table.count; i++)
+        sum += scaled_remainder(s, i, horizon);
+    // Taking off what is rounded up is rounding down what is left.
+    if (sum > 0)
+        return horizon - ((uint64_t)sum + span - 1) / span;
+    return horizon + (uint64_t)-sum / span;
+}
+
+// "r + c × p / g"
+static struct fraction served_until(const struct session *s, uint32_t i)
+{
+    const struct stream *m = &s->streams[i];
+    uint64_t period = s->table.reservations[i].period;
+    return (struct fraction){(wide)m->release * m->granted + m->charge * period, m->granted};
+}
+
+uint64_t session_latest_safe(const struct session *s)
+{
+    return latest_safe(s, session_horizon(s));
+}
+
+uint64_t session_slots(const struct session *s, uint64_t stream)
+{
+    return slots(s, (uint32_t)stream - 1, session_horizon(s));
+}
+
+uint64_t session_filled(const struct session *s, uint64_t stream)
+{
+    return filled(s, (uint32_t)stream - 1, session_horizon(s));
+}
+
+// --- Soundness ---
+
+// "queue places past the length"
+static bool queue_sound(const struct stream *m)
+{
+    if (m->length > QUEUE_MAX)
+        return false;
+    uint64_t rest = 0;
+    for (uint64_t j = m->length; j < QUEUE_MAX; j++)
+        rest |= m->places[j];
+    return rest == 0;
+}
+
+// "d = r + p", "all deadlines are at most 1,000,000,000,000", "each charge is at most g + 10,000,000 and at least
+// W × the expired count". No sum wraps, whatever the cells hold.
+static bool stream_sound(const struct session *s, uint32_t i)
+{
+    const struct stream *m = &s->streams[i];
+    const struct reservation *r = &s->table.reservations[i];
+    return m->granted == granted_budget(&s->table, r)
+        && m->deadline <= SESSION_END && m->release <= m->deadline && m->deadline - m->release == r->period
+        && m->charge <= m->granted + DURATION_MAX && (wide)s->table.worst * m->expired <= m->charge
+        && queue_sound(m);
+}
+
+// "every unused cell is 0 (.. streams past the count ..)"
+static bool stream_zero(const struct session *s, uint32_t i)
+{
+    const struct stream *m = &s->streams[i];
+    const struct reservation *r = &s->table.reservations[i];
+    return (r->reserved | r->period) == 0
+        && (m->granted | m->release | m->deadline | m->charge | m->expired | m->length) == 0
+        && (m->last.charge | m->last.clock | m->last.deadline | m->last.expired) == 0
+        && queue_sound(m);
+}
+
+// "the stream at the disk, if any, exists and has a slot", "the place while nothing is at the disk" is 0
+static bool disk_sound(const struct session *s, uint64_t horizon)
+{
+    if (s->disk_stream == 0)
+        return s->disk_place == 0;
+    return s->disk_stream <= s->table.count && slot_fits(s, (uint32_t)s->disk_stream - 1, horizon, 1);
+}
+
+// "A session is sound if its table numbers are ones that opening admits; ..", line by line.
+bool session_sound(const struct session *s)
+{
+    if (admit(&s->table) != ADMITTED || s->clock > SESSION_END)
+        return false;
+    uint32_t count = s->table.count;
+    for (uint32_t i = 0; i < count; i++)
+        if (!stream_sound(s, i))
+            return false;
+    for (uint32_t i = count; i < STREAM_MAX; i++)
+        if (!stream_zero(s, i))
+            return false;
+    uint64_t horizon = session_horizon(s);
+    for (uint32_t i = 0; i < count; i++)
+        if (s->streams[i].release > horizon)
+            return false;
+    return disk_sound(s, horizon);
+}
+
+// --- Calls ---
+
+// "no session is made, and an all-zero one, which is not sound, stands in its place"
+enum number session_open(struct session *s, const struct table *t)
+{
+    enum number number = admit(t);
+    memset(s, 0, sizeof *s);
+    if (number != ADMITTED)
+        return number;
+    s->table.worst = t->worst;
+    s->table.span = t->span;
+    s->table.padding = t->padding;
+    s->table.count = t->count;
+    for (uint32_t i = 0; i < t->count; i++) {
+        s->table.reservations[i] = t->reservations[i];
+        s->streams[i].granted = granted_budget(t, &t->reservations[i]);
+        s->streams[i].deadline = t->reservations[i].period;
+    }
+    return ADMITTED;
+}
+
+// "stream number 0 or above the count"
+static bool stream_bad(const struct session *s, uint64_t stream)
+{
+    return stream == 0 || stream > s->table.count;
+}
+
+// "Arrival (stream, place): put at the queue's end."
+struct reply session_arrival(struct session *s, uint64_t stream, uint64_t place)
+{
+    if (!session_sound(s))
+        return refusal(UNSOUND);
+    if (stream_bad(s, stream))
+        return refusal(BAD_STREAM);
+    struct stream *m = &s->streams[stream - 1];
+    if (m->length == QUEUE_MAX)
+        return refusal(QUEUE_FULL);
+    m->places[m->length++] = place;
+    return answer(ARRIVED, (uint32_t)stream, m->length);
+}
+
+// "The request leaves its queue, the others keep their order, the head becomes its place."
+static struct reply send(struct session *s, uint32_t i, uint64_t index)
+{
+    struct stream *m = &s->streams[i];
+    uint64_t place = m->places[index];
+    m->length--;
+    for (uint64_t j = index; j < m->length; j++)
+        m->places[j] = m->places[j + 1];
+    m->places[m->length] = 0;
+    s->head = place;
+    s->disk_stream = i + 1;
+    s->disk_place = place;
+    return answer(SENT, i + 1, place);
+}
+
+static uint64_t distance(uint64_t a, uint64_t b)
+{
+    return a > b ? a - b : b - a;
+}
+
+// A request of the set: its stream (STREAM_MAX for none), its index in that queue, its distance from the head.
+struct choice {
+    uint32_t stream;
+    uint64_t index;
+    uint64_t far;
+};
+
+// "Take the earliest deadline among streams with a filled slot; of the set's requests from streams with that deadline,
+// the place nearest the head; ties go to the lower stream, then the earlier arrival."
+static struct choice choose(const struct session *s, uint64_t horizon)
+{
+    struct choice best = {STREAM_MAX, 0, 0};
+    for (uint32_t i = 0; i < s->table.count; i++) {
+        const struct stream *m = &s->streams[i];
+        if (best.stream != STREAM_MAX && m->deadline > s->streams[best.stream].deadline)
+            continue;
+        uint64_t set = filled(s, i, horizon);
+        for (uint64_t j = 0; j < set; j++) {
+            uint64_t far = distance(m->places[j], s->head);
+            if (best.stream == STREAM_MAX || m->deadline < s->streams[best.stream].deadline || far < best.far)
+                best = (struct choice){i, j, far};
+        }
+    }
+    return best;
+}
+
+// "Every stream with d = h closes its job: the record is written, r becomes d, d grows by p, charge and expired count
+// become 0. The others keep theirs."
+static struct reply move(struct session *s, uint64_t horizon)
+{
+    for (uint32_t i = 0; i < s->table.count; i++)
+        if (s->streams[i].deadline == horizon && horizon + s->table.reservations[i].period > SESSION_END)
+            return refusal(PAST_END);
+    for (uint32_t i = 0; i < s->table.count; i++) {
+        struct stream *m = &s->streams[i];
+        if (m->deadline != horizon)
+            continue;
+        m->last = (struct record){m->charge, s->clock, m->deadline, m->expired};
+        m->release = m->deadline;
+        m->deadline += s->table.reservations[i].period;
+        m->charge = 0;
+        m->expired = 0;
+    }
+    return answer(MOVED, 0, session_horizon(s));
+}
+
+// "of the stream whose r + c × p / g is least among those with a slot; ties go to the earlier deadline, then the lower
+// number"; STREAM_MAX if none has a slot
+static uint32_t expiring(const struct session *s, uint64_t horizon)
+{
+    uint32_t best = STREAM_MAX;
+    struct fraction least = {0, 1};
+    for (uint32_t i = 0; i < s->table.count; i++) {
+        if (!slot_fits(s, i, horizon, 1))
+            continue;
+        struct fraction until = served_until(s, i);
+        if (best == STREAM_MAX || fraction_below(until, least)
+            || (!fraction_below(least, until) && s->streams[i].deadline < s->streams[best].deadline)) {
+            best = i;
+            least = until;
+        }
+    }
+    return best;
+}
+
+// "Its charge grows by W, its expired count by 1."
+static struct reply expire(struct session *s, uint32_t i)
+{
+    struct stream *m = &s->streams[i];
+    m->charge += s->table.worst;
+    m->expired++;
+    return answer(EXPIRED, i + 1, m->charge);
+}
+
+// "Turn, the first that applies": a send, b move, c wait, d expire.
+struct reply session_turn(struct session *s)
+{
+    if (!session_sound(s))
+        return refusal(UNSOUND);
+    if (s->disk_stream != 0)
+        return refusal(DISK_BUSY);
+    uint64_t horizon = session_horizon(s);
+    struct choice chosen = choose(s, horizon);
+    if (chosen.stream != STREAM_MAX)
+        return send(s, chosen.stream, chosen.index);
+    uint32_t next = expiring(s, horizon);
+    if (next == STREAM_MAX)
+        return move(s, horizon);
+    uint64_t latest = latest_safe(s, horizon);
+    if (s->clock < latest)
+        return answer(WAIT, 0, latest);
+    return expire(s, next);
+}
+
+// "Own turn (stream, index from 0): send that queued request if its index is below the stream's filled slots."
+struct reply session_own_turn(struct session *s, uint64_t stream, uint64_t index)
+{
+    if (!session_sound(s))
+        return refusal(UNSOUND);
+    if (s->disk_stream != 0)
+        return refusal(DISK_BUSY);
+    if (stream_bad(s, stream))
+        return refusal(BAD_STREAM);
+    if (index >= filled(s, (uint32_t)stream - 1, session_horizon(s)))
+        return refusal(NOT_IN_SET);
+    return send(s, (uint32_t)stream - 1, index);
+}
+
+// "Done (duration a): clock and charge of the stream served both grow by a. Overlong if a > W."
+struct reply session_done(struct session *s, uint64_t duration)
+{
+    if (!session_sound(s))
+        return refusal(UNSOUND);
+    if (s->disk_stream == 0)
+        return refusal(DISK_IDLE);
+    if (duration == 0 || duration > DURATION_MAX)
+        return refusal(BAD_DURATION);
+    if (s->clock + duration > SESSION_END)
+        return refusal(PAST_END);
+    uint32_t stream = (uint32_t)s->disk_stream;
+    struct stream *m = &s->streams[stream - 1];
+    s->clock += duration;
+    m->charge += duration;
+    s->disk_stream = 0;
+    s->disk_place = 0;
+    return answer(duration > s->table.worst ? DONE_OVERLONG : DONE, stream, m->charge);
+}
+
+// "Clock (time): the clock becomes that time. Late exactly if it is above L and above the clock."
+struct reply session_clock(struct session *s, uint64_t time)
+{
+    if (!session_sound(s))
+        return refusal(UNSOUND);
+    if (s->disk_stream != 0)
+        return refusal(DISK_BUSY);
+    if (time < s->clock)
+        return refusal(TIME_BELOW);
+    if (time > SESSION_END)
+        return refusal(PAST_END);
+    bool late = time > session_latest_safe(s) && time > s->clock;
+    s->clock = time;
+    return answer(late ? CLOCK_LATE : CLOCK, 0, time);
+}

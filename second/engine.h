@@ -1,0 +1,122 @@
+// The session of document 01 in place, written a second time: the trials compare it with the crates.
+#ifndef SECOND_ENGINE_H
+#define SECOND_ENGINE_H
+
+#include <stdbool.h>
+#include <stdint.h>
+
+#define STREAM_MAX 8
+#define QUEUE_MAX 16
+
+#define WORST_MIN 1u
+#define WORST_MAX 1000000u
+#define SPAN_MIN 1000u
+#define SPAN_MAX 600000000u
+#define PADDING_MAX 3u
+#define PADDING_DEFAULT 1u
+#define PERIOD_MIN 1000u
+#define PERIOD_MAX 60000000u
+#define DURATION_MAX 10000000u
+#define SESSION_END 1000000000000u
+
+// "Replies by number"
+enum number {
+    ADMITTED = 0,
+    BAD_COUNT = 1,
+    BAD_WORST = 2,
+    BAD_SPAN = 3,
+    BAD_PADDING = 4,
+    BAD_PERIOD = 5,
+    BAD_RESERVED = 6,
+    OVERLOAD = 7,
+    BAD_STREAM = 8,
+    QUEUE_FULL = 9,
+    DISK_BUSY = 10,
+    DISK_IDLE = 11,
+    BAD_DURATION = 12,
+    TIME_BELOW = 13,
+    PAST_END = 14,
+    NOT_IN_SET = 15,
+    BAD_LAYOUT = 16,
+    ARRIVED = 20,
+    SENT = 21,
+    EXPIRED = 22,
+    MOVED = 23,
+    WAIT = 24,
+    DONE = 25,
+    DONE_OVERLONG = 26,
+    CLOCK = 27,
+    CLOCK_LATE = 28,
+    UNSOUND = 31
+};
+
+// "per stream: reserved time e and period p"
+struct reservation {
+    uint32_t reserved;
+    uint32_t period;
+};
+
+// "one per stream, with three numbers for the whole table": W, H, k. The reservations past the count are zero.
+struct table {
+    uint32_t worst;
+    uint32_t span;
+    uint32_t padding;
+    uint32_t count;
+    struct reservation reservations[STREAM_MAX];
+};
+
+// "a record of the last closed job (charge, closing clock, deadline, expired count; all zero before the first)"
+struct record {
+    uint64_t charge;
+    uint64_t clock;
+    uint64_t deadline;
+    uint64_t expired;
+};
+
+struct stream {
+    uint64_t granted;
+    uint64_t release;
+    uint64_t deadline;
+    uint64_t charge;
+    uint64_t expired;
+    uint64_t length;
+    uint64_t places[QUEUE_MAX];
+    struct record last;
+};
+
+// Streams are numbered from 1; stream 0 at the disk stands for none. No member leaves a gap, so each byte is a cell's.
+struct session {
+    struct table table;
+    uint64_t clock;
+    uint64_t head;
+    uint64_t disk_stream;
+    uint64_t disk_place;
+    struct stream streams[STREAM_MAX];
+};
+
+// A refusal has stream 0 and value 0.
+struct reply {
+    enum number number;
+    uint32_t stream;
+    uint64_t value;
+};
+
+// ADMITTED, or the refusal; a refused opening leaves the all-zero session.
+enum number session_open(struct session *s, const struct table *t);
+
+struct reply session_arrival(struct session *s, uint64_t stream, uint64_t place);
+struct reply session_turn(struct session *s);
+struct reply session_own_turn(struct session *s, uint64_t stream, uint64_t index);
+struct reply session_done(struct session *s, uint64_t duration);
+struct reply session_clock(struct session *s, uint64_t time);
+
+// What the calls judge by, for whoever follows a sound session.
+bool session_sound(const struct session *s);
+uint64_t session_horizon(const struct session *s);
+uint64_t session_latest_safe(const struct session *s);
+uint64_t session_slots(const struct session *s, uint64_t stream);
+uint64_t session_filled(const struct session *s, uint64_t stream);
+uint64_t table_load(const struct table *t);
+uint64_t granted_budget(const struct table *t, const struct reservation *r);
+
+#endif

@@ -1,0 +1,113 @@
+// Writes session files: make SEED FIRST LAST FOLDER gives FOLDER/FIRST to FOLDER/LAST, each from the seed and its index.
+#include "maker.h"
+
+#include <stdio.h>
+#include <stdlib.h>
+#include <string.h>
+
+#define ROOM 70000
+
+void put(uint8_t *at, uint64_t number, size_t width)
+{
+    for (size_t i = 0; i < width; i++)
+        at[i] = (uint8_t)(number >> 8 * i);
+}
+
+size_t lay_out(const struct table *t, const struct trace *trace, uint8_t *file)
+{
+    size_t table_length = 16 + 8 * (size_t)t->count;
+    size_t trace_length = 16 * trace->count;
+    uint8_t *at = file + 26;
+    put(file, 2, 2);
+    put(file + 2, 1, 4);
+    put(file + 6, 26, 4);
+    put(file + 10, table_length, 4);
+    put(file + 14, 2, 4);
+    put(file + 18, 26 + table_length, 4);
+    put(file + 22, trace_length, 4);
+    put(at, t->worst, 4);
+    put(at + 4, t->span, 4);
+    put(at + 8, t->padding, 4);
+    put(at + 12, t->count, 4);
+    for (uint32_t i = 0; i < t->count; i++) {
+        put(at + 16 + 8 * i, t->reservations[i].reserved, 4);
+        put(at + 20 + 8 * i, t->reservations[i].period, 4);
+    }
+    at += table_length;
+    for (size_t i = 0; i < trace->count; i++, at += 16) {
+        memset(at, 0, 16);
+        at[0] = trace->events[i].kind;
+        at[1] = trace->events[i].stream;
+        put(at + 8, trace->events[i].value, 8);
+    }
+    return 26 + table_length + trace_length;
+}
+
+// Mostly a few hundred events; now and then none, and all 4,000.
+static size_t trace_length(struct chance *c)
+{
+    if (percent(c, 3))
+        return 0;
+    if (percent(c, 4))
+        return EVENT_MAX;
+    if (percent(c, 10))
+        return 500 + below(c, 2000);
+    return percent(c, 20) ? 1 + below(c, 30) : 50 + below(c, 350);
+}
+
+// Of twenty files four have a table at a limit, three are damaged, and the rest run deep.
+static size_t make_file(struct chance *c, uint64_t index, uint8_t *file)
+{
+    static struct trace trace;
+    struct table t;
+    uint64_t sort = index % 20;
+    if (sort < 4) {
+        make_faulty_table(c, &t);
+        make_trace(c, &t, below(c, 40), &trace);
+        return lay_out(&t, &trace, file);
+    }
+    make_table(c, &t);
+    if (sort >= 7) {
+        make_trace(c, &t, trace_length(c), &trace);
+        return lay_out(&t, &trace, file);
+    }
+    // With one event too many the layout is sound but for the number of events.
+    bool too_many = percent(c, 4);
+    make_trace(c, &t, too_many ? EVENT_MAX + 1 : percent(c, 5) ? EVENT_MAX : below(c, 60), &trace);
+    size_t size = lay_out(&t, &trace, file);
+    if (!too_many)
+        damage(c, file, &size, ROOM);
+    return size;
+}
+
+static bool write_file(const char *folder, uint64_t index, const uint8_t *file, size_t size)
+{
+    char name[4096];
+    snprintf(name, sizeof name, "%s/%llu", folder, (unsigned long long)index);
+    FILE *out = fopen(name, "wb");
+    if (out == NULL)
+        return false;
+    bool written = fwrite(file, 1, size, out) == size;
+    return fclose(out) == 0 && written;
+}
+
+int main(int count, char **words)
+{
+    static uint8_t file[ROOM + 200];
+    if (count != 5) {
+        fprintf(stderr, "make SEED FIRST LAST FOLDER\n");
+        return 2;
+    }
+    uint64_t seed = strtoull(words[1], NULL, 10);
+    uint64_t last = strtoull(words[3], NULL, 10);
+    for (uint64_t index = strtoull(words[2], NULL, 10); index <= last; index++) {
+        struct chance mix = {seed};
+        struct chance c = {draw(&mix) + index * 0xd1342543de82ef95u};
+        size_t size = make_file(&c, index, file);
+        if (!write_file(words[4], index, file, size)) {
+            perror(words[4]);
+            return 1;
+        }
+    }
+    return 0;
+}

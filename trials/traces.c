@@ -1,0 +1,317 @@
+// Events that follow the state of the session, so that every rule is met at its edges and not by luck alone.
+#include "maker.h"
+
+#include <string.h>
+
+// How a file leans, in percent of its steps.
+struct leaning {
+    uint64_t arrivals;
+    uint64_t own;
+    uint64_t clocks;
+    uint64_t refused;
+    uint64_t overlong;
+    uint64_t late;
+    unsigned places;
+    uint64_t end_at;
+};
+
+struct run {
+    struct chance *c;
+    struct session s;
+    struct trace *trace;
+    struct leaning lean;
+    uint64_t waiting_for;
+};
+
+// --- Values at the edges ---
+
+static uint64_t queued_place(struct run *r)
+{
+    const struct stream *m = &r->s.streams[below(r->c, r->s.table.count)];
+    return m->length == 0 ? r->s.head : m->places[below(r->c, m->length)];
+}
+
+// Ties need small numbers, distances that do not fit 63 bits need the ends of the range.
+static uint64_t pick_place(struct run *r)
+{
+    static const uint64_t ends[] = {0, 1, 2, INT64_MAX - 1, INT64_MAX, (uint64_t)INT64_MAX + 1, (uint64_t)INT64_MAX + 2,
+        UINT64_MAX - 2, UINT64_MAX - 1, UINT64_MAX};
+    unsigned mode = percent(r->c, 75) ? r->lean.places : (unsigned)below(r->c, 6);
+    uint64_t other = queued_place(r);
+    switch (mode) {
+    case 0:
+        return below(r->c, 7);
+    case 1:
+        return r->s.head + below(r->c, 9) - 4;
+    case 2:
+        return ONE_OF(r->c, ends);
+    case 3:
+        return draw(r->c);
+    case 4:
+        return other;
+    default:
+        return 2 * r->s.head - other;
+    }
+}
+
+// A duration after which the charge stands just at, below or past the last that leaves n more slots.
+static uint64_t duration_to_edge(struct run *r)
+{
+    uint64_t i = r->s.disk_stream - 1;
+    const struct stream *m = &r->s.streams[i];
+    uint64_t earned = (session_horizon(&r->s) - m->release) * m->granted / r->s.table.reservations[i].period;
+    uint64_t left = earned > m->charge ? earned - m->charge : 0;
+    uint64_t slots = left / r->s.table.worst;
+    uint64_t n = below(r->c, slots + 1 < 4 ? slots + 1 : 4);
+    return left - n * r->s.table.worst + below(r->c, 3) - 1;
+}
+
+static uint64_t pick_duration(struct run *r)
+{
+    uint64_t worst = r->s.table.worst;
+    uint64_t to_end = SESSION_END - r->s.clock;
+    if (to_end <= DURATION_MAX && percent(r->c, 30))
+        return to_end + below(r->c, 2);
+    uint64_t edge = duration_to_edge(r);
+    if (edge > 0 && edge <= DURATION_MAX && percent(r->c, 40) && (edge <= worst || percent(r->c, r->lean.overlong)))
+        return edge;
+    if (percent(r->c, r->lean.overlong)) {
+        uint64_t over[] = {worst + 1, worst + 1, worst + spread(r->c, worst), 2 * worst, DURATION_MAX,
+            spread(r->c, DURATION_MAX)};
+        return ONE_OF(r->c, over);
+    }
+    uint64_t plain[] = {worst, worst, worst, 1, 1 + below(r->c, worst), worst > 1 ? worst - 1 : 1, (worst + 1) / 2};
+    return ONE_OF(r->c, plain);
+}
+
+static uint64_t bad_duration(struct run *r)
+{
+    static const uint64_t bad[] = {0, DURATION_MAX + 1, UINT64_MAX, UINT64_MAX - SESSION_END};
+    return ONE_OF(r->c, bad);
+}
+
+static uint64_t pick_stream(struct run *r)
+{
+    return 1 + below(r->c, r->s.table.count);
+}
+
+static uint64_t bad_stream(struct run *r)
+{
+    uint64_t bad[] = {0, r->s.table.count + 1, 255, 128 + below(r->c, 128)};
+    return ONE_OF(r->c, bad);
+}
+
+// At L, one to either side of it, the present, a deadline, and any later time.
+static uint64_t pick_time(struct run *r)
+{
+    uint64_t now = r->s.clock;
+    uint64_t latest = session_latest_safe(&r->s);
+    uint64_t plain[] = {latest, latest, latest - 1, now, now + 1, latest > now ? now + below(r->c, latest - now) : now};
+    uint64_t late[] = {latest + 1, latest + 1, now, session_horizon(&r->s), now + spread(r->c, 2 * r->s.table.span),
+        r->s.streams[below(r->c, r->s.table.count)].deadline, latest + spread(r->c, 1000)};
+    uint64_t time = percent(r->c, r->lean.late) ? ONE_OF(r->c, late) : ONE_OF(r->c, plain);
+    return time < now && percent(r->c, 90) ? now : time;
+}
+
+static uint64_t bad_time(struct run *r)
+{
+    uint64_t bad[] = {r->s.clock - 1, r->s.clock - 1, 0, SESSION_END + 1, UINT64_MAX, below(r->c, r->s.clock + 1)};
+    return ONE_OF(r->c, bad);
+}
+
+// --- Steps ---
+
+static struct reply step(struct run *r, uint8_t kind, uint64_t stream, uint64_t value)
+{
+    r->trace->events[r->trace->count++] = (struct event){kind, (uint8_t)stream, value};
+    switch (kind) {
+    case EVENT_ARRIVAL:
+        return session_arrival(&r->s, stream, value);
+    case EVENT_TURN:
+        return session_turn(&r->s);
+    case EVENT_OWN_TURN:
+        return session_own_turn(&r->s, stream, value);
+    case EVENT_DONE:
+        return session_done(&r->s, value);
+    default:
+        return session_clock(&r->s, value);
+    }
+}
+
+static void arrive(struct run *r)
+{
+    step(r, EVENT_ARRIVAL, pick_stream(r), pick_place(r));
+}
+
+static void turn(struct run *r)
+{
+    struct reply reply = step(r, EVENT_TURN, 0, 0);
+    if (reply.number == WAIT)
+        r->waiting_for = reply.value;
+}
+
+// The last of the set, one past it, or any index.
+static void own_turn(struct run *r)
+{
+    uint64_t stream = pick_stream(r);
+    for (int tries = 0; tries < 8 && session_filled(&r->s, stream) == 0; tries++)
+        stream = pick_stream(r);
+    uint64_t set = session_filled(&r->s, stream);
+    uint64_t index = set == 0 ? 0 : percent(r->c, 40) ? set - 1 : below(r->c, set);
+    step(r, EVENT_OWN_TURN, stream, index);
+}
+
+static void refused_busy(struct run *r)
+{
+    switch (below(r->c, 6)) {
+    case 0:
+        turn(r);
+        break;
+    case 1:
+        step(r, EVENT_OWN_TURN, percent(r->c, 50) ? bad_stream(r) : pick_stream(r), below(r->c, 3));
+        break;
+    case 2:
+        step(r, EVENT_CLOCK, 0, percent(r->c, 50) ? bad_time(r) : pick_time(r));
+        break;
+    case 3:
+        step(r, EVENT_ARRIVAL, bad_stream(r), pick_place(r));
+        break;
+    default:
+        step(r, EVENT_DONE, 0, bad_duration(r));
+    }
+}
+
+static void refused_idle(struct run *r)
+{
+    uint64_t stream = pick_stream(r);
+    uint64_t indexes[] = {session_filled(&r->s, stream), session_filled(&r->s, stream), r->s.streams[stream - 1].length,
+        QUEUE_MAX, UINT64_MAX, (uint64_t)1 << 32};
+    switch (below(r->c, 6)) {
+    case 0:
+        step(r, EVENT_DONE, 0, percent(r->c, 50) ? bad_duration(r) : 1 + below(r->c, r->s.table.worst));
+        break;
+    case 1:
+        step(r, EVENT_OWN_TURN, bad_stream(r), percent(r->c, 50) ? 0 : ONE_OF(r->c, indexes));
+        break;
+    case 2:
+    case 3:
+        step(r, EVENT_OWN_TURN, stream, ONE_OF(r->c, indexes));
+        break;
+    case 4:
+        step(r, EVENT_ARRIVAL, bad_stream(r), pick_place(r));
+        break;
+    default:
+        step(r, EVENT_CLOCK, 0, bad_time(r));
+    }
+}
+
+static void busy_step(struct run *r)
+{
+    if (percent(r->c, r->lean.refused))
+        refused_busy(r);
+    else if (percent(r->c, r->lean.arrivals / 2))
+        arrive(r);
+    else
+        step(r, EVENT_DONE, 0, pick_duration(r));
+}
+
+// After a wait the clock most often goes to the L that was given, so that slots expire.
+static void after_wait(struct run *r)
+{
+    uint64_t latest = r->waiting_for;
+    r->waiting_for = 0;
+    if (percent(r->c, r->lean.late / 2))
+        latest += percent(r->c, 70) ? 1 : spread(r->c, 1000);
+    else if (percent(r->c, 10))
+        latest -= 1;
+    step(r, EVENT_CLOCK, 0, latest);
+}
+
+static void idle_step(struct run *r)
+{
+    if (percent(r->c, r->lean.refused))
+        refused_idle(r);
+    else if (percent(r->c, r->lean.arrivals))
+        arrive(r);
+    else if (r->waiting_for != 0 && percent(r->c, 85))
+        after_wait(r);
+    else if (percent(r->c, r->lean.own))
+        own_turn(r);
+    else if (percent(r->c, r->lean.clocks))
+        step(r, EVENT_CLOCK, 0, pick_time(r));
+    else
+        turn(r);
+}
+
+// Fills one queue to the brim and past it.
+static void flood(struct run *r, size_t most)
+{
+    uint64_t stream = pick_stream(r);
+    for (int n = 0; n < QUEUE_MAX + 2 && r->trace->count < most; n++)
+        step(r, EVENT_ARRIVAL, stream, pick_place(r));
+}
+
+// One request to each stream at once, on either side of the head: ties over streams that share a deadline.
+static void volley(struct run *r, size_t most)
+{
+    uint64_t far = below(r->c, 4);
+    uint64_t head = r->s.head;
+    for (uint64_t stream = r->s.table.count; stream >= 1 && r->trace->count < most; stream--)
+        step(r, EVENT_ARRIVAL, stream, percent(r->c, 50) ? head + far : head - far);
+}
+
+// A clock close to the end of time, from which completions and reports soon pass it.
+static void jump_to_end(struct run *r)
+{
+    static const uint64_t before[] = {0, 1, 2, 10, 1000, DURATION_MAX};
+    uint64_t early = percent(r->c, 60) ? ONE_OF(r->c, before) : spread(r->c, 3 * (uint64_t)PERIOD_MAX);
+    step(r, EVENT_CLOCK, 0, SESSION_END - early);
+    r->lean.end_at = 0;
+}
+
+static struct leaning lean(struct chance *c, size_t most)
+{
+    static const uint64_t rates[] = {0, 5, 15, 30, 50};
+    static const uint64_t rare[] = {0, 0, 2, 10, 40};
+    return (struct leaning){.arrivals = ONE_OF(c, rates),
+        .own = percent(c, 50) ? 0 : ONE_OF(c, rates),
+        .clocks = ONE_OF(c, rare),
+        .refused = ONE_OF(c, rare) / 2,
+        .overlong = ONE_OF(c, rare),
+        .late = ONE_OF(c, rare),
+        .places = (unsigned)below(c, 6),
+        .end_at = percent(c, 12) ? 1 + below(c, most + 1) : 0};
+}
+
+// Events for a file whose table is refused: their layout is sound and nothing else counts.
+static void any_events(struct chance *c, size_t most, struct trace *trace)
+{
+    while (trace->count < most) {
+        uint8_t kind = (uint8_t)(1 + below(c, 5));
+        bool own = kind == EVENT_ARRIVAL || kind == EVENT_OWN_TURN;
+        trace->events[trace->count++] = (struct event){kind, own ? (uint8_t)below(c, 10) : 0,
+            kind == EVENT_TURN ? 0 : below(c, 100000)};
+    }
+}
+
+void make_trace(struct chance *c, const struct table *t, size_t most, struct trace *trace)
+{
+    struct run r = {.c = c, .trace = trace, .lean = lean(c, most)};
+    trace->count = 0;
+    if (session_open(&r.s, t) != ADMITTED) {
+        any_events(c, most, trace);
+        return;
+    }
+    while (trace->count < most) {
+        if (r.lean.end_at != 0 && trace->count >= r.lean.end_at && r.s.disk_stream == 0)
+            jump_to_end(&r);
+        else if (below(c, 200) == 0)
+            flood(&r, most);
+        else if (percent(c, 2))
+            volley(&r, most);
+        else if (r.s.disk_stream != 0)
+            busy_step(&r);
+        else
+            idle_step(&r);
+    }
+}

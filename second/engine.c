@@ -1,8 +1,6 @@
 // The rules of document 01, each from its own sentence, with exact fractions and plain lists.
 #include "engine.h"
 
-#include <string.h>
-
 typedef unsigned __int128 wide;
 
 // A fraction that is never rounded; two are compared by cross products.
@@ -40,27 +38,6 @@ uint64_t granted_budget(const struct table *t, const struct reservation *r)
     return (uint64_t)r->reserved + (uint64_t)padding_of(t) * t->worst;
 }
 
-// "Load = sum of g × (H / p) over the streams, plus W × (H / smallest p)." The largest H / p is that of the smallest p.
-uint64_t table_load(const struct table *t)
-{
-    uint64_t load = 0;
-    uint64_t most = 0;
-    for (uint32_t i = 0; i < t->count; i++) {
-        const struct reservation *r = &t->reservations[i];
-        uint64_t times = t->span / r->period;
-        load += granted_budget(t, r) * times;
-        if (times > most)
-            most = times;
-    }
-    return load + t->worst * most;
-}
-
-// "p outside its range or not dividing H"
-static bool period_bad(const struct table *t, uint32_t period)
-{
-    return period < PERIOD_MIN || period > PERIOD_MAX || t->span % period != 0;
-}
-
 // "Opening: 1, 2, 3, 4, then 5 and 6 stream by stream, then 7"
 static enum number admit(const struct table *t)
 {
@@ -72,15 +49,27 @@ static enum number admit(const struct table *t)
         return BAD_SPAN;
     if (t->padding > PADDING_MAX)
         return BAD_PADDING;
+    uint64_t load = 0;
+    uint64_t most = 0;
     for (uint32_t i = 0; i < t->count; i++) {
         const struct reservation *r = &t->reservations[i];
-        if (period_bad(t, r->period))
+        uint64_t granted = granted_budget(t, r);
+        // "p outside its range or not dividing H"
+        if (r->period < PERIOD_MIN || r->period > PERIOD_MAX)
             return BAD_PERIOD;
-        if (r->reserved == 0 || granted_budget(t, r) > r->period)
+        uint32_t times = t->span / r->period;
+        if (times * r->period != t->span)
+            return BAD_PERIOD;
+        // "e = 0 or g > p"
+        if (r->reserved == 0 || granted > r->period)
             return BAD_RESERVED;
+        // "Load = sum of g × (H / p) over the streams, plus W × (H / smallest p)." The largest H / p has the smallest p.
+        load += granted * times;
+        most = times > most ? times : most;
     }
+    load += t->worst * most;
     // "Admitted exactly if load ≤ H"
-    return table_load(t) > t->span ? OVERLOAD : ADMITTED;
+    return load > t->span ? OVERLOAD : ADMITTED;
 }
 
 // --- Slots and the latest safe moment ---
@@ -127,8 +116,8 @@ static uint64_t filled(const struct session *s, uint32_t i, uint64_t horizon)
 static int64_t scaled_remainder(const struct session *s, uint32_t i, uint64_t horizon)
 {
     const struct stream *m = &s->streams[i];
-    uint64_t span = s->table.span;
-    uint64_t times = span / s->table.reservations[i].period;
+    uint32_t span = s->table.span;
+    uint32_t times = span / s->table.reservations[i].period;
     return (int64_t)((horizon - m->release) * m->granted * times) - (int64_t)(m->charge * span);
 }
 
@@ -156,11 +145,6 @@ static struct fraction served_until(const struct session *s, uint32_t i)
 uint64_t session_latest_safe(const struct session *s)
 {
     return latest_safe(s, session_horizon(s));
-}
-
-uint64_t session_slots(const struct session *s, uint64_t stream)
-{
-    return slots(s, (uint32_t)stream - 1, session_horizon(s));
 }
 
 uint64_t session_filled(const struct session *s, uint64_t stream)
@@ -212,8 +196,8 @@ static bool disk_sound(const struct session *s, uint64_t horizon)
     return s->disk_stream <= s->table.count && slot_fits(s, (uint32_t)s->disk_stream - 1, horizon, 1);
 }
 
-// "A session is sound if its table numbers are ones that opening admits; ..", line by line.
-bool session_sound(const struct session *s)
+// "A session is sound if its table numbers are ones that opening admits; ..", line by line. Gives the horizon as well.
+static bool sound(const struct session *s, uint64_t *horizon)
 {
     if (admit(&s->table) != ADMITTED || s->clock > SESSION_END)
         return false;
@@ -224,11 +208,12 @@ bool session_sound(const struct session *s)
     for (uint32_t i = count; i < STREAM_MAX; i++)
         if (!stream_zero(s, i))
             return false;
-    uint64_t horizon = session_horizon(s);
+    *horizon = session_horizon(s);
+    // "r ≤ h for each stream"
     for (uint32_t i = 0; i < count; i++)
-        if (s->streams[i].release > horizon)
+        if (s->streams[i].release > *horizon)
             return false;
-    return disk_sound(s, horizon);
+    return disk_sound(s, *horizon);
 }
 
 // --- Calls ---
@@ -237,7 +222,7 @@ bool session_sound(const struct session *s)
 enum number session_open(struct session *s, const struct table *t)
 {
     enum number number = admit(t);
-    memset(s, 0, sizeof *s);
+    *s = (struct session){0};
     if (number != ADMITTED)
         return number;
     s->table.worst = t->worst;
@@ -261,7 +246,8 @@ static bool stream_bad(const struct session *s, uint64_t stream)
 // "Arrival (stream, place): put at the queue's end."
 struct reply session_arrival(struct session *s, uint64_t stream, uint64_t place)
 {
-    if (!session_sound(s))
+    uint64_t horizon;
+    if (!sound(s, &horizon))
         return refusal(UNSOUND);
     if (stream_bad(s, stream))
         return refusal(BAD_STREAM);
@@ -369,11 +355,11 @@ static struct reply expire(struct session *s, uint32_t i)
 // "Turn, the first that applies": a send, b move, c wait, d expire.
 struct reply session_turn(struct session *s)
 {
-    if (!session_sound(s))
+    uint64_t horizon;
+    if (!sound(s, &horizon))
         return refusal(UNSOUND);
     if (s->disk_stream != 0)
         return refusal(DISK_BUSY);
-    uint64_t horizon = session_horizon(s);
     struct choice chosen = choose(s, horizon);
     if (chosen.stream != STREAM_MAX)
         return send(s, chosen.stream, chosen.index);
@@ -389,13 +375,14 @@ struct reply session_turn(struct session *s)
 // "Own turn (stream, index from 0): send that queued request if its index is below the stream's filled slots."
 struct reply session_own_turn(struct session *s, uint64_t stream, uint64_t index)
 {
-    if (!session_sound(s))
+    uint64_t horizon;
+    if (!sound(s, &horizon))
         return refusal(UNSOUND);
     if (s->disk_stream != 0)
         return refusal(DISK_BUSY);
     if (stream_bad(s, stream))
         return refusal(BAD_STREAM);
-    if (index >= filled(s, (uint32_t)stream - 1, session_horizon(s)))
+    if (index >= filled(s, (uint32_t)stream - 1, horizon))
         return refusal(NOT_IN_SET);
     return send(s, (uint32_t)stream - 1, index);
 }
@@ -403,7 +390,8 @@ struct reply session_own_turn(struct session *s, uint64_t stream, uint64_t index
 // "Done (duration a): clock and charge of the stream served both grow by a. Overlong if a > W."
 struct reply session_done(struct session *s, uint64_t duration)
 {
-    if (!session_sound(s))
+    uint64_t horizon;
+    if (!sound(s, &horizon))
         return refusal(UNSOUND);
     if (s->disk_stream == 0)
         return refusal(DISK_IDLE);
@@ -423,7 +411,8 @@ struct reply session_done(struct session *s, uint64_t duration)
 // "Clock (time): the clock becomes that time. Late exactly if it is above L and above the clock."
 struct reply session_clock(struct session *s, uint64_t time)
 {
-    if (!session_sound(s))
+    uint64_t horizon;
+    if (!sound(s, &horizon))
         return refusal(UNSOUND);
     if (s->disk_stream != 0)
         return refusal(DISK_BUSY);
@@ -431,7 +420,7 @@ struct reply session_clock(struct session *s, uint64_t time)
         return refusal(TIME_BELOW);
     if (time > SESSION_END)
         return refusal(PAST_END);
-    bool late = time > session_latest_safe(s) && time > s->clock;
+    bool late = time > latest_safe(s, horizon) && time > s->clock;
     s->clock = time;
     return answer(late ? CLOCK_LATE : CLOCK, 0, time);
 }

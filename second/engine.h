@@ -111,12 +111,9 @@ struct reply session_done(struct session *s, uint64_t duration);
 struct reply session_clock(struct session *s, uint64_t time);
 
 // What the calls judge by, for whoever follows a sound session.
-bool session_sound(const struct session *s);
 uint64_t session_horizon(const struct session *s);
 uint64_t session_latest_safe(const struct session *s);
-uint64_t session_slots(const struct session *s, uint64_t stream);
 uint64_t session_filled(const struct session *s, uint64_t stream);
-uint64_t table_load(const struct table *t);
 uint64_t granted_budget(const struct table *t, const struct reservation *r);
 
 #endif

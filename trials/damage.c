@@ -37,7 +37,7 @@ static uint8_t *find_event(struct chance *c, uint8_t *file, size_t size, uint8_t
 
 static void spoil_event(struct chance *c, uint8_t *file, size_t size)
 {
-    static const uint8_t kinds[] = {0, 6, 7, 255};
+    static const uint8_t kinds[] = {0, 6, 6, 255};
     uint8_t *any = find_event(c, file, size, 0, 0);
     uint8_t *turn = find_event(c, file, size, EVENT_TURN, EVENT_TURN);
     uint8_t *plain = find_event(c, file, size, EVENT_DONE, EVENT_CLOCK);
@@ -102,7 +102,7 @@ static void swap_entries(uint8_t *file)
 static void damage_length(struct chance *c, uint8_t *file, size_t *size, size_t room)
 {
     static const size_t sizes[] = {0, 1, 2, 25, 26, 41};
-    switch (below(c, 6)) {
+    switch (below(c, 7)) {
     case 0:
         *size = below(c, *size);
         break;
@@ -114,9 +114,10 @@ static void damage_length(struct chance *c, uint8_t *file, size_t *size, size_t 
         *size -= *size >= 74 ? EVENT_BYTES : 1;
         break;
     case 3:
+    case 4:
         lengthen(c, file, size, 1);
         break;
-    case 4:
+    case 5:
         lengthen(c, file, size, percent(c, 50) ? EVENT_BYTES : 1 + below(c, 40));
         break;
     default:
@@ -134,7 +135,8 @@ void damage(struct chance *c, uint8_t *file, size_t *size, size_t room)
     case 0:
     case 1:
     case 2:
-        change_byte(c, file + below(c, CONTENTS_BYTES));
+        // The number of entries a little more often than the other contents.
+        change_byte(c, file + (percent(c, 15) ? below(c, 2) : below(c, CONTENTS_BYTES)));
         break;
     case 3:
         change_byte(c, file + COUNT_AT + below(c, 4));

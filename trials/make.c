@@ -55,7 +55,7 @@ static size_t trace_length(struct chance *c)
     return percent(c, 20) ? 1 + below(c, 30) : 50 + below(c, 350);
 }
 
-// Of twenty files four have a table at a limit, three are damaged, and the rest run deep.
+// Of twenty files four have a table at a limit, five are damaged, and the rest run deep.
 static size_t make_file(struct chance *c, uint64_t index, uint8_t *file)
 {
     static struct trace trace;
@@ -66,8 +66,13 @@ static size_t make_file(struct chance *c, uint64_t index, uint8_t *file)
         make_trace(c, &t, below(c, 40), &trace);
         return lay_out(&t, &trace, file);
     }
+    if (sort >= 9 && percent(c, 2)) {
+        make_far_table(c, &t);
+        make_far_trace(c, &t, EVENT_MAX, &trace);
+        return lay_out(&t, &trace, file);
+    }
     make_table(c, &t);
-    if (sort >= 7) {
+    if (sort >= 9) {
         make_trace(c, &t, trace_length(c), &trace);
         return lay_out(&t, &trace, file);
     }

@@ -24,6 +24,7 @@ struct trace {
 };
 
 // --- Chance: everything in a file follows from its seed and index. ---
+// C leaves the order of arguments and initializers open, so none of them holds two draws.
 
 struct chance {
     uint64_t state;
@@ -66,11 +67,17 @@ static inline uint64_t spread(struct chance *c, uint64_t most)
 // A table that opening admits, most often with no slack left.
 void make_table(struct chance *c, struct table *t);
 
+// A table whose horizon goes far with few turns.
+void make_far_table(struct chance *c, struct table *t);
+
 // A table at or past a limit, perhaps with several faults.
 void make_faulty_table(struct chance *c, struct table *t);
 
 // Up to `most` events that follow the state of a session over `t`; any events if `t` is not admitted.
 void make_trace(struct chance *c, const struct table *t, size_t most, struct trace *trace);
+
+// The same after a late clock and the turns that bring the horizon up to it.
+void make_far_trace(struct chance *c, const struct table *t, size_t most, struct trace *trace);
 
 // Spoils the file of `*size` bytes in place, within `room` bytes.
 void damage(struct chance *c, uint8_t *file, size_t *size, size_t room);

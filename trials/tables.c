@@ -41,10 +41,10 @@ static uint64_t padding_meant(const struct table *t)
     return t->padding == 0 ? PADDING_DEFAULT : t->padding;
 }
 
-// A worst-case time that leaves each stream `least` worst-case times (or 1 µs) besides its padding; 0 if none does.
+// A worst-case time that leaves each stream 1 µs, or a whole worst-case time, besides its padding; 0 if none does.
 static uint64_t make_worst(struct chance *c, const struct table *t, bool whole)
 {
-    static const uint32_t parts[] = {1, 1, 2, 2, 3, 4, 8, 20, 100, 1000000};
+    static const uint32_t parts[] = {1, 1, 1, 2, 2, 3, 3, 4, 8, 20, 100, 1000000};
     uint64_t sum = 0;
     uint64_t most = 0;
     for (uint32_t i = 0; i < t->count; i++) {
@@ -67,9 +67,17 @@ static void give(struct table *t, uint32_t i, uint64_t share, uint64_t unit)
     t->reservations[i].reserved += (uint32_t)(share / (times * unit) * unit);
 }
 
+// H less the load, for a table whose load is at most H
 static uint64_t slack(const struct table *t)
 {
-    return t->span - table_load(t);
+    uint64_t load = 0;
+    uint64_t most = 0;
+    for (uint32_t i = 0; i < t->count; i++) {
+        uint64_t times = t->span / t->reservations[i].period;
+        load += granted_budget(t, &t->reservations[i]) * times;
+        most = times > most ? times : most;
+    }
+    return t->span - load - t->worst * most;
 }
 
 // Shares the slack out: part by part in the streams' order, then what is left to whoever can take it.
@@ -121,8 +129,34 @@ void make_table(struct chance *c, struct table *t)
     }
 }
 
+// The longest periods with one slot to a job: a turn or two move the horizon on, far enough for h × H to need 68 bits.
+void make_far_table(struct chance *c, struct table *t)
+{
+    memset(t, 0, sizeof *t);
+    t->worst = WORST_MAX - (uint32_t)below(c, 3);
+    t->span = SPAN_MAX;
+    t->padding = (uint32_t)below(c, 2);
+    t->count = 1 + (uint32_t)below(c, 2);
+    for (uint32_t i = 0; i < t->count; i++) {
+        t->reservations[i].reserved = 1 + (uint32_t)below(c, t->worst - 1);
+        t->reservations[i].period = percent(c, 80) ? PERIOD_MAX : PERIOD_MAX / 2;
+    }
+}
+
+// The limits of p and H that need each other: a period of 999 or 60,000,001 with a span that it divides.
+static void limit_case(struct chance *c, struct table *t)
+{
+    static const uint32_t periods[] = {PERIOD_MIN - 1, PERIOD_MIN - 1, PERIOD_MIN, PERIOD_MAX, PERIOD_MAX + 1};
+    uint32_t period = ONE_OF(c, periods);
+    uint32_t times = 2 + (uint32_t)below(c, SPAN_MAX / period - 1);
+    uint32_t reserved = 1 + (uint32_t)below(c, 500);
+    uint32_t worst = 1 + (uint32_t)below(c, 50);
+    uint32_t padding = (uint32_t)below(c, PADDING_MAX + 1);
+    *t = (struct table){worst, period * times, padding, 1, {{reserved, period}}};
+}
+
 // The cases that document 01 names, one stream with H = p = 1,000,000 and W 25,000.
-static bool named_case(struct chance *c, struct table *t)
+static void named_case(struct chance *c, struct table *t)
 {
     static const uint32_t cases[][2] = {{1, 950000}, {1, 950001}, {1, 975000}, {1, 975001}, {3, 900000}, {3, 900001},
         {0, 950000}, {0, 950001}};
@@ -130,7 +164,6 @@ static bool named_case(struct chance *c, struct table *t)
     *t = (struct table){25000, 1000000, one[0], 1, {{one[1], 1000000}}};
     if (percent(c, 15))
         *t = (struct table){0, 1000000, 1, 0, {{0, 0}}};
-    return true;
 }
 
 static void spoil_stream(struct chance *c, struct table *t)
@@ -146,35 +179,42 @@ static void spoil_stream(struct chance *c, struct table *t)
         r->reserved = ONE_OF(c, budgets);
 }
 
-static void spoil(struct chance *c, struct table *t)
+// Often two of the three at once: then their order is seen.
+static void spoil_numbers(struct chance *c, struct table *t)
 {
     static const uint32_t worsts[] = {0, 0, WORST_MIN, WORST_MAX, WORST_MAX + 1, UINT32_MAX};
     static const uint32_t spans[] = {0, SPAN_MIN - 1, SPAN_MIN, SPAN_MAX, SPAN_MAX + 1, UINT32_MAX};
     static const uint32_t paddings[] = {PADDING_MAX, PADDING_MAX + 1, PADDING_MAX + 1, UINT32_MAX};
-    switch (below(c, 12)) {
-    case 0:
+    if (percent(c, 50))
         t->worst = ONE_OF(c, worsts);
-        break;
-    case 1:
+    if (percent(c, 50))
         t->span = ONE_OF(c, spans);
-        break;
-    case 2:
+    if (percent(c, 50))
         t->padding = ONE_OF(c, paddings);
-        break;
-    case 3:
-    case 4:
+}
+
+static void spoil(struct chance *c, struct table *t)
+{
+    uint64_t sort = below(c, 10);
+    if (sort < 2)
+        spoil_numbers(c, t);
+    else if (sort < 4)
         // One microsecond too much: the load is past H by H / p.
         t->reservations[below(c, t->count)].reserved++;
-        break;
-    default:
+    else
         spoil_stream(c, t);
-    }
 }
 
 void make_faulty_table(struct chance *c, struct table *t)
 {
-    if (percent(c, 12) && named_case(c, t))
+    if (percent(c, 10)) {
+        named_case(c, t);
         return;
+    }
+    if (percent(c, 10)) {
+        limit_case(c, t);
+        return;
+    }
     make_table(c, t);
     for (uint64_t n = 1 + below(c, 3); n > 0; n--)
         spoil(c, t);

@@ -1,7 +1,11 @@
 // Events that follow the state of the session, so that every rule is met at its edges and not by luck alone.
 #include "maker.h"
 
-#include <string.h>
+// With more slots in a job than this, only overlong completions bring the horizon on.
+#define MANY_SLOTS 100
+
+// From about here on h × H passes 64 bits, with the longest span.
+#define FAR_CLOCK 31000000000u
 
 // How a file leans, in percent of its steps.
 struct leaning {
@@ -76,8 +80,9 @@ static uint64_t pick_duration(struct run *r)
     if (edge > 0 && edge <= DURATION_MAX && percent(r->c, 40) && (edge <= worst || percent(r->c, r->lean.overlong)))
         return edge;
     if (percent(r->c, r->lean.overlong)) {
-        uint64_t over[] = {worst + 1, worst + 1, worst + spread(r->c, worst), 2 * worst, DURATION_MAX,
-            spread(r->c, DURATION_MAX)};
+        uint64_t more = worst + spread(r->c, worst);
+        uint64_t any = spread(r->c, DURATION_MAX);
+        uint64_t over[] = {worst + 1, worst + 1, more, 2 * worst, DURATION_MAX, any};
         return ONE_OF(r->c, over);
     }
     uint64_t plain[] = {worst, worst, worst, 1, 1 + below(r->c, worst), worst > 1 ? worst - 1 : 1, (worst + 1) / 2};
@@ -106,9 +111,12 @@ static uint64_t pick_time(struct run *r)
 {
     uint64_t now = r->s.clock;
     uint64_t latest = session_latest_safe(&r->s);
-    uint64_t plain[] = {latest, latest, latest - 1, now, now + 1, latest > now ? now + below(r->c, latest - now) : now};
-    uint64_t late[] = {latest + 1, latest + 1, now, session_horizon(&r->s), now + spread(r->c, 2 * r->s.table.span),
-        r->s.streams[below(r->c, r->s.table.count)].deadline, latest + spread(r->c, 1000)};
+    uint64_t early = latest > now ? now + below(r->c, latest - now) : now;
+    uint64_t later = now + spread(r->c, 2 * r->s.table.span);
+    uint64_t past = latest + spread(r->c, 1000);
+    uint64_t deadline = r->s.streams[below(r->c, r->s.table.count)].deadline;
+    uint64_t plain[] = {latest, latest, latest - 1, now, now + 1, early};
+    uint64_t late[] = {latest + 1, latest + 1, now, session_horizon(&r->s), later, deadline, past};
     uint64_t time = percent(r->c, r->lean.late) ? ONE_OF(r->c, late) : ONE_OF(r->c, plain);
     return time < now && percent(r->c, 90) ? now : time;
 }
@@ -140,7 +148,23 @@ static struct reply step(struct run *r, uint8_t kind, uint64_t stream, uint64_t 
 
 static void arrive(struct run *r)
 {
-    step(r, EVENT_ARRIVAL, pick_stream(r), pick_place(r));
+    uint64_t stream = pick_stream(r);
+    step(r, EVENT_ARRIVAL, stream, pick_place(r));
+}
+
+static void arrive_nowhere(struct run *r)
+{
+    uint64_t stream = bad_stream(r);
+    step(r, EVENT_ARRIVAL, stream, pick_place(r));
+}
+
+// Full queues are met by `flood`; elsewhere they would make most arrivals refused ones.
+static bool roomy(const struct run *r)
+{
+    uint64_t queued = 0;
+    for (uint32_t i = 0; i < r->s.table.count; i++)
+        queued += r->s.streams[i].length;
+    return queued < (uint64_t)r->s.table.count * QUEUE_MAX * 3 / 4;
 }
 
 static void turn(struct run *r)
@@ -163,18 +187,19 @@ static void own_turn(struct run *r)
 
 static void refused_busy(struct run *r)
 {
+    uint64_t stream = percent(r->c, 50) ? bad_stream(r) : pick_stream(r);
     switch (below(r->c, 6)) {
     case 0:
         turn(r);
         break;
     case 1:
-        step(r, EVENT_OWN_TURN, percent(r->c, 50) ? bad_stream(r) : pick_stream(r), below(r->c, 3));
+        step(r, EVENT_OWN_TURN, stream, below(r->c, 3));
         break;
     case 2:
         step(r, EVENT_CLOCK, 0, percent(r->c, 50) ? bad_time(r) : pick_time(r));
         break;
     case 3:
-        step(r, EVENT_ARRIVAL, bad_stream(r), pick_place(r));
+        arrive_nowhere(r);
         break;
     default:
         step(r, EVENT_DONE, 0, bad_duration(r));
@@ -184,6 +209,7 @@ static void refused_busy(struct run *r)
 static void refused_idle(struct run *r)
 {
     uint64_t stream = pick_stream(r);
+    uint64_t nowhere = bad_stream(r);
     uint64_t indexes[] = {session_filled(&r->s, stream), session_filled(&r->s, stream), r->s.streams[stream - 1].length,
         QUEUE_MAX, UINT64_MAX, (uint64_t)1 << 32};
     switch (below(r->c, 6)) {
@@ -191,14 +217,14 @@ static void refused_idle(struct run *r)
         step(r, EVENT_DONE, 0, percent(r->c, 50) ? bad_duration(r) : 1 + below(r->c, r->s.table.worst));
         break;
     case 1:
-        step(r, EVENT_OWN_TURN, bad_stream(r), percent(r->c, 50) ? 0 : ONE_OF(r->c, indexes));
+        step(r, EVENT_OWN_TURN, nowhere, percent(r->c, 50) ? 0 : ONE_OF(r->c, indexes));
         break;
     case 2:
     case 3:
         step(r, EVENT_OWN_TURN, stream, ONE_OF(r->c, indexes));
         break;
     case 4:
-        step(r, EVENT_ARRIVAL, bad_stream(r), pick_place(r));
+        arrive_nowhere(r);
         break;
     default:
         step(r, EVENT_CLOCK, 0, bad_time(r));
@@ -209,7 +235,7 @@ static void busy_step(struct run *r)
 {
     if (percent(r->c, r->lean.refused))
         refused_busy(r);
-    else if (percent(r->c, r->lean.arrivals / 2))
+    else if (percent(r->c, r->lean.arrivals / 2) && roomy(r))
         arrive(r);
     else
         step(r, EVENT_DONE, 0, pick_duration(r));
@@ -231,7 +257,7 @@ static void idle_step(struct run *r)
 {
     if (percent(r->c, r->lean.refused))
         refused_idle(r);
-    else if (percent(r->c, r->lean.arrivals))
+    else if (percent(r->c, r->lean.arrivals) && roomy(r))
         arrive(r);
     else if (r->waiting_for != 0 && percent(r->c, 85))
         after_wait(r);
@@ -273,14 +299,16 @@ static struct leaning lean(struct chance *c, size_t most)
 {
     static const uint64_t rates[] = {0, 5, 15, 30, 50};
     static const uint64_t rare[] = {0, 0, 2, 10, 40};
-    return (struct leaning){.arrivals = ONE_OF(c, rates),
-        .own = percent(c, 50) ? 0 : ONE_OF(c, rates),
-        .clocks = ONE_OF(c, rare),
-        .refused = ONE_OF(c, rare) / 2,
-        .overlong = ONE_OF(c, rare),
-        .late = ONE_OF(c, rare),
-        .places = (unsigned)below(c, 6),
-        .end_at = percent(c, 12) ? 1 + below(c, most + 1) : 0};
+    struct leaning l;
+    l.arrivals = ONE_OF(c, rates);
+    l.own = percent(c, 50) ? 0 : ONE_OF(c, rates);
+    l.clocks = ONE_OF(c, rare);
+    l.refused = ONE_OF(c, rare) / 2;
+    l.overlong = ONE_OF(c, rare);
+    l.late = ONE_OF(c, rare);
+    l.places = (unsigned)below(c, 6);
+    l.end_at = percent(c, 12) ? 1 + below(c, most + 1) : 0;
+    return l;
 }
 
 // Events for a file whose table is refused: their layout is sound and nothing else counts.
@@ -289,8 +317,44 @@ static void any_events(struct chance *c, size_t most, struct trace *trace)
     while (trace->count < most) {
         uint8_t kind = (uint8_t)(1 + below(c, 5));
         bool own = kind == EVENT_ARRIVAL || kind == EVENT_OWN_TURN;
-        trace->events[trace->count++] = (struct event){kind, own ? (uint8_t)below(c, 10) : 0,
-            kind == EVENT_TURN ? 0 : below(c, 100000)};
+        uint8_t stream = own ? (uint8_t)below(c, 10) : 0;
+        uint64_t value = kind == EVENT_TURN ? 0 : below(c, 100000);
+        trace->events[trace->count++] = (struct event){kind, stream, value};
+    }
+}
+
+// The slots of a whole job, of the stream that has the most.
+static uint64_t most_slots(const struct session *s)
+{
+    uint64_t most = 0;
+    for (uint32_t i = 0; i < s->table.count; i++) {
+        uint64_t slots = s->streams[i].granted / s->table.worst;
+        most = slots > most ? slots : most;
+    }
+    return most;
+}
+
+// A request is at the disk at the end of time: no duration can end it.
+static bool stuck(const struct session *s)
+{
+    return s->disk_stream != 0 && s->clock == SESSION_END;
+}
+
+static void follow(struct run *r, size_t most)
+{
+    while (r->trace->count < most) {
+        if (stuck(&r->s) && percent(r->c, 5))
+            return;
+        if (r->lean.end_at != 0 && r->trace->count >= r->lean.end_at && r->s.disk_stream == 0)
+            jump_to_end(r);
+        else if (below(r->c, 400) == 0)
+            flood(r, most);
+        else if (percent(r->c, 2))
+            volley(r, most);
+        else if (r->s.disk_stream != 0)
+            busy_step(r);
+        else
+            idle_step(r);
     }
 }
 
@@ -302,16 +366,22 @@ void make_trace(struct chance *c, const struct table *t, size_t most, struct tra
         any_events(c, most, trace);
         return;
     }
-    while (trace->count < most) {
-        if (r.lean.end_at != 0 && trace->count >= r.lean.end_at && r.s.disk_stream == 0)
-            jump_to_end(&r);
-        else if (below(c, 200) == 0)
-            flood(&r, most);
-        else if (percent(c, 2))
-            volley(&r, most);
-        else if (r.s.disk_stream != 0)
-            busy_step(&r);
-        else
-            idle_step(&r);
-    }
+    if (most_slots(&r.s) > MANY_SLOTS && percent(c, 60))
+        r.lean.overlong = 40;
+    follow(&r, most);
+}
+
+void make_far_trace(struct chance *c, const struct table *t, size_t most, struct trace *trace)
+{
+    struct run r = {.c = c, .trace = trace};
+    trace->count = 0;
+    if (session_open(&r.s, t) != ADMITTED)
+        return;
+    step(&r, EVENT_CLOCK, 0, FAR_CLOCK + below(c, FAR_CLOCK));
+    while (trace->count < most && r.waiting_for == 0)
+        turn(&r);
+    // From here on the horizon is ahead of the clock, and L is asked for.
+    r.lean = lean(c, most);
+    r.lean.end_at = 0;
+    follow(&r, most);
 }

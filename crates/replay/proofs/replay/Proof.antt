@@ -1,0 +1,94 @@
+-- `replay` hands on the trace as a part of the file: an accepted file's trace lies within it.
+use mathlib.Core.Path.{sym, _∙_}
+use native.Mathlib.Omega.{arith}
+use borrow.Author.Needs.{needs}
+use Rattle.file.proofs.Round.{accepted-is-within}
+use Rattle.replay.proofs.replay.Statement.{statement}
+use Rattle.replay.proofs.replay.Tie as tie
+
+read-requires : tie.Need-read-requires
+read-requires c κs = search needs
+
+enum-known-start : tie.Need-enum-known-start
+enum-known-start c = search needs
+
+enum-told : tie.Need-enum-told
+enum-told c = search needs
+
+refused-requires : tie.Need-refused-requires
+refused-requires c κs = search needs
+
+print-requires : tie.Need-print-requires
+print-requires c κs = search needs
+
+returns : tie.Need-returns
+returns c = search needs
+
+table-of-requires : tie.Need-table-of-requires
+table-of-requires c κs = search needs
+
+open-requires : tie.Need-open-requires
+open-requires c κs = search needs
+
+enum-told-2 : tie.Need-enum-told-2
+enum-told-2 c = search needs
+
+enum-told-3 : tie.Need-enum-told-3
+enum-told-3 c = search needs
+
+print-refusal-requires : tie.Need-print-refusal-requires
+print-refusal-requires c κs = search needs
+
+returns-2 : tie.Need-returns-2
+returns-2 c = search needs
+
+header-requires : tie.Need-header-requires
+header-requires c κs = search needs
+
+print-requires-2 : tie.Need-print-requires-2
+print-requires-2 c κs = search needs
+
+sub-run : tie.Need-sub-run
+sub-run c =
+    let at = c .before .before .before .before .before .before .before in
+    omega (arith, accepted-is-within _ _ _ _ _ (sym (at .before .before .read .ensures) ∙ at .start .given .1) .whole-events)
+
+part-run-start : tie.Need-part-run-start
+part-run-start c =
+    let at = c .before .before .before .before .before .before .before in
+    omega (arith, accepted-is-within _ _ _ _ _ (sym (at .before .before .read .ensures) ∙ at .start .given .1) .whole-events)
+
+part-run-end : tie.Need-part-run-end
+part-run-end c =
+    let at = c .before .before .before .before .before .before .before in
+    omega (arith, accepted-is-within _ _ _ _ _ (sym (at .before .before .read .ensures) ∙ at .start .given .1) .in-file)
+
+run-requires : tie.Need-run-requires
+run-requires c κs = search needs
+
+returns-3 : tie.Need-returns-3
+returns-3 c = search needs
+
+pub replay-spec : {M : Type 1} → statement M
+replay-spec =
+    tie.close
+    (tie.spec
+    read-requires
+    enum-known-start
+    enum-told
+    refused-requires
+    print-requires
+    returns
+    table-of-requires
+    open-requires
+    enum-told-2
+    enum-told-3
+    print-refusal-requires
+    returns-2
+    header-requires
+    print-requires-2
+    sub-run
+    part-run-start
+    part-run-end
+    run-requires
+    returns-3)

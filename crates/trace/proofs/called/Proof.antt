@@ -1,0 +1,50 @@
+-- `called` makes the call and renders its answer: each number of the line is what the definitions say of the reply.
+use Rattle.session.specs.Calls.{lineOf}
+use Rattle.trace.specs.Trace.{called, handed}
+use borrow.Author.Needs.{needs}
+use Rattle.trace.proofs.called.Statement.{statement}
+use Rattle.trace.proofs.called.Tie as tie
+
+call-requires : tie.Need-call-requires
+call-requires c κs = search needs
+
+number-requires : tie.Need-number-requires
+number-requires c κs = search needs
+
+stream-requires : tie.Need-stream-requires
+stream-requires c κs = search needs
+
+value-requires : tie.Need-value-requires
+value-requires c κs = search needs
+
+micros-requires : tie.Need-micros-requires
+micros-requires c κs = search needs
+
+line-requires : tie.Need-line-requires
+line-requires c κs = search needs
+
+returns : tie.Need-returns
+unfolding called handed lineOf
+returns c = (
+  rw (
+    c .line .ensures .0,
+    c .before .micros .ensures,
+    c .before .before .value .ensures,
+    c .before .before .before .stream .ensures,
+    c .before .before .before .before .number .ensures,
+    c .before .before .before .before .before .before .call .ensures,
+  ),
+  c .line .ensures .1,
+)
+
+pub called-spec : {M : Type 1} → statement M
+called-spec =
+    tie.close
+    (tie.spec
+    call-requires
+    number-requires
+    stream-requires
+    value-requires
+    micros-requires
+    line-requires
+    returns)

@@ -11,7 +11,7 @@ use Rattle.table.proofs.Tests.{le-or-lt}
 use Rattle.table.proofs.Lists.{length-listTo, getD-listTo}
 use Rattle.file.specs.Reading.{column}
 
-list-agree : (f g : ℕ → ℕ) (n : ℕ) → ((i : ℕ) → i < n → f i ≡ g i) → listTo f n ≡ listTo g n
+pub list-agree : {A : Type 0} (f g : ℕ → A) (n : ℕ) → ((i : ℕ) → i < n → f i ≡ g i) → listTo f n ≡ listTo g n
 unfolding listTo
 list-agree f g zero h = refl
 list-agree f g (suc n) h = rw (list-agree f g n (λ i l. h i (omega arith)), h n (omega arith))

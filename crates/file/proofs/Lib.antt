@@ -8,5 +8,6 @@ pub mod Writes
 pub mod WriteBack
 pub mod ReadBack
 pub mod Events
+pub mod Traces
 pub mod Round
 pub mod Listing

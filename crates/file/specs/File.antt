@@ -1,5 +1,5 @@
 -- The session file of document 01: the page to hold beside its section "Session file". Reading and writing are said over it.
-use mathlib.Core.List.{List, [], _++_}
+use mathlib.Core.List.{List, [], _∷_, _++_}
 use Prim.Native.Nat.{ℕ, zero, suc, _+_}
 use lib.ListN.{length}
 use Rattle.table.specs.Admission.{reservedAt, periodAt}
@@ -49,6 +49,11 @@ bytesOf (OwnTurn stream index) = eventCells 3 stream index
 bytesOf (Done duration) = eventCells 4 0 duration
 bytesOf (Clock time) = eventCells 5 0 time
 bytesOf Malformed = []
+
+-- a trace body: its events, one after the other
+unfoldable pub traceOf : List Event → List ℕ
+traceOf [] = []
+traceOf (e ∷ es) = bytesOf e ++ traceOf es
 
 -- "Contents table first, then the bodies; numbers little-endian": the table, the trace, and "the file ends with it"
 unfoldable pub fileOf : Table → List ℕ → List ℕ

@@ -1,7 +1,7 @@
 -- What is proved of the session file.
 use mathlib.Core.Bool.{true}
 use mathlib.Core.Path.{_≡_}
-use mathlib.Core.List.{List, _++_}
+use mathlib.Core.List.{List, [], _∷_, _++_}
 use Prim.Native.Nat.{ℕ, _+_, _*_, _^_, _≤_, _<_}
 use lib.ListN.{length, take, drop}
 use Rattle.table.specs.Fold.{listTo}
@@ -9,8 +9,8 @@ use Rattle.table.specs.Ranges.{streams-max}
 use Rattle.table.specs.Admission.{reservedAt, periodAt}
 use Rattle.table.specs.declared.Table.{Table}
 use Rattle.cells.specs.Cells.{Bytes}
-use Rattle.file.specs.File.{event-size, events-max, bytesOf, table-start, fileOf}
-use Rattle.file.specs.Reading.{eventsIn, eventAt, formed, tableLength, part, tableIn, traceIn, column, isLaidOut, readOf}
+use Rattle.file.specs.File.{event-size, events-max, bytesOf, traceOf, table-start, fileOf}
+use Rattle.file.specs.Reading.{eventsIn, eventAt, formed, isTrace, tableLength, part, tableIn, traceIn, column, isLaidOut, readOf}
 use Rattle.file.specs.Writing.{isWritable, writeOf, writtenOn}
 use Rattle.file.specs.Listing.{listing-table, listing-events, listing-file}
 use Rattle.file.specs.declared.Reading.the-variants.{LaidOut}
@@ -115,10 +115,26 @@ EventWritesBack =
     (trace : List ℕ) (i : ℕ) → Bytes trace → formed (eventAt trace i) ≡ true
     → Coded (eventAt trace i) × (bytesOf (eventAt trace i) ≡ take event-size (drop (event-size * i) trace))
 
--- Listing (P) is read as document 01 gives it, and it is the file of its table and trace.
+abbrev pub AllCoded : List Event → Type 0
+AllCoded [] = Unit
+AllCoded (e ∷ es) = Coded e × AllCoded es
+
+-- So a trace and its events determine each other: up to 4,000 events make a trace, which is read as these events,
+abbrev pub TraceReadsBack : Type 0
+TraceReadsBack =
+    (es : List Event) → AllCoded es → length es ≤ events-max
+    → (isTrace (traceOf es) ≡ true) × (listTo (eventAt (traceOf es)) (eventsIn (traceOf es)) ≡ es)
+
+-- and a trace is the bytes of the events that are read from it.
+abbrev pub TraceWritesBack : Type 0
+TraceWritesBack =
+    (trace : List ℕ) → Bytes trace → isTrace trace ≡ true
+    → let es = listTo (eventAt trace) (eventsIn trace) in AllCoded es × (traceOf es ≡ trace)
+
+-- Listing (P) is read as document 01 gives it, and it is the file of its table and its events.
 abbrev pub ListingReads : Type 0
 ListingReads =
     (readOf listing-file ≡ LaidOut 2 58 234 11)
     × (tableIn listing-file ≡ listing-table)
     × (listTo (eventAt (traceIn listing-file)) 11 ≡ listing-events)
-    × (fileOf listing-table (traceIn listing-file) ≡ listing-file)
+    × (fileOf listing-table (traceOf listing-events) ≡ listing-file)

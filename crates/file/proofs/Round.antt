@@ -4,11 +4,12 @@ use mathlib.Core.Path.{_≡_, refl, sym, ap, _∙_}
 use mathlib.Core.List.{List}
 use Prim.Native.Nat.{ℕ, _+_, _-_, _*_, _^_, _≤_, _<_}
 use native.Mathlib.Omega.{arith}
-use borrow.Author.Tests.{eqb-true, le-leb}
+use borrow.Author.Tests.{eqb-true, le-leb, le-ltb}
 use lib.Dec.{eqb}
 use lib.ListN.{length, take, drop}
 use lib.Seq.{take-at, drop-at}
 use Rattle.table.specs.Fold.{if}
+use Rattle.table.specs.Refusal.{given}
 use Rattle.table.specs.declared.Table.{Table}
 use Rattle.cells.specs.Cells.{numberAt, Bytes}
 use Rattle.cells.proofs.Numbers.{number-lt}
@@ -21,7 +22,7 @@ use Rattle.file.proofs.Columns.{column-lt, column-again}
 use Rattle.file.proofs.Lengths.{length-file}
 use Rattle.file.proofs.Trace.{trace-of}
 use Rattle.file.proofs.Accepted.{accepted-of, answered, read-accepted}
-use Rattle.file.proofs.Writes.{writable-of, none-refused, write-done}
+use Rattle.file.proofs.Writes.{writable-of, room-decides, write-done}
 use Rattle.file.proofs.WriteBack.{length-trace, write-back}
 use Rattle.file.proofs.ReadBack.{table-back, count-back, start-back, end-back, trace-back, laid-back}
 
@@ -110,12 +111,14 @@ refused-changes-nothing t trace out n h =
 
 -- ---- what was accepted is written back
 
-fits : (file out : List ℕ) → Bytes file → isLaidOut file ≡ true → length file ≤ length out → writeRefusal (tableIn file) (traceIn file) (length out) ≡ 0
-unfolding tableAt
+fits : (file out : List ℕ) → Bytes file → isLaidOut file ≡ true → length file ≤ length out
+    → writeRefusal (tableIn file) (traceIn file) (length out) ≡ 0
+unfolding tableAt given
 fits file out b h room =
     let q = accepted-of file h in
-    none-refused (tableIn file) (traceIn file) (length out) (q .count-high) (q .trace-right)
-    (omega (arith, length-file (tableIn file) (traceIn file), ap length (write-back file b h), room))
+    let size : table-start + tableLength (countAt file table-start) + length (traceIn file) ≤ length out
+    = omega (arith, length-file (tableIn file) (traceIn file), ap length (write-back file b h), room) in
+    room-decides (tableIn file) (traceIn file) (length out) (q .count-high) (q .trace-right) ∙ rw (le-ltb _ _ size)
 
 pub accepted-writes-back : AcceptedWritesBack
 accepted-writes-back file out count start end events b h room =

@@ -3,7 +3,7 @@ use mathlib.Core.Bool.{Bool, true, false, not}
 use mathlib.Core.Path.{_≡_, refl, sym}
 use mathlib.Core.List.{List, _++_}
 use Prim.Native.Nat.{ℕ, _+_, _≤_, _<_}
-use borrow.Author.Tests.{le-leb, lt-leb, lt-ltb, le-ltb, ne-eqb, leb-true, ltb-false}
+use borrow.Author.Tests.{le-leb, lt-leb, ne-eqb, leb-true, ltb-false}
 use lib.Dec.{ltb}
 use lib.ListN.{length, drop}
 use Rattle.table.specs.Fold.{if}
@@ -26,14 +26,9 @@ module _ (t : Table) (trace : List ℕ) (room : ℕ) where
     unfolding writeRefusal isWritable given _or-next_
     trace-refused h = rw (le-leb _ _ count, h)
 
-    module _ (right : isTrace trace ≡ true) where
-      pub room-refused : room < table-start + tableLength (t .count) + length trace → writeRefusal t trace room ≡ 17
-      unfolding writeRefusal isWritable given _or-next_
-      room-refused h = rw (le-leb _ _ count, right, length-file t trace, lt-ltb _ _ h)
-
-      pub none-refused : table-start + tableLength (t .count) + length trace ≤ room → writeRefusal t trace room ≡ 0
-      unfolding writeRefusal isWritable given _or-next_
-      none-refused h = rw (le-leb _ _ count, right, length-file t trace, le-ltb _ _ h)
+    pub room-decides : isTrace trace ≡ true → writeRefusal t trace room ≡ given (ltb room (table-start + tableLength (t .count) + length trace)) 17
+    unfolding writeRefusal isWritable given _or-next_
+    room-decides h = rw (le-leb _ _ count, h, length-file t trace)
 
 -- what is not refused can be written, and has room
 pub record Writable (t : Table) (trace : List ℕ) (room : ℕ) : Type 0 where

@@ -1,8 +1,16 @@
 -- `write_refusal` gives 16, then 17: each way out is a law of `Writes`. A trace that is as laid out is short, so the length of the file fits.
-use mathlib.Core.Path.{sym, _∙_}
+use mathlib.Core.Path.{_≡_, sym, ap, _∙_}
+use Prim.Native.Nat.{_+_}
 use native.Mathlib.Omega.{arith}
+use borrow.Author.Tests.{lt-ltb, le-ltb}
+use lib.Dec.{ltb}
+use lib.ListN.{length}
+use Rattle.table.specs.Refusal.{given}
+use Rattle.file.specs.File.{table-start}
+use Rattle.file.specs.Reading.{tableLength}
+use Rattle.file.specs.Writing.{writeRefusal}
 use Rattle.file.proofs.Trace.{trace-of}
-use Rattle.file.proofs.Writes.{count-refused, trace-refused, room-refused, none-refused}
+use Rattle.file.proofs.Writes.{count-refused, trace-refused, room-decides}
 use Rattle.file.proofs.write_refusal.Statement.{statement}
 use Rattle.file.proofs.write_refusal.Tie as tie
 
@@ -20,31 +28,24 @@ file-length-requires c κs =
     let right = trace-of (a .trace .now) (sym (c .before .is-trace .ensures) ∙ c .if2 .taken) in
     (omega arith, omega (arith, right .whole, right .events-high))
 
-returns-2 : tie.Need-returns-2
-returns-2 c =
-    let b = c .before .before .before in
+-- past the other tests the room decides
+judged : (c : tie.After-file-length)
+    → let a = c .before .before .before .before .before .before .args in
+    writeRefusal (a .table) (a .trace .now) (a .room) ≡ given (ltb (a .room) (c .file-length .result)) 17
+judged c =
+    let b = c .before .before in
     let a = b .before .before .before .before .args in
-    sym
-    (room-refused
-    (a .table)
-    (a .trace .now)
-    (a .room)
-    (omega arith)
-    (sym (b .is-trace .ensures) ∙ c .before .before .if2 .taken)
-    (omega (arith, c .before .file-length .ensures)))
+    let size : table-start + tableLength (a .table .count) + length (a .trace .now) ≡ c .file-length .result = omega (arith, c .file-length .ensures) in
+    room-decides (a .table) (a .trace .now) (a .room) (omega arith) (sym (b .is-trace .ensures) ∙ c .before .if2 .taken)
+    ∙ ap (λ n. given (ltb (a .room) n) 17) size
+
+returns-2 : tie.Need-returns-2
+unfolding given
+returns-2 c = sym (judged (c .before) ∙ ap (λ b. given b 17) (lt-ltb _ _ (c .if3 .taken)))
 
 returns-3 : tie.Need-returns-3
-returns-3 c =
-    let b = c .before .before .before in
-    let a = b .before .before .before .before .args in
-    sym
-    (none-refused
-    (a .table)
-    (a .trace .now)
-    (a .room)
-    (omega arith)
-    (sym (b .is-trace .ensures) ∙ c .before .before .if2 .taken)
-    (omega (arith, c .before .file-length .ensures)))
+unfolding given
+returns-3 c = sym (judged (c .before) ∙ ap (λ b. given b 17) (le-ltb _ _ (c .if3 .left)))
 
 returns-4 : tie.Need-returns-4
 returns-4 c =

@@ -1,16 +1,8 @@
 // Numbers and runs of bytes at an index of a slice. Any arguments will do: past the end a read gives 0, and a store is left out.
 ghost use mathlib.Core.Path.{_≡_};
 ghost use Prim.Native.Nat.{_-_, min};
-ghost use lib.ListN.{getD};
 ghost use lib.Seq.{sets};
 ghost use Rattle.cells.specs.Cells.{cell, numberAt};
-
-// The byte at an index.
-pub fn byte_at(bytes: &[u8], at: usize) -> u8
-    ensures { λ r. ⌜ r ≡ getD (now (bytes .entry)) at 0 ⌝ }
-{
-    if at < bytes.len() { bytes[at] } else { 0 }
-}
 
 // The number in the `width` bytes from an index on; of more than eight, the eight lowest.
 pub fn number_at(bytes: &[u8], at: usize, width: usize) -> u64

@@ -6,6 +6,7 @@ pub mod Queue
 pub mod Picks
 pub mod Fits
 pub mod Sound
+pub mod Counted
 pub mod Best
 pub mod Ranks
 pub mod First

@@ -110,7 +110,7 @@ sound-after s (k ∷ ks) t = sound-after (answerTo s k .session) ks (calls-keep-
 
 -- a reply has the number of its refusal, or one from 20 to 28
 number-low : (s : Session) (v : Verdict) → Grounds s v → numberOf (replyTo s v) < 31
-unfolding replyTo numberOf
+unfolding replyTo
 number-low s (refuse n) g = g
 number-low s (append i place) g = lit< tt
 number-low s (send i j) g = lit< tt

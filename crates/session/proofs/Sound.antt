@@ -1,18 +1,18 @@
 -- A sound session, test by test: what each test says, and that these facts make it sound.
-use mathlib.Core.Bool.{Bool, true, false, _||_, and-false, false≢true}
+use mathlib.Core.Bool.{Bool, true, false, _&&_, _||_, and-false, false≢true}
 use mathlib.Core.Path.{_≡_, refl, sym}
 use mathlib.Core.Logic.{⊎-elim}
 use Prim.Native.Nat.{ℕ, _+_, _*_, _≤_, _<_}
 use native.Mathlib.Omega.{arith}
 use lib.ListN.{length, getD, List·getD-map}
-use lib.Dec.{ltb, eqb}
+use lib.Dec.{leb, ltb, eqb}
 use borrow.Author.Tests.{leb-true, eqb-true, le-leb, lt-ltb, le-ltb, eq-eqb}
 use Rattle.table.specs.Admission.{grantedOf, admissionOf}
 use Rattle.table.proofs.Tests.{both, le-or-lt}
 use Rattle.table.proofs.Folds.{all-at, all-of, smallest-le}
 use Rattle.table.proofs.Judged.{Fits-in, Admits, admits-of}
 use Rattle.session.specs.Time.{session-end, duration-max}
-use Rattle.session.specs.Stream.{queue-max, soundQueue, soundStream, unusedStream}
+use Rattle.session.specs.Stream.{queue-max, soundQueue, soundCells, soundStream, unusedStream}
 use Rattle.session.specs.Bounds.{Bounded}
 use Rattle.session.specs.Session.{noStream, streamAt, horizon, tableOf, soundDisk, soundRest, usedStreams, sound}
 use Rattle.session.specs.declared.stream.Stream.{Stream}
@@ -64,7 +64,7 @@ pub record InOrder (worst k h : ℕ) (x : Stream) : Type 0 where
   pub queue : Queue x
 
 pub stream-of : (worst k h : ℕ) (x : Stream) → soundStream worst k h x ≡ true → InOrder worst k h x
-unfolding soundStream
+unfolding soundStream soundCells
 stream-of worst k h x t =
     let a = both _ _ t in
     let b = both _ _ (a .0) in
@@ -75,24 +75,29 @@ stream-of worst k h x t =
     record {
       budget = eqb-true _ _ (g .0);
       due = eqb-true _ _ (g .1);
-      released = leb-true _ _ (f .1);
-      deadline-high = leb-true _ _ (e .1);
-      charge-high = leb-true _ _ (d .1);
-      expiries = leb-true _ _ (b .1);
-      queue = queue-of x (a .1);
+      released = leb-true _ _ (a .1);
+      deadline-high = leb-true _ _ (f .1);
+      charge-high = leb-true _ _ (e .1);
+      expiries = leb-true _ _ (d .1);
+      queue = queue-of x (b .1);
     }
 
-pub of-stream : (worst k h : ℕ) (x : Stream) → InOrder worst k h x → soundStream worst k h x ≡ true
+-- cells that are sound are in order at the release itself
+pub cells-of : (worst k : ℕ) (x : Stream) → soundCells worst k x ≡ true → InOrder worst k (x .release .0) x
 unfolding soundStream
+cells-of worst k x t = stream-of worst k (x .release .0) x (rw (t, le-leb (x .release .0) (x .release .0) (omega arith)))
+
+pub of-stream : (worst k h : ℕ) (x : Stream) → InOrder worst k h x → soundStream worst k h x ≡ true
+unfolding soundStream soundCells
 of-stream worst k h x q =
     rw (
       eq-eqb _ _ (q .budget),
       eq-eqb _ _ (q .due),
-      le-leb _ _ (q .released),
       le-leb _ _ (q .deadline-high),
       le-leb _ _ (q .charge-high),
       le-leb _ _ (q .expiries),
       of-queue x (q .queue),
+      le-leb _ _ (q .released),
     )
 
 pub record Sound (s : Session) : Type 0 where
@@ -103,19 +108,35 @@ pub record Sound (s : Session) : Type 0 where
   pub clock-high : s .clock .0 ≤ session-end
   pub disk : soundDisk s ≡ true
 
+-- the streams past the count, of a session that has eight
+pub rest-of : (s : Session) → soundRest (s .streams) (s .count) ≡ true
+    → (length (s .streams) ≡ 8) × ((i : ℕ) → s .count ≤ i → i < 8 → unusedStream (streamAt s i) ≡ true)
+unfolding soundRest
+rest-of s t =
+    let rest = both _ _ t in
+    (eqb-true _ _ (rest .0), λ i past l. used-or-zero _ _ (all-at _ 8 (rest .1) i l) (le-ltb i (s .count) past))
+
+pub rest-in : (s : Session) → sound s ≡ true → soundRest (s .streams) (s .count) ≡ true
+unfolding sound
+rest-in s t =
+    let used = eqb (admissionOf (tableOf s)) 0 && usedStreams s in
+    let rest = soundRest (s .streams) (s .count) in
+    let in-time = leb (s .clock .0) session-end in
+    both used rest (both (used && rest) in-time (both (used && rest && in-time) (soundDisk s) t .0) .0) .1
+
 pub sound-of : (s : Session) → sound s ≡ true → Sound s
-unfolding sound usedStreams soundRest
+unfolding sound usedStreams
 sound-of s t =
     let a = both _ _ t in
     let b = both _ _ (a .0) in
     let d = both _ _ (b .0) in
-    let rest = both _ _ (d .1) in
+    let rest = rest-of s (d .1) in
     let e = both _ _ (d .0) in
     record {
       admitted = eqb-true _ _ (e .0);
-      eight = eqb-true _ _ (rest .0);
+      eight = rest .0;
       each = λ i l. stream-of (s .worst) (s .padding) (horizon s) (streamAt s i) (all-at _ (s .count) (e .1) i l);
-      others = λ i past l. used-or-zero _ _ (all-at _ 8 (rest .1) i l) (le-ltb i (s .count) past);
+      others = rest .1;
       clock-high = leb-true _ _ (b .1);
       disk = a .1;
     }

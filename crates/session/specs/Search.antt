@@ -1,21 +1,94 @@
 -- What the code's searches keep of the streams passed so far. No rule stands here: a reader of the rules may pass this file over.
-use mathlib.Core.Bool.{true, not, _&&_, _||_}
+use mathlib.Core.Bool.{Bool, true, false, not, _&&_, _||_}
 use mathlib.Core.List.{List}
 use mathlib.Core.Path.{_≡_}
-use Prim.Native.Nat.{ℕ}
+use Prim.Native.Nat.{ℕ, _+_, _*_, _/_, _≤_, _<_, min, max}
 use lib.ListN.{getD}
-use lib.Dec.{ltb, eqb}
+use lib.Dec.{leb, ltb, eqb}
 use Rattle.table.specs.Fold.{if}
-use Rattle.session.specs.Time.{moment}
-use Rattle.session.specs.Stream.{filled}
+use Rattle.table.specs.Ranges.{worst-max}
+use Rattle.table.specs.Admission.{numbersRefusal, streamRefusal}
+use Rattle.table.specs.declared.Table.{Table}
+use Rattle.session.specs.Time.{session-end, moment}
+use Rattle.session.specs.Stream.{slots, filled, soundCells}
+use Rattle.session.specs.Bounds.{Bounded}
 use Rattle.session.specs.Session.{someFilled, noSlot, latest}
 use Rattle.session.specs.Choice.{distance, nearest, nearestAt, chosen, expiring}
+use Rattle.session.specs.declared.time.Clock.{Clock}
+use Rattle.session.specs.declared.census.Census.{Census}
 use Rattle.session.specs.declared.choice.Near.{Near}
 use Rattle.session.specs.declared.choice.Pick.{Pick}
 use Rattle.session.specs.declared.expiry.Lapse.{Lapse}
 use Rattle.session.specs.declared.survey.Survey.{Survey}
 use Rattle.session.specs.declared.stream.Stream.{Stream}
 use Rattle.session.specs.declared.Session.{Session}
+
+-- what a used stream passes whatever the horizon: nothing refuses its reservation, and its cells are sound
+unfoldable pub inOrder : ℕ → ℕ → ℕ → Stream → Bool
+inOrder worst span k x = eqb (streamRefusal worst span k (x .reserved) (x .period)) 0 && soundCells worst k x
+
+-- what is kept of a session's streams as it is judged: before the first used stream, and with one more
+unfoldable pub begun : Table → Stream → Census
+begun t first =
+    record {
+      worst = t .worst;
+      span = t .span;
+      padding = t .padding;
+      count = t .count;
+      sound = eqb (numbersRefusal t) 0;
+      horizon = first .deadline;
+      released = moment 0;
+      shares = 0;
+      least = first .period;
+    }
+
+unfoldable pub counted : Census → Stream → Census
+counted c x =
+    if (inOrder (c .worst) (c .span) (c .padding) x)
+    (record {
+      worst = c .worst;
+      span = c .span;
+      padding = c .padding;
+      count = c .count;
+      sound = c .sound;
+      horizon = moment (min (c .horizon .0) (x .deadline .0));
+      released = moment (max (c .released .0) (x .release .0));
+      shares = c .shares + x .granted .0 * (c .span / x .period);
+      least = min (c .least) (x .period);
+    })
+    (record {
+      worst = c .worst;
+      span = c .span;
+      padding = c .padding;
+      count = c .count;
+      sound = false;
+      horizon = c .horizon;
+      released = c .released;
+      shares = c .shares;
+      least = c .least;
+    })
+
+pub record Countable (c : Census) : Type 0 where
+  pub worst-low : 0 < c .worst
+  pub shares-high : c .shares ≤ 1_000_000_000_000
+
+-- what it says of the session once the used streams are passed, beside the unused ones
+abbrev pub loadSo : Census → ℕ
+loadSo c = c .shares + c .worst * (c .span / c .least)
+
+unfoldable pub says : Census → Clock → ℕ → ℕ → Stream → Bool
+says c clock served place x =
+    c .sound
+    && leb (loadSo c) (c .span)
+    && leb (c .released .0) (c .horizon .0)
+    && leb (clock .0) session-end
+    && if (eqb served 0) (eqb place 0) (leb served (c .count) && leb 1 (slots (c .worst) (c .horizon .0) x))
+
+pub record Judgeable (c : Census) (served : ℕ) (x : Stream) : Type 0 where
+  pub worst-high : c .worst ≤ worst-max
+  pub shares-high : c .shares ≤ 1_000_000_000_000
+  pub least-low : 0 < c .least
+  pub at-disk : loadSo c ≤ c .span → c .released .0 ≤ c .horizon .0 → (served ≡ 0 → ⊥) → served ≤ c .count → Bounded (c .worst) (c .horizon .0) x
 
 -- the nearest of the first m places of a queue, and one step of the search for it: of equals the first stays
 abbrev pub near : ℕ → List ℕ → ℕ → Near

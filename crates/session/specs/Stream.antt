@@ -126,16 +126,19 @@ soundQueue places queued =
     && leb queued queue-max
     && allTo (λ j. ltb j queued || eqb (getD places j 0) 0) queue-max
 
--- "d = r + p and r ≤ h for each stream; the clock and all deadlines are at most 1,000,000,000,000; each charge is at most g + 10,000,000 and at least W × the expired count". That the cell for g holds the granted budget is part of it.
-unfoldable pub soundStream : ℕ → ℕ → ℕ → Stream → Bool
-soundStream worst k h x =
+-- "d = r + p [...] for each stream; [...] all deadlines are at most 1,000,000,000,000; each charge is at most g + 10,000,000 and at least W × the expired count; at most 16 places are queued". That the cell for g holds the granted budget is part of it.
+unfoldable pub soundCells : ℕ → ℕ → Stream → Bool
+soundCells worst k x =
     eqb (x .granted .0) (grantedOf worst k (x .reserved))
     && eqb (x .deadline .0) (x .release .0 + x .period)
-    && leb (x .release .0) h
     && leb (x .deadline .0) session-end
     && leb (x .charge .0) (x .granted .0 + duration-max)
     && leb (worst * x .expired) (x .charge .0)
     && soundQueue (x .places) (x .queued)
+
+-- "and r ≤ h for each stream"
+unfoldable pub soundStream : ℕ → ℕ → ℕ → Stream → Bool
+soundStream worst k h x = soundCells worst k x && leb (x .release .0) h
 
 -- "a record of the last closed job (charge, closing clock, deadline, expired count; all zero before the first)"
 unfoldable pub zeroJob : Job → Bool

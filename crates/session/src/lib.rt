@@ -1,6 +1,7 @@
 // A session: one disk, up to eight streams, and the calls that share it among them.
 mod call;
 mod calls;
+mod census;
 mod choice;
 mod effects;
 mod expiry;

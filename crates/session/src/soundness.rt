@@ -1,11 +1,12 @@
 // Whether a session is sound, judged whole.
 ghost use mathlib.Core.Path.{_≡_};
 ghost use mathlib.Core.Bool.{true};
+ghost use Prim.Native.Nat.{_-_, _≤_, _<_};
 ghost use Rattle.session.specs.Time.{moment};
 ghost use Rattle.session.specs.Session.{horizon, sound};
 use crate::Clock;
 use crate::Session;
-use table::Admission;
+use crate::census::Census;
 use table::Table;
 
 pub(crate) struct Judged {
@@ -17,63 +18,48 @@ pub(crate) struct Judged {
 pub(crate) fn judge(s: Session) -> Judged
     ensures { λ r. ⌜ (r .sound ≡ sound s) × (r .sound ≡ true → r .horizon ≡ moment (horizon s)) ⌝ }
 {
-    let start = Clock::at(0);
-    let unsound = Judged {
-        sound: false,
-        horizon: start,
-    };
-    let mut reserved = [0u32; 8];
-    let mut period = [0u32; 8];
-    let mut rest = true;
-    let mut i: usize = 0;
-    while i < 8 {
-        let x = s.streams[i];
-        reserved[i] = x.reserved;
-        period[i] = x.period;
-        rest = rest & ((i < s.count) | x.is_unused());
-        i += 1;
-    }
     let table = Table {
         worst: s.worst,
         span: s.span,
         padding: s.padding,
         count: s.count,
-        reserved: reserved,
-        period: period,
-    };
-    let admission = table.admission();
-    let Admission::Admitted = admission else {
-        return unsound;
+        reserved: [0u32; 8],
+        period: [0u32; 8],
     };
     let first = s.streams[0];
-    let mut h = first.deadline;
-    let mut j: usize = 0;
-    while j < s.count {
+    let mut census = Census::begin(table, first);
+    let mut i: usize = 0;
+    while census.sound & (i < s.count) {
+        let x = s.streams[i];
+        census = census.with(x);
+        i += 1;
+    }
+    let mut rest = true;
+    let mut j = s.count;
+    while j < 8 {
         let x = s.streams[j];
-        h = h.earlier(x.deadline);
+        rest = rest & x.is_unused();
         j += 1;
     }
-    let mut used = true;
-    let mut k: usize = 0;
-    while k < s.count {
-        let x = s.streams[k];
-        used = used & x.is_sound(s.worst, s.padding, h);
-        k += 1;
-    }
-    if !used | (s.count < s.served) {
-        return unsound;
-    }
-    let cells = rest & s.clock.is_by(Clock::at(Clock::END));
-    if s.served == 0 {
-        return Judged {
-            sound: cells & (s.place == 0),
-            horizon: h,
-        };
-    }
-    let x = s.streams[s.served - 1];
-    let slots = x.slots(s.worst, h);
+    let at = slot_of(s.served);
+    let disk = s.streams[at];
+    let used = census.is_sound(s.clock, s.served, s.place, disk);
+    let h = census.horizon;
     Judged {
-        sound: cells & (1 <= slots),
+        sound: rest & used,
         horizon: h,
     }
+}
+
+// Where the stream with a number stands among the eight; for a number that none has, the first.
+fn slot_of(number: usize) -> usize
+    ensures { λ r. ⌜ (r < 8) × ((number ≡ 0 → ⊥) → number ≤ 8 → r ≡ number - 1) ⌝ }
+{
+    if number == 0 {
+        return 0;
+    }
+    if 8 < number {
+        return 0;
+    }
+    number - 1
 }

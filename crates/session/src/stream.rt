@@ -3,7 +3,7 @@ use crate::time::Charge;
 use crate::time::Clock;
 ghost use mathlib.Core.Path.{_≡_};
 ghost use Prim.Native.Nat.{_≤_, _<_};
-ghost use Rattle.session.specs.Stream.{slots, filled, soundQueue, soundStream, zeroJob, unusedStream, arrived, closedUp, without, charged, lapsed, closed, moved, closesPastEnd};
+ghost use Rattle.session.specs.Stream.{slots, filled, soundQueue, soundCells, zeroJob, unusedStream, arrived, closedUp, without, charged, lapsed, closed, moved, closesPastEnd};
 ghost use Rattle.session.specs.Time.{session-end};
 ghost use Rattle.session.specs.Bounds.{Bounded};
 ghost use Rattle.session.specs.Opening.{freshStream};
@@ -87,21 +87,20 @@ impl Stream {
         }
     }
 
-    // Whether its cells are those of a stream in use, at a horizon.
-    pub(crate) fn is_sound(self, worst: u32, k: u32, h: Clock) -> bool
+    // Whether its cells are those of a stream in use, whatever the horizon.
+    pub(crate) fn is_sound(self, worst: u32, k: u32) -> bool
         requires { ⌜ 0 < worst ⌝ }
-        ensures { λ r. ⌜ r ≡ soundStream worst k (h .0) self ⌝ }
+        ensures { λ r. ⌜ r ≡ soundCells worst k self ⌝ }
     {
         let budget = self.granted
             .is(Charge::of(table::granted(worst, k, self.reserved)));
         let due = self.deadline.is_later_by(self.release, self.period);
-        let released = self.release.is_by(h);
         let in_session = self.deadline.is_by(Clock::at(Clock::END));
         let charge = self.charge.is_near(self.granted);
         let expired = self.charge.covers(worst, self.expired);
         let places = self.places;
         let queue = queue_is_sound(places, self.queued);
-        budget & due & released & in_session & charge & expired & queue
+        budget & due & in_session & charge & expired & queue
     }
 
     // Whether every cell is 0.

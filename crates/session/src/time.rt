@@ -1,6 +1,6 @@
 // Whole microseconds of two kinds that are counted apart: when it is, and how much disk time was had.
 ghost use mathlib.Core.Path.{_≡_};
-ghost use Prim.Native.Nat.{_+_, _-_, _*_, _/_, _≤_, _<_, min};
+ghost use Prim.Native.Nat.{_+_, _-_, _*_, _/_, _≤_, _<_, min, max};
 ghost use lib.Dec.{leb, ltb, eqb};
 ghost use Rattle.session.specs.Time.{moment, diskTime, session-end, duration-max};
 
@@ -66,6 +66,12 @@ impl Clock {
         ensures { λ r. ⌜ r ≡ moment (min (self .0) (other .0)) ⌝ }
     {
         if other.0 < self.0 { other } else { self }
+    }
+
+    pub fn later(self, other: Clock) -> Clock
+        ensures { λ r. ⌜ r ≡ moment (max (self .0) (other .0)) ⌝ }
+    {
+        if self.0 < other.0 { other } else { self }
     }
 
     // How long ago an earlier moment was.

@@ -2,12 +2,12 @@
 use mathlib.Core.Bool.{Bool, true, false, not, _&&_, _||_}
 use mathlib.Core.Path.{_≡_, refl, sym, _∙_, ap}
 use mathlib.Core.Logic.{⊎-elim}
-use Prim.Native.Nat.{ℕ, zero, suc, _+_, _*_, min, _≤_, _<_}
+use Prim.Native.Nat.{ℕ, zero, suc, _+_, _*_, min, max, _≤_, _<_}
 use native.Mathlib.Nat.{not-suc-le-zero, mul-add}
 use native.Mathlib.Omega.{arith}
 use lib.Dec.{leb, eqb}
 use borrow.Author.Tests.{le-leb, ne-eqb}
-use Rattle.table.specs.Fold.{if, sumTo, smallestTo, allTo, someTo, countTo}
+use Rattle.table.specs.Fold.{if, sumTo, smallestTo, largestTo, allTo, someTo, countTo}
 use Rattle.table.specs.Refusal.{_or-next_, firstTo}
 use Rattle.table.proofs.Tests.{le-or-lt, both, neither, or-next-none, or-next-first}
 
@@ -61,6 +61,23 @@ some-none = each-at someTo false (λ f n. neither (someTo f n) (f n))
 pub first-none : (f : ℕ → ℕ) (n : ℕ) → firstTo f n ≡ 0 → (i : ℕ) → i < n → f i ≡ 0
 unfolding firstTo
 first-none = each-at firstTo 0 (λ f n. or-next-none (firstTo f n) (f n))
+
+pub first-all : (f : ℕ → ℕ) (n : ℕ) → ((i : ℕ) → i < n → f i ≡ 0) → firstTo f n ≡ 0
+unfolding firstTo _or-next_
+first-all f zero h = refl
+first-all f (suc n) h = rw (first-all f n (λ i l. h i (omega arith)), h n (omega arith))
+
+-- each is at most the largest, and the largest is at most what each is at most
+pub largest-le : (f : ℕ → ℕ) (n i : ℕ) → i < n → f i ≤ largestTo f n
+unfolding largestTo
+largest-le f zero i l = absurd (not-suc-le-zero l)
+largest-le f (suc n) i l =
+    at-or-below (λ j. f j ≤ max (largestTo f n) (f n)) i l (omega arith) (λ u. omega (arith, largest-le f n i u))
+
+pub largest-high : (b : ℕ) (f : ℕ → ℕ) (n : ℕ) → ((i : ℕ) → i < n → f i ≤ b) → largestTo f n ≤ b
+unfolding largestTo
+largest-high b f zero h = omega arith
+largest-high b f (suc n) h = omega (arith, largest-high b f n (λ i l. h i (omega arith)), h n (omega arith))
 
 pub all-of : (f : ℕ → Bool) (n : ℕ) → ((i : ℕ) → i < n → f i ≡ true) → allTo f n ≡ true
 unfolding allTo

@@ -1,7 +1,7 @@
 -- A choice by a test, and folds over the streams of a table or a session, which are counted from 0: each goes up to a count, and each is written once, here.
 use mathlib.Core.Bool.{Bool, true, false, _&&_, _||_}
 use mathlib.Core.List.{List, [], _∷_, _++_}
-use Prim.Native.Nat.{ℕ, zero, suc, _+_, min}
+use Prim.Native.Nat.{ℕ, zero, suc, _+_, min, max}
 
 module _ {A : Type 0} where
   unfoldable pub if : Bool → A → A → A
@@ -17,6 +17,11 @@ sumTo f (suc n) = sumTo f n + f n
 unfoldable pub smallestTo : (ℕ → ℕ) → ℕ → ℕ
 smallestTo f zero = f 0
 smallestTo f (suc n) = min (smallestTo f n) (f n)
+
+-- the largest of f 0, .., f (n - 1), and 0 where n is 0
+unfoldable pub largestTo : (ℕ → ℕ) → ℕ → ℕ
+largestTo f zero = 0
+largestTo f (suc n) = max (largestTo f n) (f n)
 
 -- every one of 0, .., n - 1 passes the test
 unfoldable pub allTo : (ℕ → Bool) → ℕ → Bool

@@ -82,7 +82,7 @@ pub fn granted(worst: u32, k: u32, reserved: u32) -> u64
 }
 
 // 1 to 4: the numbers of the whole table.
-fn numbers_refusal(t: Table) -> u64
+pub fn numbers_refusal(t: Table) -> u64
     ensures { λ r. ⌜ r ≡ numbersRefusal t ⌝ }
 {
     if (t.count < 1) | (Table::STREAMS_MAX < t.count) {
@@ -98,7 +98,7 @@ fn numbers_refusal(t: Table) -> u64
 }
 
 // 5 and 6: one stream.
-fn stream_refusal(worst: u32, span: u32, k: u32, reserved: u32, period: u32) -> u64
+pub fn stream_refusal(worst: u32, span: u32, k: u32, reserved: u32, period: u32) -> u64
     ensures { λ r. ⌜ r ≡ streamRefusal worst span k reserved period ⌝ }
 {
     if (period < Table::PERIOD_MIN) | (Table::PERIOD_MAX < period) {

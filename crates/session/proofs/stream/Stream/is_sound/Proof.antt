@@ -1,5 +1,5 @@
 -- `Stream::is_sound` gives the document's test: each part is what its function ensures.
-use Rattle.session.specs.Stream.{soundStream}
+use Rattle.session.specs.Stream.{soundCells}
 use borrow.Author.Needs.{needs}
 use Rattle.session.proofs.stream.Stream.is_sound.Statement.{statement}
 use Rattle.session.proofs.stream.Stream.is_sound.Tie as tie
@@ -16,14 +16,11 @@ is-requires c κs = search needs
 is-later-by-requires : tie.Need-is-later-by-requires
 is-later-by-requires c κs = search needs
 
-is-by-requires : tie.Need-is-by-requires
-is-by-requires c κs = search needs
-
 at-requires : tie.Need-at-requires
 at-requires c κs = search needs
 
-is-by-requires-2 : tie.Need-is-by-requires-2
-is-by-requires-2 c κs = search needs
+is-by-requires : tie.Need-is-by-requires
+is-by-requires c κs = search needs
 
 is-near-requires : tie.Need-is-near-requires
 is-near-requires c κs = search needs
@@ -35,19 +32,18 @@ queue-is-sound-requires : tie.Need-queue-is-sound-requires
 queue-is-sound-requires c κs = search needs
 
 returns : tie.Need-returns
-unfolding soundStream
+unfolding soundCells
 returns c =
     rw (
       c .queue-is-sound .ensures,
       c .before .before .covers .ensures,
       c .before .before .before .is-near .ensures,
-      c .before .before .before .before .is-by2 .ensures,
+      c .before .before .before .before .is-by .ensures,
       c .before .before .before .before .before .at .ensures,
-      c .before .before .before .before .before .before .is-by .ensures,
-      c .before .before .before .before .before .before .before .is-later-by .ensures,
-      c .before .before .before .before .before .before .before .before .is .ensures,
-      c .before .before .before .before .before .before .before .before .before .of .ensures,
-      c .before .before .before .before .before .before .before .before .before .before .granted .ensures,
+      c .before .before .before .before .before .before .is-later-by .ensures,
+      c .before .before .before .before .before .before .before .is .ensures,
+      c .before .before .before .before .before .before .before .before .of .ensures,
+      c .before .before .before .before .before .before .before .before .before .granted .ensures,
     )
 
 pub is-sound-spec : {M : Type 1} → statement M
@@ -58,9 +54,8 @@ is-sound-spec =
     of-requires
     is-requires
     is-later-by-requires
-    is-by-requires
     at-requires
-    is-by-requires-2
+    is-by-requires
     is-near-requires
     covers-requires
     queue-is-sound-requires

@@ -1,0 +1,99 @@
+// What is kept of the streams of a session as it is judged, one by one.
+ghost use mathlib.Core.Path.{_≡_};
+ghost use mathlib.Core.Bool.{true};
+ghost use Prim.Native.Nat.{_≤_, _<_, min};
+ghost use Rattle.session.specs.Search.{begun, counted, Countable, says, Judgeable};
+use crate::Clock;
+use crate::Stream;
+use table::Table;
+
+// The table's numbers, whether all is in order so far, and, of the used streams that were passed, the smallest deadline, the latest release, the sum of the shares and the smallest period.
+pub(crate) struct Census {
+    pub(crate) worst: u32,
+    pub(crate) span: u32,
+    pub(crate) padding: u32,
+    pub(crate) count: usize,
+    pub(crate) sound: bool,
+    pub(crate) horizon: Clock,
+    pub(crate) released: Clock,
+    pub(crate) shares: u64,
+    pub(crate) least: u32,
+}
+
+impl Census {
+    // Nothing passed yet: the smallest deadline and period start with those of the first stream.
+    pub(crate) fn begin(table: Table, first: Stream) -> Census
+        ensures { λ r. ⌜ r ≡ begun table first ⌝ }
+    {
+        let refusal = table::numbers_refusal(table);
+        let start = Clock::at(0);
+        let deadline = first.deadline;
+        Census {
+            worst: table.worst,
+            span: table.span,
+            padding: table.padding,
+            count: table.count,
+            sound: refusal == 0,
+            horizon: deadline,
+            released: start,
+            shares: 0,
+            least: first.period,
+        }
+    }
+
+    // With one more used stream.
+    pub(crate) fn with(self, x: Stream) -> Census
+        requires { ⌜ Countable self ⌝ }
+        ensures { λ r. ⌜ r ≡ counted self x ⌝ }
+    {
+        let refusal = table::stream_refusal(
+            self.worst,
+            self.span,
+            self.padding,
+            x.reserved,
+            x.period,
+        );
+        let cells = x.is_sound(self.worst, self.padding);
+        let mut next = self;
+        if (refusal != 0) | !cells {
+            next.sound = false;
+            return next;
+        }
+        let horizon = self.horizon.earlier(x.deadline);
+        let released = self.released.later(x.release);
+        let share = x.granted.micros() * (self.span / x.period) as u64;
+        next.horizon = horizon;
+        next.released = released;
+        next.shares = self.shares + share;
+        next.least = smaller(self.least, x.period);
+        next
+    }
+
+    // Whether the session is sound, once its used streams are passed: the load, the releases, the clock, and the stream at the disk.
+    pub(crate) fn is_sound(self, clock: Clock, served: usize, place: u64, disk: Stream) -> bool
+        requires { ⌜ (self .sound ≡ true → Judgeable self served disk) ⌝ }
+        ensures { λ r. ⌜ r ≡ says self clock served place disk ⌝ }
+    {
+        if !self.sound {
+            return false;
+        }
+        let load = self.shares + self.worst as u64 * (self.span / self.least) as u64;
+        let admitted = load <= self.span as u64;
+        let released = self.released.is_by(self.horizon);
+        let in_time = clock.is_by(Clock::at(Clock::END));
+        if !(admitted & released & in_time & (served <= self.count)) {
+            return false;
+        }
+        if served == 0 {
+            place == 0
+        } else {
+            1 <= disk.slots(self.worst, self.horizon)
+        }
+    }
+}
+
+fn smaller(a: u32, b: u32) -> u32
+    ensures { λ r. ⌜ r ≡ min a b ⌝ }
+{
+    if b < a { b } else { a }
+}

@@ -36,7 +36,7 @@ unfolding soundDisk if
 idle-kept s xs q idle = rw (eq-eqb (s .served) 0 idle) (rw (eq-eqb (s .served) 0 idle) at (q .disk))
 
 -- a stream with another charge and another queue
-abbrev worked : Stream → ℕ → ℕ → ℕ → List ℕ → Stream
+abbrev pub worked : Stream → ℕ → ℕ → ℕ → List ℕ → Stream
 worked x charge expired queued places = withQueue (withCharge x charge expired) queued places
 
 module _ (s : Session) (q : Sound s) (i : ℕ) (l : i < s .count) (charge expired queued : ℕ) (places : List ℕ) where
@@ -44,7 +44,7 @@ module _ (s : Session) (q : Sound s) (i : ℕ) (l : i < s .count) (charge expire
   new = worked (streamAt s i) charge expired queued places
 
   -- its horizon is as it was
-  horizon-kept : horizon (withStream s i new) ≡ horizon s
+  pub horizon-kept : horizon (withStream s i new) ≡ horizon s
   unfolding horizon
   horizon-kept =
       ap (λ (f : ℕ → ℕ). smallestTo f (s .count)) (fun-ext (set-alike (s .streams) i new noStream (λ x. x .deadline .0) refl))

@@ -149,7 +149,7 @@ call-grounds s q (Call.Clock t) h =
     ltb-false session-end t (given-none _ 13 (b .1))
 
 -- the refusals of calls are at most 15
-call-refusal-high : (s : Session) (k : Call) → callRefusal s k ≤ 15
+pub call-refusal-high : (s : Session) (k : Call) → callRefusal s k ≤ 15
 unfolding callRefusal
 call-refusal-high s (Call.Arrival n place) = search (or-next-high, given-high, lit≤)
 call-refusal-high s Call.Turn = search (or-next-high, given-high, lit≤)

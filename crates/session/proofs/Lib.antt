@@ -24,3 +24,9 @@ pub mod Keeps
 pub mod Opened
 pub mod Answers
 pub mod Determined
+pub mod Halves
+pub mod HalvesKept
+pub mod Reasons
+pub mod Within
+pub mod Histories
+pub mod Promise

@@ -23,7 +23,7 @@ use Rattle.session.proofs.Changes.{table-kept, idle-kept}
 
 module _ (now : Clock) (h : ℕ) where
   -- what a stream keeps as its job closes, it keeps in a move
-  moved-keeps : {A : Type 0} (f : Stream → A) → ((x : Stream) → f (closed now x) ≡ f x) → (x : Stream) → f (moved now h x) ≡ f x
+  pub moved-keeps : {A : Type 0} (f : Stream → A) → ((x : Stream) → f (closed now x) ≡ f x) → (x : Stream) → f (moved now h x) ≡ f x
   unfolding moved
   moved-keeps f e x = by-if (λ y. f y ≡ f x) _ (closed now x) x (λ c. e x) (λ c. refl)
 
@@ -89,7 +89,7 @@ module _ (s : Session) (q : Sound s) where
   moved-at i = ap (getD (map moving (s .streams)) i) (sym (stays noStream refl)) ∙ List·getD-map moving (s .streams) i noStream
 
   -- the horizon does not fall
-  horizon-later : horizon s ≤ horizon next
+  pub horizon-later : horizon s ≤ horizon next
   unfolding horizon
   horizon-later =
       smallest-is (λ h. horizon s ≤ h) (λ i. streamAt next i .deadline .0) (s .count) (admits s q .numbers .count-low)

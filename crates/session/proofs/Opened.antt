@@ -38,7 +38,7 @@ module _ (t : Table) (admitted : admissionOf t ≡ 0) where
   opened-at i l = getD-listTo (openedStream t) noStream streams-max i l
 
   -- those below the count hold their reservations
-  fresh-at : (i : ℕ) → i < t .count
+  pub fresh-at : (i : ℕ) → i < t .count
       → streamAt (freshSession t) i ≡ freshStream (reservedAt t i) (periodAt t i) (grantedOf (t .worst) (t .padding) (reservedAt t i))
   unfolding openedStream if
   fresh-at i l = opened-at i (omega (arith, judged .numbers .count-high)) ∙ rw (lt-ltb i (t .count) l)
@@ -80,7 +80,7 @@ module _ (t : Table) (admitted : admissionOf t ≡ 0) where
   fresh-others i past l = rw (opened-at i l, le-ltb i (t .count) past)
 
   -- the session of an admitted table is sound
-  fresh-sound : Sound (freshSession t)
+  pub fresh-sound : Sound (freshSession t)
   unfolding freshSession soundDisk if
   fresh-sound =
       record {

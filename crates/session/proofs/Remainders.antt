@@ -29,7 +29,7 @@ part-low : (h r g q : ℕ) → (h - r) * g * q ≤ h * (g * q)
 part-low h r g q = rw mul-assoc (mul-le-mul-right (g * q) (omega arith))
 
 module _ (s : Session) (q : Sound s) where
-  share-is : (i : ℕ) → i < s .count → shareAt (tableOf s) i ≡ streamAt s i .granted .0 * (s .span / streamAt s i .period)
+  pub share-is : (i : ℕ) → i < s .count → shareAt (tableOf s) i ≡ streamAt s i .granted .0 * (s .span / streamAt s i .period)
   unfolding shareOf
   share-is i l =
       rw (

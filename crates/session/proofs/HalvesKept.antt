@@ -1,0 +1,139 @@
+-- Each effect keeps both halves of the promise's invariant: one lemma for a changed stream, one for a move, one for a clock report.
+use mathlib.Core.List.{List}
+use mathlib.Core.Path.{_≡_, refl, sym, _∙_, ap, subst}
+use Prim.Native.Nat.{ℕ, zero, suc, _+_, _-_, _*_, _≤_, _<_}
+use native.Mathlib.Nat.{mul-le-mul-left, mul-le-mul-right, not-suc-le-zero}
+use native.Mathlib.Omega.{arith}
+use lib.ListN.{length}
+use lib.Seq.{getD-set-same, getD-set-other}
+use borrow.Author.Tests.{eqb-true}
+use Rattle.table.specs.Fold.{sumTo}
+use Rattle.table.proofs.Tests.{by-if}
+use Rattle.table.proofs.Folds.{at-or-below, sum-le, sum-agree}
+use Rattle.table.proofs.Lists.{set-each}
+use Rattle.session.specs.Stream.{closed, moved}
+use Rattle.session.specs.Session.{noStream, streamAt, horizon, scaledPart, latest, withStream}
+use Rattle.session.specs.declared.stream.Stream.{Stream}
+use Rattle.session.specs.declared.Session.{Session}
+use Rattle.session.proofs.Sound.{Sound, of-sound, admits, bounded}
+use Rattle.session.proofs.Latest.{latest-rounds-once}
+use Rattle.session.proofs.Changes.{worked, horizon-kept}
+use Rattle.session.proofs.MoveKept.{moved-keeps, moving, next, moved-at, horizon-later}
+use Rattle.session.proofs.Halves.{rate, used, rateAt, usedAt, Room, InTime, rates-high}
+
+-- two sums whose terms differ at i alone
+sum-but-one : (f g : ℕ → ℕ) (i : ℕ) → ((j : ℕ) → (j ≡ i → ⊥) → f j ≡ g j) → (n : ℕ) → i < n → sumTo f n + g i ≡ sumTo g n + f i
+unfolding sumTo
+sum-but-one f g i alike zero l = absurd (not-suc-le-zero l)
+sum-but-one f g i alike (suc n) l =
+    at-or-below (λ (k : ℕ). ((j : ℕ) → (j ≡ k → ⊥) → f j ≡ g j) → sumTo f n + f n + g k ≡ sumTo g n + g n + f k) i l
+    (λ same. omega (arith, sum-agree f g n (λ j m. same j (λ e. omega arith))))
+    (λ (u : i < n) same. omega (arith, sum-but-one f g i same n u, same n (λ e. omega arith)))
+    alike
+
+-- a stream that was charged a more
+grown-in-time : (t u a h next span rates others useds more : ℕ) → next ≡ h → others ≡ rates → more ≡ useds + a * span → u ≤ t + a
+    → t * span + h * rates ≤ h * span + useds → u * span + next * others ≤ next * span + more
+grown-in-time t u a h next span rates others useds more same alike grows le time =
+    rw (same, alike, grows) (omega (arith, mul-le-mul-right span le))
+
+module _ (s : Session) (q : Sound s) (i : ℕ) (l : i < s .count) (charge expired queued : ℕ) (places : List ℕ) (a : ℕ)
+    (more : charge ≡ streamAt s i .charge .0 + a) where
+  abbrev old : Stream
+  old = streamAt s i
+
+  abbrev new : Stream
+  new = worked old charge expired queued places
+
+  -- what it has used is that much more
+  new-used : used (s .span) new ≡ used (s .span) old + a * s .span
+  new-used = rw more (omega arith)
+
+  abbrev changed : Session
+  changed = withStream s i new
+
+  here : i < length (s .streams)
+  here = omega (arith, q .eight, admits s q .numbers .count-high)
+
+  ahead : horizon changed ≡ horizon s
+  ahead = horizon-kept s q i l charge expired queued places
+
+  -- the sum over the streams of what each has
+  summed : (f : Stream → ℕ) → sumTo (λ j. f (streamAt changed j)) (s .count) + f old ≡ sumTo (λ j. f (streamAt s j)) (s .count) + f new
+  summed f =
+      sum-but-one (λ j. f (streamAt changed j)) (λ j. f (streamAt s j)) i
+      (λ j other. ap f (getD-set-other (s .streams) i j new noStream other)) (s .count) l
+      ∙ ap (λ (x : Stream). sumTo (λ j. f (streamAt s j)) (s .count) + f x) (getD-set-same (s .streams) i new noStream here)
+
+  -- it keeps its room, if it had room for that
+  pub charge-keeps-room : usedAt s i + a * s .span ≤ horizon s * rateAt s i → Room s → Room changed
+  charge-keeps-room enough room j m =
+      subst (λ (h : ℕ). usedAt changed j ≤ h * rateAt changed j) (sym ahead)
+      (set-each (s .streams) i new noStream (λ x. used (s .span) x ≤ horizon s * rate (s .span) x) here (omega (arith, new-used, enough)) j (room j m))
+
+  -- and a clock that grows by no more than that is still in time
+  pub charge-keeps-time : (t u : ℕ) → u ≤ t + a → InTime s t → InTime changed u
+  charge-keeps-time t u le time =
+      grown-in-time t u a (horizon s) (horizon changed) (s .span) (sumTo (rateAt s) (s .count)) (sumTo (rateAt changed) (s .count))
+      (sumTo (usedAt s) (s .count)) (sumTo (usedAt changed) (s .count)) ahead
+      (omega (arith, summed (rate (s .span)))) (omega (arith, summed (used (s .span)), new-used)) le time
+
+-- a move: a job that closes has used all of its rate up to the horizon, so what is used does not fall
+later-in-time : (t h next span rates useds more : ℕ) → h ≤ next → rates ≤ span → useds ≤ more
+    → t * span + h * rates ≤ h * span + useds → t * span + next * rates ≤ next * span + more
+later-in-time t h next span rates useds more later fits grows time =
+    let k : ℕ = next - h in
+    let sum : h + k ≡ next = omega arith in
+    omega (arith, mul-le-mul-left k fits, ap (λ (z : ℕ). z * rates) sum, ap (λ (z : ℕ). z * span) sum)
+
+module _ (s : Session) (q : Sound s) where
+  moved-room : (later : ℕ) (x : Stream) → horizon s ≤ later → used (s .span) x ≤ horizon s * rate (s .span) x
+      → used (s .span) (moving s q x) ≤ later * rate (s .span) (moving s q x)
+  unfolding moved closed
+  moved-room later x le room =
+      by-if (λ y. used (s .span) y ≤ later * rate (s .span) y) _ (closed (s .clock) x) x
+      (λ due.
+      let d : x .deadline .0 ≡ horizon s = eqb-true (x .deadline .0) (horizon s) due in
+      omega (arith, mul-le-mul-right (rate (s .span) x) le, ap (λ (z : ℕ). z * rate (s .span) x) d))
+      (λ other. omega (arith, room, mul-le-mul-right (rate (s .span) x) le))
+
+  moved-more : (x : Stream) → used (s .span) x ≤ horizon s * rate (s .span) x → used (s .span) x ≤ used (s .span) (moving s q x)
+  unfolding moved closed
+  moved-more x room =
+      by-if (λ y. used (s .span) x ≤ used (s .span) y) _ (closed (s .clock) x) x
+      (λ due.
+      let d : x .deadline .0 ≡ horizon s = eqb-true (x .deadline .0) (horizon s) due in
+      omega (arith, room, ap (λ (z : ℕ). z * rate (s .span) x) d))
+      (λ other. omega arith)
+
+  pub move-keeps-room : Room s → Room (next s q)
+  move-keeps-room room i l =
+      subst (λ (x : Stream). used (s .span) x ≤ horizon (next s q) * rate (s .span) x) (sym (moved-at s q i))
+      (moved-room (horizon (next s q)) (streamAt s i) (horizon-later s q) (room i l))
+
+  pub move-keeps-time : (t : ℕ) → Room s → InTime s t → InTime (next s q) t
+  unfolding closed
+  move-keeps-time t room time =
+      let n = s .count in
+      let rates = sum-agree (rateAt (next s q)) (rateAt s) n
+      (λ i l. ap (rate (s .span)) (moved-at s q i) ∙ moved-keeps (s .clock) (horizon s) (rate (s .span)) (λ x. refl) (streamAt s i)) in
+      let useds = sum-le (usedAt s) (usedAt (next s q)) n
+      (λ i l. subst (λ (x : Stream). usedAt s i ≤ used (s .span) x) (sym (moved-at s q i)) (moved-more (streamAt s i) (room i l))) in
+      subst (λ (sum : ℕ). t * s .span + horizon (next s q) * sum ≤ horizon (next s q) * s .span + sumTo (usedAt (next s q)) n) (sym rates)
+      (later-in-time t (horizon s) (horizon (next s q)) (s .span) (sumTo (rateAt s) n) (sumTo (usedAt s) n) (sumTo (usedAt (next s q)) n)
+      (horizon-later s q) (rates-high s q) useds time)
+
+  -- a clock report: what is used and what remains make up the rates up to the horizon
+  split : (n : ℕ) → n ≤ s .count
+      → horizon s * sumTo (rateAt s) n + sumTo (λ i. streamAt s i .charge .0) n * s .span ≡ sumTo (usedAt s) n + sumTo (scaledPart s) n
+  unfolding sumTo
+  split zero le = omega arith
+  split (suc n) le =
+      let x = streamAt s n in
+      let k : ℕ = horizon s - x .release .0 in
+      let sum : x .release .0 + k ≡ horizon s = omega (arith, bounded s q n le .released) in
+      omega (arith, split n (omega arith), ap (λ (z : ℕ). z * rateAt s n) sum)
+
+  pub clock-keeps-time : (t : ℕ) → t ≤ latest s → InTime s t
+  clock-keeps-time t le =
+      omega (arith, split (s .count) (omega arith), latest-rounds-once s (of-sound s q) .0, mul-le-mul-right (s .span) le)

@@ -1,0 +1,174 @@
+-- What calls and replies tell adds up to what the streams' cells hold.
+use mathlib.Core.Bool.{Bool, true, false}
+use mathlib.Core.List.{List, _∷_}
+use mathlib.Core.Path.{_≡_, refl, sym, _∙_, subst}
+use Prim.Native.Nat.{ℕ, suc, _+_, _*_, _≤_, _<_}
+use native.Mathlib.Omega.{arith}
+use lib.ListN.{length, getD, set}
+use lib.Dec.{eqb}
+use lib.Seq.{getD-set-same, getD-set-other}
+use borrow.Author.Tests.{eqb-true, eqb-false, eq-eqb, ne-eqb}
+use Rattle.table.specs.Fold.{if}
+use Rattle.table.specs.Admission.{reservedAt, periodAt}
+use Rattle.table.specs.declared.Table.{Table}
+use Rattle.session.specs.Stream.{arrived, without, charged, lapsed, closed, moved}
+use Rattle.session.specs.Session.{noStream, streamAt, horizon}
+use Rattle.session.specs.Calls.{Verdict, refuse, append, send, move, wait, expire, finish, set-clock, apply, overlong, late, replyTo, outcome}
+use Rattle.session.specs.Promise.{Moment, closes, closings, dueOf, sinceClosing, durationOf, reported, expiry, chargeOf}
+use Rattle.session.specs.declared.stream.Stream.{Stream}
+use Rattle.session.specs.declared.Session.{Session}
+use Rattle.session.specs.declared.call.Call.{Call}
+use Rattle.session.proofs.Sound.{Sound, admits}
+use Rattle.session.proofs.Grounds.{Grounds}
+use Rattle.session.proofs.Changes.{worked}
+use Rattle.session.proofs.MoveKept.{moved-at}
+use Rattle.session.proofs.Reasons.{Reasons}
+use Rattle.session.proofs.Within.{Plain}
+
+-- a call that comes to a verdict
+abbrev pub momentOf : Session → Call → Verdict → Moment
+momentOf s k v = record { before = s; call = k; answer = outcome s v }
+
+-- how a stream's cells go on where its job is closed or not, with so much reported and so many slots expired
+pub record Follows (closing : Bool) (lasted lost worst : ℕ) (x y : Stream) : Type 0 where
+  pub reserved-same : y .reserved ≡ x .reserved
+  pub period-same : y .period ≡ x .period
+  pub charge-next : y .charge .0 ≡ if closing 0 (x .charge .0 + lasted + worst * lost)
+  pub expired-next : y .expired ≡ if closing 0 (x .expired + lost)
+  pub deadline-next : y .deadline .0 ≡ if closing (x .deadline .0 + x .period) (x .deadline .0)
+
+-- with another charge, expired count and queue
+worked-on : (lasted lost worst : ℕ) (x : Stream) (charge expired queued : ℕ) (places : List ℕ)
+    → charge ≡ x .charge .0 + lasted + worst * lost → expired ≡ x .expired + lost
+    → Follows false lasted lost worst x (worked x charge expired queued places)
+unfolding if
+worked-on lasted lost worst x charge expired queued places charge-is expired-is =
+    record { reserved-same = refl; period-same = refl; charge-next = charge-is; expired-next = expired-is; deadline-next = refl }
+
+-- the streams after one is changed: that one, and the others
+set-at : (P : Stream → Type 0) (xs : List Stream) (j : ℕ) (y : Stream) → j < length xs → (i : ℕ)
+    → (i ≡ j → P y) → ((i ≡ j → ⊥) → P (getD xs i noStream)) → P (getD (set xs j y) i noStream)
+set-at P xs j y l i here other = go (eqb i j) refl
+  where
+    go : (b : Bool) → eqb i j ≡ b → P (getD (set xs j y) i noStream)
+    go true e =
+        let same : i ≡ j = eqb-true i j e in
+        subst (λ (n : ℕ). P (getD (set xs j y) n noStream)) (sym same) (subst P (sym (getD-set-same xs j y noStream l)) (here same))
+    go false e = subst P (sym (getD-set-other xs j i y noStream (eqb-false i j e))) (other (eqb-false i j e))
+
+module _ (s : Session) (q : Sound s) (k : Call) (i : ℕ) where
+  abbrev x : Stream
+  x = streamAt s i
+
+  cell : (j : ℕ) → j < s .count → j < length (s .streams)
+  cell j l = omega (arith, q .eight, admits s q .numbers .count-high)
+
+  -- how stream i goes on at a moment, by what its call and reply tell
+  abbrev pub Told : Verdict → Stream → Type 0
+  Told v y = let m = momentOf s k v in Follows (closes i m) (reported i m) (expiry i m) (s .worst) x y
+
+  -- nothing is told, and nothing changes
+  quiet : Follows false 0 0 (s .worst) x x
+  quiet = worked-on 0 0 (s .worst) x (x .charge .0) (x .expired) (x .queued) (x .places) (omega arith) (omega arith)
+
+  -- stream i is the one at j
+  at : (j lasted lost charge expired queued : ℕ) (places : List ℕ) → i ≡ j
+      → charge ≡ streamAt s j .charge .0 + lasted + s .worst * lost → expired ≡ streamAt s j .expired + lost
+      → Follows false lasted lost (s .worst) x (worked (streamAt s j) charge expired queued places)
+  at j lasted lost charge expired queued places same charge-is expired-is =
+      subst (λ (n : ℕ). Follows false lasted lost (s .worst) (streamAt s n) (worked (streamAt s j) charge expired queued places)) (sym same)
+      (worked-on lasted lost (s .worst) (streamAt s j) charge expired queued places charge-is expired-is)
+
+  refuse-told : (n : ℕ) → n ≤ 15 → Told (refuse n) x
+  unfolding replyTo if
+  refuse-told n low = rw (ne-eqb n 22 (λ e. omega arith), ne-eqb n 23 (λ e. omega arith), ne-eqb n 25 (λ e. omega arith)) quiet
+
+  append-told : (j place : ℕ) → j < s .count → Told (append j place) (streamAt (apply s (append j place)) i)
+  unfolding apply replyTo if arrived
+  append-told j place l = set-at (Told (append j place)) (s .streams) j _ (cell j l) i (λ e. at j 0 0 _ _ _ _ e (omega arith) (omega arith)) (λ e. quiet)
+
+  send-told : (j n : ℕ) → j < s .count → Told (send j n) (streamAt (apply s (send j n)) i)
+  unfolding apply replyTo if without
+  send-told j n l = set-at (Told (send j n)) (s .streams) j _ (cell j l) i (λ e. at j 0 0 _ _ _ _ e (omega arith) (omega arith)) (λ e. quiet)
+
+  move-told : Told move (streamAt (apply s move) i)
+  unfolding apply replyTo if moved closed
+  move-told =
+      subst (Told move) (sym (moved-at s q i))
+      (go (eqb (x .deadline .0) (horizon s)))
+    where
+      go : (b : Bool) → Follows b 0 0 (s .worst) x (if b (closed (s .clock) x) x)
+      go true = record { reserved-same = refl; period-same = refl; charge-next = refl; expired-next = refl; deadline-next = refl }
+      go false = quiet
+
+  expire-told : (j : ℕ) → j < s .count → Told (expire j) (streamAt (apply s (expire j)) i)
+  unfolding apply replyTo if lapsed
+  expire-told j l =
+      set-at (Told (expire j)) (s .streams) j _ (cell j l) i
+      (λ e. rw (eq-eqb (j + 1) (i + 1) (omega arith)) (at j 0 1 _ _ _ _ e (omega arith) refl))
+      (λ e. rw (ne-eqb (j + 1) (i + 1) (λ f. e (omega arith))) quiet)
+
+  finish-told : (j a : ℕ) → j < s .count → overlong s a ≡ false → durationOf k ≡ a → Told (finish j a) (streamAt (apply s (finish j a)) i)
+  unfolding apply replyTo if charged
+  finish-told j a l short lasted =
+      set-at (Told (finish j a)) (s .streams) j _ (cell j l) i
+      (λ e. rw (short, eq-eqb (j + 1) (i + 1) (omega arith), lasted) (at j a 0 _ _ _ _ e (omega arith) (omega arith)))
+      (λ e. rw (short, ne-eqb (j + 1) (i + 1) (λ f. e (omega arith))) quiet)
+
+  clock-told : (t : ℕ) → late s t ≡ false → Told (set-clock t) x
+  unfolding replyTo if
+  clock-told t early = rw early quiet
+
+  -- whatever a call comes to
+  pub told : (v : Verdict) → Grounds s v → Reasons s k v → Plain s v → Told v (streamAt (apply s v) i)
+  unfolding apply replyTo if
+  told (refuse n) g r plain = refuse-told n r
+  told (append j place) g r plain = append-told j place (g .exists)
+  told (send j n) g r plain = send-told j n (g .exists)
+  told move g r plain = move-told
+  told wait g r plain = quiet
+  told (expire j) g r plain = expire-told j (g .exists)
+  told (finish j a) g r plain = finish-told j a (g .exists) plain r
+  told (set-clock t) g r plain = clock-told t plain
+
+-- the cells of stream i hold what the history tells
+pub record Holds (t : Table) (i : ℕ) (past : List Moment) (x : Stream) : Type 0 where
+  pub reserved-is : x .reserved ≡ reservedAt t i
+  pub period-is : x .period ≡ periodAt t i
+  pub charge-is : x .charge .0 ≡ chargeOf t i past
+  pub expired-is : x .expired ≡ sinceClosing expiry i past
+  pub deadline-is : x .deadline .0 ≡ dueOf t i past
+
+-- how the three sums over the history go on
+charge-adds-up : (b : Bool) (next charge lasted lasted-before lost lost-before worst : ℕ) → next ≡ if b 0 (charge + lasted + worst * lost)
+    → charge ≡ lasted-before + worst * lost-before → next ≡ if b 0 (lasted + lasted-before) + worst * if b 0 (lost + lost-before)
+unfolding if
+charge-adds-up true next charge lasted lasted-before lost lost-before worst e f = omega arith
+charge-adds-up false next charge lasted lasted-before lost lost-before worst e f = omega arith
+
+expired-adds-up : (b : Bool) (next expired lost lost-before : ℕ) → next ≡ if b 0 (expired + lost) → expired ≡ lost-before
+    → next ≡ if b 0 (lost + lost-before)
+unfolding if
+expired-adds-up true next expired lost lost-before e f = e
+expired-adds-up false next expired lost lost-before e f = omega arith
+
+deadline-adds-up : (b : Bool) (next deadline period closings : ℕ) → next ≡ if b (deadline + period) deadline → deadline ≡ suc closings * period
+    → next ≡ suc (if b (suc closings) closings) * period
+unfolding if
+deadline-adds-up true next deadline period closings e f = omega arith
+deadline-adds-up false next deadline period closings e f = omega arith
+
+-- so the cells go on holding it
+pub holds-on : (t : Table) (i : ℕ) (past : List Moment) (m : Moment) (x y : Stream) → Holds t i past x
+    → Follows (closes i m) (reported i m) (expiry i m) (t .worst) x y → Holds t i (m ∷ past) y
+unfolding chargeOf sinceClosing dueOf closings
+holds-on t i past m x y held f =
+    record {
+      reserved-is = f .reserved-same ∙ held .reserved-is;
+      period-is = f .period-same ∙ held .period-is;
+      charge-is = charge-adds-up (closes i m) (y .charge .0) (x .charge .0) (reported i m) (sinceClosing reported i past) (expiry i m) (sinceClosing expiry i past)
+          (t .worst) (f .charge-next) (held .charge-is);
+      expired-is = expired-adds-up (closes i m) (y .expired) (x .expired) (expiry i m) (sinceClosing expiry i past) (f .expired-next) (held .expired-is);
+      deadline-is = deadline-adds-up (closes i m) (y .deadline .0) (x .deadline .0) (periodAt t i) (closings i past)
+          (subst (λ (p : ℕ). y .deadline .0 ≡ if (closes i m) (x .deadline .0 + p) (x .deadline .0)) (held .period-is) (f .deadline-next)) (held .deadline-is);
+    }

@@ -1,0 +1,45 @@
+-- What else a verdict on a sound session rests on, for the promise: why a move, why an expiry, and whose duration.
+use mathlib.Core.Bool.{true, false}
+use mathlib.Core.Path.{_≡_, refl}
+use Prim.Native.Nat.{_≤_}
+use Rattle.table.specs.Refusal.{given, _or-next_}
+use Rattle.table.proofs.Tests.{by-if}
+use Rattle.session.specs.Session.{someFilled, noSlot}
+use Rattle.session.specs.Calls.{Verdict, refuse, append, send, move, wait, expire, finish, set-clock, callRefusal, refusal, turnEffect, effect, verdict}
+use Rattle.session.specs.Promise.{durationOf}
+use Rattle.session.specs.declared.Session.{Session}
+use Rattle.session.specs.declared.call.Call.{Call}
+use Rattle.session.proofs.Sound.{Sound, of-sound}
+use Rattle.session.proofs.Grounds.{call-refusal-high, ruled-by}
+
+-- a refusal is at most 15; a move finds no slot; an expiry finds no filled one; a completion has the duration of its call
+abbrev pub Reasons : Session → Call → Verdict → Type 0
+Reasons s k (refuse n) = n ≤ 15
+Reasons s k (append i place) = Unit {0}
+Reasons s k (send i j) = Unit {0}
+Reasons s k move = noSlot s ≡ true
+Reasons s k wait = Unit {0}
+Reasons s k (expire i) = someFilled s ≡ false
+Reasons s k (finish i a) = durationOf k ≡ a
+Reasons s k (set-clock t) = Unit {0}
+
+turn-reasons : (s : Session) → Reasons s Call.Turn (turnEffect s)
+unfolding turnEffect
+turn-reasons s =
+    by-if (Reasons s Call.Turn) (someFilled s) _ _ (λ some. tt)
+    (λ none.
+    by-if (Reasons s Call.Turn) (noSlot s) _ _ (λ over. over)
+    (λ left. by-if (Reasons s Call.Turn) _ wait _ (λ early. tt) (λ due. none)))
+
+effect-reasons : (s : Session) (k : Call) → Reasons s k (effect s k)
+unfolding effect
+effect-reasons s (Call.Arrival n place) = tt
+effect-reasons s Call.Turn = turn-reasons s
+effect-reasons s (Call.OwnTurn n j) = tt
+effect-reasons s (Call.Done a) = refl
+effect-reasons s (Call.Clock t) = tt
+
+pub verdict-reasons : (s : Session) → Sound s → (k : Call) → Reasons s k (verdict s k)
+unfolding verdict refusal given _or-next_
+verdict-reasons s q k =
+    rw (of-sound s q) (ruled-by (Reasons s k) (callRefusal s k) (effect s k) (call-refusal-high s k) (λ none. effect-reasons s k))

@@ -30,3 +30,4 @@ pub mod Reasons
 pub mod Within
 pub mod Histories
 pub mod Promise
+pub mod PromiseMet

@@ -1,11 +1,11 @@
 -- While no completion is overlong and no clock report late, each call keeps both halves of the promise's invariant.
-use mathlib.Core.Bool.{Bool, true, false}
+use mathlib.Core.Bool.{Bool, true, false, _&&_}
 use mathlib.Core.List.{List}
 use mathlib.Core.Path.{_≡_, refl}
+use mathlib.Core.Logic.{_⊎_, inl, inr, ⊎-elim}
 use Prim.Native.Nat.{ℕ, _+_, _*_, _≤_, _<_}
 use native.Mathlib.Nat.{mul-le-mul-right}
 use native.Mathlib.Omega.{arith}
-use lib.Dec.{ltb}
 use borrow.Author.Tests.{ltb-false}
 use Rattle.session.specs.Stream.{withQueue, arrived, without, charged, lapsed}
 use Rattle.session.specs.Session.{streamAt, horizon, latest, withStream}
@@ -21,6 +21,10 @@ use Rattle.session.proofs.HalvesKept.{charge-keeps-room, charge-keeps-t
 pub record Safe (s : Session) : Type 0 where
   pub room : Room s
   pub time : InTime s (s .clock .0)
+
+not-both : (a b : Bool) → (a && b) ≡ false → (a ≡ false) ⊎ (b ≡ false)
+not-both true b h = inr h
+not-both false b h = inl refl
 
 -- no completion is overlong and no clock report late
 abbrev pub Plain : Session → Verdict → Type 0
@@ -80,13 +84,14 @@ module _ (s : Session) (q : Sound s) (safe : Safe s) where
   -- a clock report that is not late is at most L, or at most the clock
   set-clock-safe : (t : ℕ) → late s t ≡ false → Safe (apply s (set-clock t))
   unfolding apply horizon late
-  set-clock-safe t early = record { room = safe .room; time = go (ltb (latest s) t) refl }
-    where
-      go : (b : Bool) → ltb (latest s) t ≡ b → InTime s t
-      go true after-l =
-          let le : t ≤ s .clock .0 = ltb-false (s .clock .0) t (rw after-l at early) in
-          omega (arith, safe .time, mul-le-mul-right (s .span) le)
-      go false by-l = clock-keeps-time s q t (ltb-false (latest s) t by-l)
+  set-clock-safe t early =
+      record {
+        room = safe .room;
+        time = ⊎-elim
+            (λ by-latest. clock-keeps-time s q t (ltb-false (latest s) t by-latest))
+            (λ by-clock. omega (arith, safe .time, mul-le-mul-right (s .span) (ltb-false (s .clock .0) t by-clock)))
+            (not-both _ _ early);
+      }
 
   pub effect-safe : (v : Verdict) → Grounds s v → Plain s v → Safe (apply s v)
   unfolding apply

@@ -18,6 +18,7 @@ use Rattle.session.specs.Session.{streamAt, horizon, slotsAt, filledAt, 
 use Rattle.session.specs.Calls.{Verdict, refuse, append, send, move, wait, expire, finish, set-clock, verdict, apply, overlong, late, replyTo, numberOf, streamOf, answerTo, after}
 use Rattle.session.specs.Opening.{freshStream, freshSession, openingOf}
 use Rattle.session.specs.Promise.{Moment, historyFrom, historyOf, replied, repliedFor, withinBounds, closes, closings, dueOf, sinceClosing, reported, expiry, chargeOf, budgetOf, ClosedWell, Promise}
+use Rattle.session.specs.declared.time.Clock.{Clock}
 use Rattle.session.specs.declared.stream.Stream.{Stream}
 use Rattle.session.specs.declared.Session.{Session}
 use Rattle.session.specs.declared.call.Call.{Call}
@@ -108,6 +109,12 @@ table-same s (expire i) = (refl, refl, refl)
 table-same s (finish i a) = (refl, refl, refl)
 table-same s (set-clock t) = (refl, refl, refl)
 
+-- what the record of a job says as it closes
+record-written : (now : Clock) (x : Stream)
+    → closed now x .last ≡ record { charge = x .charge; closed = now; deadline = x .deadline; expired = x .expired }
+unfolding closed
+record-written now x = refl
+
 module _ (t : Table) (s : Session) (past : List Moment) (kept : Kept t s past) where
   -- the budget of the session is that of the table as it was opened
   budget-is : (i : ℕ) → i < t .count → streamAt s i .granted .0 ≡ budgetOf t i
@@ -117,7 +124,7 @@ module _ (t : Table) (s : Session) (past : List Moment) (kept : Kept t s past) w
 
   -- a move closes a job as promised
   closed-well : (k : Call) → noSlot s ≡ true → (i : ℕ) → i < t .count → streamAt s i .deadline .0 ≡ horizon s → ClosedWell t i (momentOf s k move) past
-  unfolding apply moved closed if noSlot
+  unfolding apply moved if noSlot
   closed-well k over i l due =
       let q = kept .orderly in
       let here : i < s .count = omega (arith, kept .count-is) in
@@ -133,6 +140,7 @@ module _ (t : Table) (s : Session) (past : List Moment) (kept : Kept t s past) w
         recorded =
             ap (λ (y : Stream). y .last) (moved-at s q i)
             ∙ ap (λ (b : Bool). if b (closed (s .clock) x) x .last) (eq-eqb (x .deadline .0) (horizon s) due)
+            ∙ record-written (s .clock) x
             ∙ λ j. record {
               charge = diskTime (held .charge-is j);
               closed = s .clock;

@@ -2,3 +2,4 @@ pub mod Tests
 pub mod Folds
 pub mod Lists
 pub mod Judged
+pub mod LentTables

@@ -2,3 +2,4 @@ pub mod Fold
 pub mod Refusal
 pub mod Ranges
 pub mod Admission
+pub mod Reservations

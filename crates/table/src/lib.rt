@@ -1,7 +1,13 @@
 // Reservation tables: their numbers, the ranges of these, and which are admitted.
+mod reservations;
+
 ghost use mathlib.Core.Path.{_≡_};
 ghost use Prim.Native.Nat.{_*_, _≤_};
 ghost use Rattle.table.specs.Admission.{paddingOf, grantedOf, shareOf, sharesOf, smallestPeriod, loadOf, numbersRefusal, streamRefusal, streamsRefusal, admissionOf, answered};
+pub use reservations::Records;
+pub use reservations::Reservation;
+pub use reservations::record_at;
+pub use reservations::take_in;
 
 // The numbers of a table, as booked. Of its eight places for streams the first `count` are used.
 pub struct Table {

@@ -31,3 +31,4 @@ pub mod Within
 pub mod Histories
 pub mod Promise
 pub mod PromiseMet
+pub mod Lending

@@ -5,6 +5,7 @@ mod census;
 mod choice;
 mod effects;
 mod expiry;
+mod lent;
 mod moves;
 mod soundness;
 mod stream;

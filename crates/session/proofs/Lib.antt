@@ -32,3 +32,4 @@ pub mod Histories
 pub mod Promise
 pub mod PromiseMet
 pub mod Lending
+pub mod Answering

@@ -11,6 +11,7 @@ mod soundness;
 mod stream;
 mod survey;
 mod time;
+mod view;
 
 ghost use mathlib.Core.Path.{_≡_};
 ghost use Prim.Native.Nat.{_<_};
@@ -26,6 +27,9 @@ use table::Admission;
 use table::Table;
 pub use time::Charge;
 pub use time::Clock;
+pub use view::Closing;
+pub use view::State;
+pub use view::View;
 
 // The first `count` of the eight streams are used. `served` is the stream whose request is at the disk, counted from 1, or 0.
 pub struct Session {

@@ -8,6 +8,7 @@ ghost use Rattle.session.specs.Time.{session-end};
 ghost use Rattle.session.specs.Bounds.{Bounded};
 ghost use Rattle.session.specs.Opening.{freshStream};
 
+#[repr(C)]
 pub struct Job {
     pub charge: Charge,
     pub closed: Clock,
@@ -16,6 +17,7 @@ pub struct Job {
 }
 
 // The first `queued` of the sixteen places are used, in order of arrival.
+#[repr(C)]
 pub struct Stream {
     pub reserved: u32,
     pub period: u32,

@@ -5,9 +5,11 @@ ghost use lib.Dec.{leb, ltb, eqb};
 ghost use Rattle.session.specs.Time.{moment, diskTime, session-end, duration-max};
 
 // A moment of clock time.
+#[repr(C)]
 pub struct Clock(u64);
 
 // An amount of disk time.
+#[repr(C)]
 pub struct Charge(u64);
 
 impl Clock {

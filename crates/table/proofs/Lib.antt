@@ -3,3 +3,4 @@ pub mod Folds
 pub mod Lists
 pub mod Judged
 pub mod LentTables
+pub mod Taking

@@ -10,6 +10,7 @@ pub use reservations::record_at;
 pub use reservations::take_in;
 
 // The numbers of a table, as booked. Of its eight places for streams the first `count` are used.
+#[repr(C)]
 pub struct Table {
     pub worst: u32,
     pub span: u32,

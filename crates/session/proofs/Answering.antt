@@ -1,0 +1,26 @@
+-- Sessions, replies and answers as the law of a thin call takes them.
+use denote.Enum.Laws as EL
+use Rattle.session.specs.declared.call.Answer.{Answer}
+use Rattle.session.proofs.Session as S
+use Rattle.session.proofs.Session.Laws as S′
+use Rattle.session.proofs.call.Reply as Y
+use Rattle.session.proofs.call.Reply.Laws as Y′
+use Rattle.session.proofs.call.Answer as A
+use Rattle.session.proofs.Lending.{Answering}
+
+abbrev pub by-session : Answering
+by-session =
+    record {
+      session-type = S.the-type;
+      session-laws = S′.the-laws;
+      session-plain = S′.the-plain;
+      session-lowered = S′.lowers;
+      reply-kind = record { ty = Y′.mir; held = Y.the-field .row; Value = Y.the-field .Value; into = Y.the-field .into; into-one = Y.the-field .into-one };
+      reply-laws = Y′.the-field-laws;
+      reply-makes = λ M 𝓤 H A. EL.makes Y.the-type Y′.the-plain 𝓤 H A;
+      name = A.the-type .name;
+      Answer = Answer;
+      session = λ a. a .session;
+      reply = λ a. a .reply;
+      one = A.the-type .to-one;
+    }

@@ -1,0 +1,69 @@
+-- `Session::state` shows a stream of a sound session, or refuses by 31 and 8: each way out rewrites the tests that led there.
+use mathlib.Core.Bool.{true}
+use mathlib.Core.Path.{_≡_, sym, _∙_}
+use Prim.Native.Nat.{_-_, _≤_, _<_}
+use native.Mathlib.Omega.{arith}
+use borrow.Author.Needs.{needs}
+use borrow.Author.Tests.{not-true, not-false}
+use Rattle.table.specs.Fold.{if}
+use Rattle.table.specs.Refusal.{given, _or-next_}
+use Rattle.session.specs.Session.{sound}
+use Rattle.session.specs.Calls.{noSuchStream}
+use Rattle.session.specs.View.{stateRefusal, stateOf}
+use Rattle.session.proofs.Grounds.{named}
+use Rattle.session.proofs.Sound.{count-high}
+use Rattle.session.proofs.Session.state.Statement.{statement}
+use Rattle.session.proofs.Session.state.Tie as tie
+
+judge-requires : tie.Need-judge-requires
+judge-requires c κs = search needs
+
+fresh-requires : tie.Need-fresh-requires
+fresh-requires c κs = search needs
+
+returns : tie.Need-returns
+unfolding stateOf stateRefusal given _or-next_ if
+returns c =
+    rw (sym (c .before .before .before .judge .ensures .0) ∙ not-true _ (c .if1 .taken), c .before .before .fresh .ensures)
+
+-- past 31 the session is sound
+ok : (c : tie.Else1) → sound (c .before .before .before .before .args .self) ≡ true
+ok c = sym (c .before .before .before .judge .ensures .0) ∙ not-false _ (c .if1 .left)
+
+returns-2 : tie.Need-returns-2
+unfolding stateOf stateRefusal given _or-next_ noSuchStream if
+returns-2 c = rw (ok (c .before), c .if2 .taken, c .before .before .before .fresh .ensures)
+
+-- past 8 the stream is one of the eight
+exists : (c : tie.Else2) → let a = c .before .before .before .before .before .args in (1 ≤ a .stream) × (a .stream - 1 < 8)
+unfolding noSuchStream
+exists c =
+    let a = c .before .before .before .before .before .args in
+    let n = named (a .self) (a .stream) (c .if2 .left) in
+    (n .0, omega (arith, n, count-high (a .self) (ok (c .before))))
+
+sub-i : tie.Need-sub-i
+sub-i c = exists c .0
+
+mul-x : tie.Need-mul-x
+mul-x c = omega (arith, exists (c .before))
+
+array-copy-out-x : tie.Need-array-copy-out-x
+array-copy-out-x c = exists (c .before) .1
+
+returns-3 : tie.Need-returns-3
+unfolding stateOf stateRefusal given _or-next_ noSuchStream if
+returns-3 c = rw (ok (c .before .before .before), c .before .before .if2 .left)
+
+pub state-spec : {M : Type 1} → statement M
+state-spec =
+    tie.close
+    (tie.spec
+    judge-requires
+    fresh-requires
+    returns
+    returns-2
+    sub-i
+    mul-x
+    array-copy-out-x
+    returns-3)

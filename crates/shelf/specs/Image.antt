@@ -1,0 +1,86 @@
+-- A session as numbers alone, and what is answered to it.
+use Prim.Native.Nat.{ℕ}
+use lib.Dec.{eqb}
+use Rattle.table.specs.Fold.{if}
+use Rattle.table.specs.declared.Table.{Table}
+use Rattle.table.specs.declared.Admission.{Admission}
+use Rattle.table.specs.declared.Admission.the-variants.{Admitted, Refused}
+use Rattle.session.specs.Opening.{zeroSession, openingOf}
+use Rattle.session.specs.Calls.{numberOf, valueOf, streamOf, answerTo}
+use Rattle.session.specs.View.{viewOf, stateOf, closingOf}
+use Rattle.session.specs.declared.Session.{Session}
+use Rattle.session.specs.declared.call.Call.{Call}
+use Rattle.session.specs.declared.call.Reply.{Reply}
+use Rattle.session.specs.declared.call.Answer.{Answer}
+use Rattle.session.specs.declared.view.View.{View}
+use Rattle.session.specs.declared.view.State.{State}
+use Rattle.session.specs.declared.view.Closing.{Closing}
+use Rattle.shelf.specs.declared.images.Image.{Image}
+use Rattle.shelf.specs.declared.images.Told.{Told}
+use Rattle.shelf.specs.declared.images.Answered.{Answered}
+use Rattle.shelf.specs.declared.images.Opening.{Opening}
+
+-- the number of the one order there is, nearest first
+abbrev pub nearest-first : ℕ
+nearest-first = 0
+
+unfoldable pub imageOf : Session → Image
+imageOf s =
+    record {
+      worst = s .worst;
+      span = s .span;
+      padding = s .padding;
+      order = nearest-first;
+      count = s .count;
+      clock = s .clock;
+      head = s .head;
+      served = s .served;
+      place = s .place;
+      streams = s .streams;
+    }
+
+-- the session that the other numbers make
+unfoldable pub sessionOf : Image → Session
+sessionOf i =
+    record {
+      worst = i .worst;
+      span = i .span;
+      padding = i .padding;
+      count = i .count;
+      clock = i .clock;
+      head = i .head;
+      served = i .served;
+      place = i .place;
+      streams = i .streams;
+    }
+
+abbrev pub refusalIn : Admission → ℕ
+refusalIn Admitted = 0
+refusalIn (Refused n) = n
+
+unfoldable pub openedAs : Table → Opening
+openedAs t = record { number = refusalIn (openingOf t .admission); session = imageOf (openingOf t .session) }
+
+-- a reply to a call as three numbers
+unfoldable pub toldAs : Call → Reply → Told
+toldAs k r = record { number = numberOf r; stream = streamOf k r; value = valueOf r }
+
+-- What a call is answered. An image whose order stands for none is refused 31, and is what it was.
+unfoldable pub answeredAs : Image → Call → Answered
+answeredAs i k =
+    if (eqb (i .order) nearest-first)
+    (record { session = imageOf (answerTo (sessionOf i) k .session); reply = toldAs k (answerTo (sessionOf i) k .reply) })
+    (record { session = i; reply = toldAs k (Reply.Refused 31) })
+
+-- the session that an image shows: one whose order stands for none shows the all-zero one, which is not sound
+unfoldable pub shownOf : Image → Session
+shownOf i = if (eqb (i .order) nearest-first) (sessionOf i) zeroSession
+
+abbrev pub viewedAs : Image → View
+viewedAs i = viewOf (shownOf i)
+
+abbrev pub stateAs : Image → ℕ → State
+stateAs i n = stateOf (shownOf i) n
+
+abbrev pub closingAs : Image → ℕ → Closing
+closingAs i n = closingOf (shownOf i) n

@@ -1,0 +1,178 @@
+// What is answered to an image, by value.
+ghost use mathlib.Core.Path.{_≡_};
+ghost use Rattle.table.specs.Reservations.{tableOf};
+ghost use Rattle.shelf.specs.Image.{refusalIn, openedAs, toldAs, answeredAs, shownOf, viewedAs, stateAs, closingAs};
+ghost use Rattle.shelf.specs.Filed.{readAs, writtenAs};
+use crate::Answered;
+use crate::Filed;
+use crate::Image;
+use crate::Opening;
+use crate::Told;
+use crate::Wrote;
+use file::Reading;
+use file::Writing;
+use session::Call;
+use session::Closing;
+use session::Reply;
+use session::Session;
+use session::State;
+use session::View;
+use table::Admission;
+use table::Records;
+
+// A session opened with what was taken of a table.
+pub(crate) fn open(worst: u32, span: u32, padding: u32, records: Records) -> Opening
+    ensures { λ r. ⌜ r ≡ openedAs (tableOf worst span padding (records .rows) (records .count)) ⌝ }
+{
+    let opened = Session::open_taken(worst, span, padding, records);
+    let session = Image::of(opened.session);
+    let number = refusal(opened.admission);
+    Opening {
+        number: number,
+        session: session,
+    }
+}
+
+// 0, or the number of a refusal.
+fn refusal(admission: Admission) -> u64
+    ensures { λ r. ⌜ r ≡ refusalIn admission ⌝ }
+{
+    match admission {
+        Admission::Admitted => 0,
+        Admission::Refused(number) => number,
+    }
+}
+
+// A reply to a call, as numbers.
+fn told(reply: Reply, call: Call) -> Told
+    ensures { λ r. ⌜ r ≡ toldAs call reply ⌝ }
+{
+    Told {
+        number: reply.number(),
+        stream: reply.stream(call),
+        value: reply.value(),
+    }
+}
+
+// Any call; an image that stands for no session is refused 31 and handed back.
+fn answer(image: Image, call: Call) -> Answered
+    ensures { λ r. ⌜ r ≡ answeredAs image call ⌝ }
+{
+    if image.order != Image::NEAREST {
+        let reply = told(Reply::Refused { number: 31 }, call);
+        return Answered {
+            session: image,
+            reply: reply,
+        };
+    }
+    let session = image.session();
+    let answer = session.call(call);
+    let after = Image::of(answer.session);
+    let reply = told(answer.reply, call);
+    Answered {
+        session: after,
+        reply: reply,
+    }
+}
+
+pub(crate) fn arrival(image: Image, stream: u64, place: u64) -> Answered
+    ensures { λ r. ⌜ r ≡ answeredAs image (Call.Arrival stream place) ⌝ }
+{
+    answer(image, Call::Arrival { stream, place })
+}
+
+pub(crate) fn turn(image: Image) -> Answered
+    ensures { λ r. ⌜ r ≡ answeredAs image Call.Turn ⌝ }
+{
+    answer(image, Call::Turn)
+}
+
+pub(crate) fn own_turn(image: Image, stream: u64, index: u64) -> Answered
+    ensures { λ r. ⌜ r ≡ answeredAs image (Call.OwnTurn stream index) ⌝ }
+{
+    answer(image, Call::OwnTurn { stream, index })
+}
+
+pub(crate) fn done(image: Image, duration: u64) -> Answered
+    ensures { λ r. ⌜ r ≡ answeredAs image (Call.Done duration) ⌝ }
+{
+    answer(image, Call::Done { duration })
+}
+
+pub(crate) fn clock(image: Image, time: u64) -> Answered
+    ensures { λ r. ⌜ r ≡ answeredAs image (Call.Clock time) ⌝ }
+{
+    answer(image, Call::Clock { time })
+}
+
+// The session to be shown: one that stands for none is shown as the all-zero session, which is not sound.
+fn shown(image: Image) -> Session
+    ensures { λ r. ⌜ r ≡ shownOf image ⌝ }
+{
+    if image.order != Image::NEAREST {
+        return Session::zero();
+    }
+    image.session()
+}
+
+pub(crate) fn view(image: Image) -> View
+    ensures { λ r. ⌜ r ≡ viewedAs image ⌝ }
+{
+    let session = shown(image);
+    session.view()
+}
+
+pub(crate) fn state(image: Image, stream: u64) -> State
+    ensures { λ r. ⌜ r ≡ stateAs image stream ⌝ }
+{
+    let session = shown(image);
+    session.state(stream)
+}
+
+pub(crate) fn closing(image: Image, stream: u64) -> Closing
+    ensures { λ r. ⌜ r ≡ closingAs image stream ⌝ }
+{
+    let session = shown(image);
+    session.closing(stream)
+}
+
+pub(crate) fn filed(reading: Reading) -> Filed
+    ensures { λ r. ⌜ r ≡ readAs reading ⌝ }
+{
+    match reading {
+        Reading::LaidOut {
+            count,
+            start,
+            end,
+            events,
+        } => Filed {
+            number: 0,
+            count: count,
+            start: start,
+            end: end,
+            events: events,
+        },
+        Reading::Refused(number) => Filed {
+            number: number,
+            count: 0,
+            start: 0,
+            end: 0,
+            events: 0,
+        },
+    }
+}
+
+pub(crate) fn written(writing: Writing) -> Wrote
+    ensures { λ r. ⌜ r ≡ writtenAs writing ⌝ }
+{
+    match writing {
+        Writing::Written(length) => Wrote {
+            number: 0,
+            length: length,
+        },
+        Writing::Refused(number) => Wrote {
+            number: number,
+            length: 0,
+        },
+    }
+}

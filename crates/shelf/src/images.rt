@@ -1,0 +1,101 @@
+// What crosses to C and Rust: structs of numbers, with their fields in order.
+ghost use mathlib.Core.Path.{_≡_};
+ghost use Rattle.shelf.specs.Image.{sessionOf, imageOf};
+use session::Clock;
+use session::Session;
+use session::Stream;
+
+// A session. The order of choice is 0, nearest first; another number stands for none.
+#[repr(C)]
+pub struct Image {
+    pub worst: u32,
+    pub span: u32,
+    pub padding: u32,
+    pub order: u32,
+    pub count: usize,
+    pub clock: Clock,
+    pub head: u64,
+    pub served: usize,
+    pub place: u64,
+    pub streams: [Stream; 8],
+}
+
+// A reply: its number, the stream that it is about, and its value.
+#[repr(C)]
+pub struct Told {
+    pub number: u64,
+    pub stream: u64,
+    pub value: u64,
+}
+
+// What a call comes to.
+pub struct Answered {
+    pub session: Image,
+    pub reply: Told,
+}
+
+// A session that was opened, and 0; or the refusal, and the all-zero session.
+#[repr(C)]
+pub struct Opening {
+    pub number: u64,
+    pub session: Image,
+}
+
+// The parts of a session file, and 0; or the refusal, and zeros.
+#[repr(C)]
+pub struct Filed {
+    pub number: u64,
+    pub count: usize,
+    pub start: usize,
+    pub end: usize,
+    pub events: usize,
+}
+
+// How long the file is that was written, and 0; or the refusal, and 0.
+#[repr(C)]
+pub struct Wrote {
+    pub number: u64,
+    pub length: usize,
+}
+
+impl Image {
+    pub const NEAREST: u32 = 0;
+
+    pub fn of(s: Session) -> Image
+        ensures { λ r. ⌜ r ≡ imageOf s ⌝ }
+    {
+        let clock = s.clock;
+        let streams = s.streams;
+        Image {
+            worst: s.worst,
+            span: s.span,
+            padding: s.padding,
+            order: Self::NEAREST,
+            count: s.count,
+            clock: clock,
+            head: s.head,
+            served: s.served,
+            place: s.place,
+            streams: streams,
+        }
+    }
+
+    // The session that the numbers stand for.
+    pub fn session(self) -> Session
+        ensures { λ r. ⌜ r ≡ sessionOf self ⌝ }
+    {
+        let clock = self.clock;
+        let streams = self.streams;
+        Session {
+            worst: self.worst,
+            span: self.span,
+            padding: self.padding,
+            count: self.count,
+            clock: clock,
+            head: self.head,
+            served: self.served,
+            place: self.place,
+            streams: streams,
+        }
+    }
+}

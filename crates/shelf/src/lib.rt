@@ -1,0 +1,141 @@
+// What products in C and Rust link. A session crosses as an image of numbers, since an enum cannot.
+mod answers;
+mod images;
+
+ghost use mathlib.Core.Path.{_≡_};
+ghost use Rattle.table.specs.Reservations.{lentTable};
+ghost use Rattle.file.specs.Reading.{readOf, tableIn};
+ghost use Rattle.file.specs.Writing.{writeOf, writtenOn};
+ghost use Rattle.shelf.specs.Image.{openedAs, answeredAs, viewedAs, stateAs, closingAs};
+ghost use Rattle.shelf.specs.Filed.{readAs, writtenAs};
+use answers::arrival;
+use answers::clock;
+use answers::closing;
+use answers::done;
+use answers::filed;
+use answers::open;
+use answers::own_turn;
+use answers::state;
+use answers::turn;
+use answers::view;
+use answers::written;
+pub use images::Answered;
+pub use images::Filed;
+pub use images::Image;
+pub use images::Opening;
+pub use images::Told;
+pub use images::Wrote;
+use session::Call;
+use session::Closing;
+use session::State;
+use session::View;
+use table::Reservation;
+use table::Table;
+use table::take_in;
+
+// Opens a session with W, H, k and a lent table of any length.
+#[no_mangle]
+pub extern "C" fn yerbagunt_open(
+    worst: u32,
+    span: u32,
+    padding: u32,
+    table: &[Reservation],
+) -> Opening
+    ensures { λ r. ⌜ r ≡ openedAs (lentTable worst span padding (now (table .entry))) ⌝ }
+{
+    open(worst, span, padding, take_in(table))
+}
+
+#[no_mangle]
+pub extern "C" fn yerbagunt_arrival(session: &mut Image, stream: u64, place: u64) -> Told
+    ensures { λ r. ⌜ (r ≡ answeredAs (now (session .entry)) (Call.Arrival stream place) .reply) × (now (session .exit) ≡ answeredAs (now (session .entry)) (Call.Arrival stream place) .session) ⌝ }
+{
+    let a = arrival(*session, stream, place);
+    *session = a.session;
+    a.reply
+}
+
+#[no_mangle]
+pub extern "C" fn yerbagunt_turn(session: &mut Image) -> Told
+    ensures { λ r. ⌜ (r ≡ answeredAs (now (session .entry)) Call.Turn .reply) × (now (session .exit) ≡ answeredAs (now (session .entry)) Call.Turn .session) ⌝ }
+{
+    let a = turn(*session);
+    *session = a.session;
+    a.reply
+}
+
+#[no_mangle]
+pub extern "C" fn yerbagunt_own_turn(session: &mut Image, stream: u64, index: u64) -> Told
+    ensures { λ r. ⌜ (r ≡ answeredAs (now (session .entry)) (Call.OwnTurn stream index) .reply) × (now (session .exit) ≡ answeredAs (now (session .entry)) (Call.OwnTurn stream index) .session) ⌝ }
+{
+    let a = own_turn(*session, stream, index);
+    *session = a.session;
+    a.reply
+}
+
+#[no_mangle]
+pub extern "C" fn yerbagunt_done(session: &mut Image, duration: u64) -> Told
+    ensures { λ r. ⌜ (r ≡ answeredAs (now (session .entry)) (Call.Done duration) .reply) × (now (session .exit) ≡ answeredAs (now (session .entry)) (Call.Done duration) .session) ⌝ }
+{
+    let a = done(*session, duration);
+    *session = a.session;
+    a.reply
+}
+
+#[no_mangle]
+pub extern "C" fn yerbagunt_clock(session: &mut Image, time: u64) -> Told
+    ensures { λ r. ⌜ (r ≡ answeredAs (now (session .entry)) (Call.Clock time) .reply) × (now (session .exit) ≡ answeredAs (now (session .entry)) (Call.Clock time) .session) ⌝ }
+{
+    let a = clock(*session, time);
+    *session = a.session;
+    a.reply
+}
+
+// The clock, the horizon and the latest safe moment of a session.
+#[no_mangle]
+pub extern "C" fn yerbagunt_view(session: Image) -> View
+    ensures { λ r. ⌜ r ≡ viewedAs session ⌝ }
+{
+    view(session)
+}
+
+// A stream of a session, counted from 1.
+#[no_mangle]
+pub extern "C" fn yerbagunt_stream(session: Image, stream: u64) -> State
+    ensures { λ r. ⌜ r ≡ stateAs session stream ⌝ }
+{
+    state(session, stream)
+}
+
+// The last job that a stream, counted from 1, closed.
+#[no_mangle]
+pub extern "C" fn yerbagunt_last_job(session: Image, stream: u64) -> Closing
+    ensures { λ r. ⌜ r ≡ closingAs session stream ⌝ }
+{
+    closing(session, stream)
+}
+
+// Where the parts of a session file are. Every event is judged, and no number of the table but its count.
+#[no_mangle]
+pub extern "C" fn yerbagunt_read(file: &[u8]) -> Filed
+    ensures { λ r. ⌜ r ≡ readAs (readOf (now (file .entry))) ⌝ }
+{
+    filed(file::read(file))
+}
+
+// The table of a session file, from any bytes.
+#[no_mangle]
+pub extern "C" fn yerbagunt_table(file: &[u8]) -> Table
+    ensures { λ r. ⌜ r ≡ tableIn (now (file .entry)) ⌝ }
+{
+    file::table_of(file)
+}
+
+// Writes the file of a table and a trace at the start of a buffer.
+#[no_mangle]
+pub extern "C" fn yerbagunt_write(table: Table, trace: &[u8], out: &mut [u8]) -> Wrote
+    ensures { λ r. ⌜ r ≡ writtenAs (writeOf table (now (trace .entry)) (now (out .entry))) ⌝ }
+    ensures { λ _. ⌜ now (out .exit) ≡ writtenOn table (now (trace .entry)) (now (out .entry)) ⌝ }
+{
+    written(file::write(table, trace, out))
+}

@@ -1,2 +1,3 @@
 pub mod Image
 pub mod Filed
+pub mod Laws

@@ -26,7 +26,8 @@ pub(crate) fn open(worst: u32, span: u32, padding: u32, records: Records) -> Ope
 {
     let opened = Session::open_taken(worst, span, padding, records);
     let session = Image::of(opened.session);
-    let number = refusal(opened.admission);
+    let admission = opened.admission;
+    let number = refusal(admission);
     Opening {
         number: number,
         session: session,
@@ -68,7 +69,8 @@ fn answer(image: Image, call: Call) -> Answered
     let session = image.session();
     let answer = session.call(call);
     let after = Image::of(answer.session);
-    let reply = told(answer.reply, call);
+    let answered = answer.reply;
+    let reply = told(answered, call);
     Answered {
         session: after,
         reply: reply,

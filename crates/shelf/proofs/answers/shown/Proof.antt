@@ -1,0 +1,24 @@
+-- `shown` judges the order.
+use borrow.Author.Needs.{needs}
+use borrow.Author.Tests.{eq-eqb, ne-eqb}
+use Rattle.table.specs.Fold.{if}
+use Rattle.shelf.specs.Image.{shownOf}
+use Rattle.shelf.proofs.answers.shown.Statement.{statement}
+use Rattle.shelf.proofs.answers.shown.Tie as tie
+
+zero-requires : tie.Need-zero-requires
+zero-requires c κs = search needs
+
+returns : tie.Need-returns
+unfolding shownOf if
+returns c = rw (ne-eqb _ _ (c .before .if1 .taken), c .zero .ensures)
+
+session-requires : tie.Need-session-requires
+session-requires c κs = search needs
+
+returns-2 : tie.Need-returns-2
+unfolding shownOf if
+returns-2 c = rw (eq-eqb _ _ (c .before .if1 .left), c .session .ensures)
+
+pub shown-spec : {M : Type 1} → statement M
+shown-spec = tie.close (tie.spec zero-requires returns session-requires returns-2)

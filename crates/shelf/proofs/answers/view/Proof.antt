@@ -1,0 +1,18 @@
+-- `view` is that of the session that the image shows.
+use mathlib.Core.Path.{_∙_, ap}
+use borrow.Author.Needs.{needs}
+use Rattle.session.specs.View.{viewOf}
+use Rattle.shelf.proofs.answers.view.Statement.{statement}
+use Rattle.shelf.proofs.answers.view.Tie as tie
+
+shown-requires : tie.Need-shown-requires
+shown-requires c κs = search needs
+
+view-requires : tie.Need-view-requires
+view-requires c κs = search needs
+
+returns : tie.Need-returns
+returns c = c .view .ensures ∙ ap viewOf (c .before .shown .ensures)
+
+pub view-spec : {M : Type 1} → statement M
+view-spec = tie.close (tie.spec shown-requires view-requires returns)

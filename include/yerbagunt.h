@@ -1,0 +1,195 @@
+/* Yerbagunt: one disk shared among up to eight channels.
+ *
+ * Link libshelf.a (x86-64). Times are whole microseconds, streams are counted from 1, places of a queue from 0.
+ * No function has a precondition but that its pointers are valid: any numbers get a reply. A refusal changes no byte. */
+#ifndef YERBAGUNT_H
+#define YERBAGUNT_H
+
+#include <stddef.h>
+#include <stdint.h>
+
+#ifdef __cplusplus
+extern "C" {
+#define YERBAGUNT_ASSERT static_assert
+#else
+#define YERBAGUNT_ASSERT _Static_assert
+#endif
+
+#define YERBAGUNT_STREAMS_MAX 8
+#define YERBAGUNT_QUEUE_MAX 16
+#define YERBAGUNT_EVENT_SIZE 16
+#define YERBAGUNT_EVENTS_MAX 4000
+
+/* The numbers of replies. Their meaning does not change. */
+enum yerbagunt_number {
+    YERBAGUNT_OK = 0,          /* opened, shown, read or written */
+    YERBAGUNT_COUNT = 1,       /* no stream, or more than 8 */
+    YERBAGUNT_WORST = 2,       /* W outside 1 to 1,000,000 */
+    YERBAGUNT_SPAN = 3,        /* H outside 1,000 to 600,000,000 */
+    YERBAGUNT_PADDING = 4,     /* k above 3 */
+    YERBAGUNT_PERIOD = 5,      /* p outside 1,000 to 60,000,000 or not dividing H */
+    YERBAGUNT_BUDGET = 6,      /* e = 0 or g > p */
+    YERBAGUNT_LOAD = 7,        /* load > H */
+    YERBAGUNT_NO_STREAM = 8,   /* stream number 0 or above the count */
+    YERBAGUNT_FULL = 9,        /* queue holds 16 */
+    YERBAGUNT_BUSY = 10,       /* a request is at the disk */
+    YERBAGUNT_IDLE = 11,       /* no request is at the disk */
+    YERBAGUNT_DURATION = 12,   /* duration outside 1 to 10,000,000 */
+    YERBAGUNT_PAST = 13,       /* time below the clock */
+    YERBAGUNT_END = 14,        /* a clock, or a deadline in a move, would pass 1,000,000,000,000 */
+    YERBAGUNT_NOT_IN_SET = 15, /* index not in the set */
+    YERBAGUNT_LAYOUT = 16,     /* file or event not as laid out */
+    YERBAGUNT_ROOM = 17,       /* output buffer shorter than the file */
+    YERBAGUNT_ARRIVED = 20,    /* value: queue length */
+    YERBAGUNT_SENT = 21,       /* value: place */
+    YERBAGUNT_EXPIRED = 22,    /* value: charge after */
+    YERBAGUNT_MOVED = 23,      /* value: new horizon */
+    YERBAGUNT_WAIT = 24,       /* value: latest safe moment */
+    YERBAGUNT_DONE = 25,       /* value: charge after */
+    YERBAGUNT_OVERLONG = 26,   /* value: charge after */
+    YERBAGUNT_CLOCK = 27,      /* value: time */
+    YERBAGUNT_LATE = 28,       /* value: time */
+    YERBAGUNT_UNSOUND = 31     /* the session handed to a call is not sound */
+};
+
+/* A stream's last closed job; all zero before the first. */
+struct yerbagunt_job {
+    uint64_t charge, closed, deadline, expired;
+};
+
+struct yerbagunt_stream {
+    uint32_t reserved, period;
+    uint64_t granted, release, deadline, charge, expired;
+    uint64_t queued; /* the first so many places are used, in order of arrival */
+    uint64_t places[YERBAGUNT_QUEUE_MAX];
+    struct yerbagunt_job last;
+};
+
+/* A session. Read its cells as you like; a call answers 31 to one whose cells were changed into what no session is. */
+struct yerbagunt_session {
+    uint32_t worst, span, padding;
+    uint32_t order; /* 0, nearest first; any other number is answered 31 */
+    uint64_t count, clock, head;
+    uint64_t served; /* the stream whose request is at the disk, or 0 */
+    uint64_t place;  /* and the place of that request */
+    struct yerbagunt_stream streams[YERBAGUNT_STREAMS_MAX];
+};
+
+YERBAGUNT_ASSERT(sizeof(size_t) == 8, "a target with 64-bit sizes");
+YERBAGUNT_ASSERT(sizeof(struct yerbagunt_job) == 32, "job");
+YERBAGUNT_ASSERT(sizeof(struct yerbagunt_stream) == 216, "stream");
+YERBAGUNT_ASSERT(offsetof(struct yerbagunt_stream, granted) == 8, "stream.granted");
+YERBAGUNT_ASSERT(offsetof(struct yerbagunt_stream, queued) == 48, "stream.queued");
+YERBAGUNT_ASSERT(offsetof(struct yerbagunt_stream, places) == 56, "stream.places");
+YERBAGUNT_ASSERT(offsetof(struct yerbagunt_stream, last) == 184, "stream.last");
+YERBAGUNT_ASSERT(sizeof(struct yerbagunt_session) == 1784, "session");
+YERBAGUNT_ASSERT(offsetof(struct yerbagunt_session, order) == 12, "session.order");
+YERBAGUNT_ASSERT(offsetof(struct yerbagunt_session, count) == 16, "session.count");
+YERBAGUNT_ASSERT(offsetof(struct yerbagunt_session, clock) == 24, "session.clock");
+YERBAGUNT_ASSERT(offsetof(struct yerbagunt_session, head) == 32, "session.head");
+YERBAGUNT_ASSERT(offsetof(struct yerbagunt_session, served) == 40, "session.served");
+YERBAGUNT_ASSERT(offsetof(struct yerbagunt_session, place) == 48, "session.place");
+YERBAGUNT_ASSERT(offsetof(struct yerbagunt_session, streams) == 56, "session.streams");
+
+struct yerbagunt_reservation {
+    uint32_t reserved, period;
+};
+
+/* Slices that are lent for the time of a call. The pointer is not null, also where the length is 0. */
+struct yerbagunt_reservations {
+    const struct yerbagunt_reservation *records;
+    size_t length;
+};
+
+struct yerbagunt_bytes {
+    const uint8_t *bytes;
+    size_t length;
+};
+
+struct yerbagunt_buffer {
+    uint8_t *bytes;
+    size_t length;
+};
+
+/* A reply: its number, the stream that it is about (a refused call's own), and its value (0 for a refusal). */
+struct yerbagunt_reply {
+    uint64_t number, stream, value;
+};
+
+/* number 0 and a session; or 1 to 7 and the all-zero session, which is not sound. */
+struct yerbagunt_opening {
+    uint64_t number;
+    struct yerbagunt_session session;
+};
+
+struct yerbagunt_view {
+    uint64_t number, clock, horizon, latest;
+};
+
+struct yerbagunt_state {
+    uint64_t number;
+    struct yerbagunt_stream stream;
+};
+
+struct yerbagunt_closing {
+    uint64_t number;
+    struct yerbagunt_job job;
+};
+
+/* The table of a session file. */
+struct yerbagunt_table {
+    uint32_t worst, span, padding;
+    uint64_t count;
+    uint32_t reserved[YERBAGUNT_STREAMS_MAX], period[YERBAGUNT_STREAMS_MAX];
+};
+
+/* The trace is the bytes from start up to end. */
+struct yerbagunt_file {
+    uint64_t number, count, start, end, events;
+};
+
+struct yerbagunt_written {
+    uint64_t number, length;
+};
+
+/* Opens a session with W, H, k and the records of a table, of any length: 1 to 7. */
+struct yerbagunt_opening yerbagunt_open(uint32_t worst, uint32_t span, uint32_t padding, struct yerbagunt_reservations table);
+
+/* Puts a request at the end of a stream's queue: 31, 8, 9; 20. */
+struct yerbagunt_reply yerbagunt_arrival(struct yerbagunt_session *session, uint64_t stream, uint64_t place);
+
+/* What the house does next: 31, 10, 14; 21 sent, 23 moved, 24 wait, 22 expired. */
+struct yerbagunt_reply yerbagunt_turn(struct yerbagunt_session *session);
+
+/* The caller's own choice from the set, a stream and an index of its queue: 31, 10, 8, 15; 21. */
+struct yerbagunt_reply yerbagunt_own_turn(struct yerbagunt_session *session, uint64_t stream, uint64_t index);
+
+/* The request at the disk took so long: 31, 11, 12, 14; 25, or 26 above W. */
+struct yerbagunt_reply yerbagunt_done(struct yerbagunt_session *session, uint64_t duration);
+
+/* The time is reported: 31, 10, 13, 14; 27, or 28 after the latest safe moment. */
+struct yerbagunt_reply yerbagunt_clock(struct yerbagunt_session *session, uint64_t time);
+
+/* The clock, the horizon and the latest safe moment: 31. The session is passed by value: nothing of it can change. */
+struct yerbagunt_view yerbagunt_view(struct yerbagunt_session session);
+
+/* A stream: 31, 8. */
+struct yerbagunt_state yerbagunt_stream(struct yerbagunt_session session, uint64_t stream);
+
+/* The last job that a stream closed: 31, 8. */
+struct yerbagunt_closing yerbagunt_last_job(struct yerbagunt_session session, uint64_t stream);
+
+/* Reads a session file: 16. Every event is judged, and no number of the table but its count; opening judges those. */
+struct yerbagunt_file yerbagunt_read(struct yerbagunt_bytes file);
+
+/* The table of a file that was read. */
+struct yerbagunt_table yerbagunt_table(struct yerbagunt_bytes file);
+
+/* Writes the file of a table and a trace at the start of a buffer: 16, 17. Bytes after the file stay as they were. */
+struct yerbagunt_written yerbagunt_write(struct yerbagunt_table table, struct yerbagunt_bytes trace, struct yerbagunt_buffer out);
+
+#ifdef __cplusplus
+}
+#endif
+
+#endif

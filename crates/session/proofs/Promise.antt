@@ -134,6 +134,7 @@ module _ (t : Table) (s : Session) (past : List Moment) (kept : Kept t s past) w
       let none = eqb-true (slotsAt s i) 0 (all-at (λ j. eqb (slotsAt s j) 0) (s .count) over i here) in
       record {
         in-time = rw due (clock-not-past s q (s .clock .0) (kept .safe .room) (kept .safe .time));
+        due = held .deadline-is;
         at-most = omega (arith, budget, due-most s q i here due (kept .safe .room));
         more-than = omega (arith, budget, kept .worst-is, due-least s q i here due none);
         made-of = held .charge-is;

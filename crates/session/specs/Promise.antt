@@ -90,6 +90,7 @@ pub record OpenInTime (t : Table) (i : ℕ) (now : Session) (past : List Moment)
 -- Of a job that was closed, by the call m after the earlier ones: it "was closed at a clock at most its deadline, with a charge at most the granted budget of the table as it was opened, and more than that budget less W"; "that charge is the sum [...]; the record written at the closing says the same, its expired count included".
 pub record ClosedWell (t : Table) (i : ℕ) (m : Moment) (earlier : List Moment) : Type 0 where
   pub in-time : m .before .clock .0 ≤ streamAt (m .before) i .deadline .0
+  pub due : streamAt (m .before) i .deadline .0 ≡ dueOf t i earlier
   pub at-most : streamAt (m .before) i .charge .0 ≤ budgetOf t i
   pub more-than : budgetOf t i < streamAt (m .before) i .charge .0 + t .worst
   pub made-of : streamAt (m .before) i .charge .0 ≡ chargeOf t i earlier

@@ -1,0 +1,67 @@
+/* Replays a session file from standard input by the lent calls of the library, and prints the listing of document 01. */
+#include <stddef.h>
+#include <stdio.h>
+
+#include "yerbagunt.h"
+
+#define ROOM 65536
+
+long read(int, void *, size_t);
+
+static uint8_t file[ROOM];
+
+static uint64_t number_at(size_t at, int width)
+{
+    uint64_t n = 0;
+    for (int i = width - 1; i >= 0; i--)
+        n = n << 8 | file[at + i];
+    return n;
+}
+
+static struct yerbagunt_reply call(struct yerbagunt_session *session, size_t event)
+{
+    uint64_t stream = file[event + 1], value = number_at(event + 8, 8);
+    switch (file[event]) {
+    case 1:
+        return yerbagunt_arrival(session, stream, value);
+    case 2:
+        return yerbagunt_turn(session);
+    case 3:
+        return yerbagunt_own_turn(session, stream, value);
+    case 4:
+        return yerbagunt_done(session, value);
+    default:
+        return yerbagunt_clock(session, value);
+    }
+}
+
+int main(void)
+{
+    size_t length = 0;
+    for (long got = 1; got > 0 && length < ROOM; length += got)
+        if ((got = read(0, file + length, ROOM - length)) < 0)
+            return 1;
+    struct yerbagunt_bytes bytes = {file, length};
+    struct yerbagunt_file parts = yerbagunt_read(bytes);
+    if (parts.number != YERBAGUNT_OK) {
+        printf("refused %llu\n", (unsigned long long)parts.number);
+        return 0;
+    }
+    struct yerbagunt_table table = yerbagunt_table(bytes);
+    struct yerbagunt_reservation records[YERBAGUNT_STREAMS_MAX];
+    for (size_t i = 0; i < table.count; i++)
+        records[i] = (struct yerbagunt_reservation){table.reserved[i], table.period[i]};
+    struct yerbagunt_opening opening =
+        yerbagunt_open(table.worst, table.span, table.padding, (struct yerbagunt_reservations){records, table.count});
+    if (opening.number != YERBAGUNT_OK) {
+        printf("refused %llu\n", (unsigned long long)opening.number);
+        return 0;
+    }
+    puts("event answer stream value clock");
+    for (size_t i = 0; i < parts.events; i++) {
+        struct yerbagunt_reply r = call(&opening.session, parts.start + YERBAGUNT_EVENT_SIZE * i);
+        printf("%llu %llu %llu %llu %llu\n", (unsigned long long)i + 1, (unsigned long long)r.number, (unsigned long long)r.stream,
+               (unsigned long long)r.value, (unsigned long long)opening.session.clock);
+    }
+    return 0;
+}

@@ -1,0 +1,60 @@
+/* A recorder of two channels: opens a table, queues requests, runs turns and reports what the disk took. */
+#include <stdio.h>
+
+#include "yerbagunt.h"
+
+static struct yerbagunt_session session;
+
+static void show(const char *call, struct yerbagunt_reply r)
+{
+    printf("%-8s answer %2llu stream %llu value %llu clock %llu\n", call, (unsigned long long)r.number, (unsigned long long)r.stream,
+           (unsigned long long)r.value, (unsigned long long)session.clock);
+}
+
+/* The disk: here each request takes 5,000 microseconds, and the seek from one place to another as long again. */
+static uint64_t disk(uint64_t place)
+{
+    static uint64_t at;
+    uint64_t taken = at == place ? 5000 : 10000;
+    at = place;
+    return taken;
+}
+
+int main(void)
+{
+    const struct yerbagunt_reservation channels[2] = {{25000, 250000}, {175000, 500000}};
+    struct yerbagunt_opening opening = yerbagunt_open(25000, 1000000, 1, (struct yerbagunt_reservations){channels, 2});
+    if (opening.number != YERBAGUNT_OK) {
+        printf("refused %llu\n", (unsigned long long)opening.number);
+        return 1;
+    }
+    session = opening.session;
+
+    show("arrival", yerbagunt_arrival(&session, 1, 100));
+    show("arrival", yerbagunt_arrival(&session, 2, 900));
+    show("arrival", yerbagunt_arrival(&session, 2, 900));
+    show("arrival", yerbagunt_arrival(&session, 3, 7)); /* there is no channel 3 */
+
+    for (int left = 3; left > 0;) {
+        struct yerbagunt_reply turn = yerbagunt_turn(&session);
+        show("turn", turn);
+        if (turn.number == YERBAGUNT_SENT) { /* the disk serves the place that the turn names */
+            show("done", yerbagunt_done(&session, disk(turn.value)));
+            left--;
+        } else if (turn.number == YERBAGUNT_WAIT) { /* nothing to do before the latest safe moment */
+            show("clock", yerbagunt_clock(&session, turn.value));
+        } else if (turn.number < YERBAGUNT_ARRIVED || turn.number == YERBAGUNT_UNSOUND) {
+            return 1;
+        }
+    }
+
+    struct yerbagunt_view view = yerbagunt_view(session);
+    printf("clock %llu horizon %llu latest safe moment %llu\n", (unsigned long long)view.clock, (unsigned long long)view.horizon,
+           (unsigned long long)view.latest);
+    for (uint64_t stream = 1; stream <= session.count; stream++) {
+        struct yerbagunt_state state = yerbagunt_stream(session, stream);
+        printf("stream %llu charge %llu of %llu\n", (unsigned long long)stream, (unsigned long long)state.stream.charge,
+               (unsigned long long)state.stream.granted);
+    }
+    return 0;
+}

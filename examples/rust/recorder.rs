@@ -1,0 +1,57 @@
+//! A recorder of two channels: opens a table, queues requests, runs turns and reports what the disk took.
+#[allow(dead_code)]
+#[path = "../../include/yerbagunt.rs"]
+mod yerbagunt;
+
+use yerbagunt::{Reply, Reservation, Session, number};
+
+fn show(call: &str, session: &Session, r: Reply) {
+    println!("{call:<8} answer {:2} stream {} value {} clock {}", r.number, r.stream, r.value, session.clock);
+}
+
+/// The disk: here each request takes 5,000 microseconds, and the seek from one place to another as long again.
+fn disk(at: &mut u64, place: u64) -> u64 {
+    let taken = if *at == place { 5000 } else { 10000 };
+    *at = place;
+    taken
+}
+
+fn main() {
+    let channels = [
+        Reservation { reserved: 25000, period: 250000 },
+        Reservation { reserved: 175000, period: 500000 },
+    ];
+    let mut session = match Session::open(25000, 1000000, 1, &channels) {
+        Ok(session) => session,
+        Err(refusal) => return println!("refused {refusal}"),
+    };
+
+    // There is no channel 3.
+    for (stream, place) in [(1, 100), (2, 900), (2, 900), (3, 7)] {
+        let reply = session.arrival(stream, place);
+        show("arrival", &session, reply);
+    }
+
+    let (mut at, mut left) = (0, 3);
+    while left > 0 {
+        let turn = session.turn();
+        show("turn", &session, turn);
+        if turn.number == number::SENT {
+            let reply = session.done(disk(&mut at, turn.value));
+            show("done", &session, reply);
+            left -= 1;
+        } else if turn.number == number::WAIT {
+            let reply = session.clock(turn.value);
+            show("clock", &session, reply);
+        } else if turn.number < number::ARRIVED || turn.number == number::UNSOUND {
+            return;
+        }
+    }
+
+    let view = session.view();
+    println!("clock {} horizon {} latest safe moment {}", view.clock, view.horizon, view.latest);
+    for stream in 1..=session.count {
+        let state = session.stream(stream).expect("a stream of the table");
+        println!("stream {stream} charge {} of {}", state.charge, state.granted);
+    }
+}

@@ -1,0 +1,245 @@
+//! Yerbagunt for Rust: one disk shared among up to eight channels. Link `libshelf.a` (x86-64); `yerbagunt.h` says what each number means.
+//!
+//! Every function answers any input; a refusal changes nothing.
+
+pub const STREAMS_MAX: usize = 8;
+pub const QUEUE_MAX: usize = 16;
+
+/// The numbers of replies, as in `yerbagunt.h`.
+pub mod number {
+    pub const OK: u64 = 0;
+    pub const COUNT: u64 = 1;
+    pub const WORST: u64 = 2;
+    pub const SPAN: u64 = 3;
+    pub const PADDING: u64 = 4;
+    pub const PERIOD: u64 = 5;
+    pub const BUDGET: u64 = 6;
+    pub const LOAD: u64 = 7;
+    pub const NO_STREAM: u64 = 8;
+    pub const FULL: u64 = 9;
+    pub const BUSY: u64 = 10;
+    pub const IDLE: u64 = 11;
+    pub const DURATION: u64 = 12;
+    pub const PAST: u64 = 13;
+    pub const END: u64 = 14;
+    pub const NOT_IN_SET: u64 = 15;
+    pub const LAYOUT: u64 = 16;
+    pub const ROOM: u64 = 17;
+    pub const ARRIVED: u64 = 20;
+    pub const SENT: u64 = 21;
+    pub const EXPIRED: u64 = 22;
+    pub const MOVED: u64 = 23;
+    pub const WAIT: u64 = 24;
+    pub const DONE: u64 = 25;
+    pub const OVERLONG: u64 = 26;
+    pub const CLOCK: u64 = 27;
+    pub const LATE: u64 = 28;
+    pub const UNSOUND: u64 = 31;
+}
+
+/// A stream's last closed job; all zero before the first.
+#[repr(C)]
+#[derive(Clone, Copy, Debug, PartialEq, Eq)]
+pub struct Job {
+    pub charge: u64,
+    pub closed: u64,
+    pub deadline: u64,
+    pub expired: u64,
+}
+
+#[repr(C)]
+#[derive(Clone, Copy, Debug, PartialEq, Eq)]
+pub struct Stream {
+    pub reserved: u32,
+    pub period: u32,
+    pub granted: u64,
+    pub release: u64,
+    pub deadline: u64,
+    pub charge: u64,
+    pub expired: u64,
+    pub queued: u64,
+    pub places: [u64; QUEUE_MAX],
+    pub last: Job,
+}
+
+#[repr(C)]
+#[derive(Clone, Copy, Debug, PartialEq, Eq)]
+pub struct Session {
+    pub worst: u32,
+    pub span: u32,
+    pub padding: u32,
+    pub order: u32,
+    pub count: u64,
+    pub clock: u64,
+    pub head: u64,
+    pub served: u64,
+    pub place: u64,
+    pub streams: [Stream; STREAMS_MAX],
+}
+
+const _: () = assert!(size_of::<Stream>() == 216 && size_of::<Session>() == 1784);
+
+#[repr(C)]
+#[derive(Clone, Copy, Debug, PartialEq, Eq)]
+pub struct Reservation {
+    pub reserved: u32,
+    pub period: u32,
+}
+
+#[repr(C)]
+#[derive(Clone, Copy, Debug, PartialEq, Eq)]
+pub struct Reply {
+    pub number: u64,
+    pub stream: u64,
+    pub value: u64,
+}
+
+#[repr(C)]
+#[derive(Clone, Copy, Debug, PartialEq, Eq)]
+pub struct View {
+    pub number: u64,
+    pub clock: u64,
+    pub horizon: u64,
+    pub latest: u64,
+}
+
+#[repr(C)]
+#[derive(Clone, Copy, Debug, PartialEq, Eq)]
+pub struct Table {
+    pub worst: u32,
+    pub span: u32,
+    pub padding: u32,
+    pub count: u64,
+    pub reserved: [u32; STREAMS_MAX],
+    pub period: [u32; STREAMS_MAX],
+}
+
+/// The parts of a session file; the trace is the bytes from `start` up to `end`.
+#[repr(C)]
+#[derive(Clone, Copy, Debug, PartialEq, Eq)]
+pub struct File {
+    pub number: u64,
+    pub count: u64,
+    pub start: u64,
+    pub end: u64,
+    pub events: u64,
+}
+
+#[repr(C)]
+struct Opening {
+    number: u64,
+    session: Session,
+}
+
+#[repr(C)]
+struct State {
+    number: u64,
+    stream: Stream,
+}
+
+#[repr(C)]
+struct Closing {
+    number: u64,
+    job: Job,
+}
+
+#[repr(C)]
+struct Written {
+    number: u64,
+    length: u64,
+}
+
+// A slice as it crosses: its pointer, which is never null, and its length.
+#[repr(C)]
+struct Lent<T> {
+    start: *const T,
+    length: usize,
+}
+
+#[repr(C)]
+struct LentMut<T> {
+    start: *mut T,
+    length: usize,
+}
+
+fn lent<T>(slice: &[T]) -> Lent<T> {
+    Lent { start: slice.as_ptr(), length: slice.len() }
+}
+
+#[link(name = "shelf", kind = "static")]
+unsafe extern "C" {
+    fn yerbagunt_open(worst: u32, span: u32, padding: u32, table: Lent<Reservation>) -> Opening;
+    fn yerbagunt_arrival(session: &mut Session, stream: u64, place: u64) -> Reply;
+    fn yerbagunt_turn(session: &mut Session) -> Reply;
+    fn yerbagunt_own_turn(session: &mut Session, stream: u64, index: u64) -> Reply;
+    fn yerbagunt_done(session: &mut Session, duration: u64) -> Reply;
+    fn yerbagunt_clock(session: &mut Session, time: u64) -> Reply;
+    fn yerbagunt_view(session: Session) -> View;
+    fn yerbagunt_stream(session: Session, stream: u64) -> State;
+    fn yerbagunt_last_job(session: Session, stream: u64) -> Closing;
+    fn yerbagunt_read(file: Lent<u8>) -> File;
+    fn yerbagunt_table(file: Lent<u8>) -> Table;
+    fn yerbagunt_write(table: Table, trace: Lent<u8>, out: LentMut<u8>) -> Written;
+}
+
+// Each call is safe: the library has no precondition but valid pointers, and Rust's references are valid.
+impl Session {
+    /// Opens a session with W, H, k and a table of any length; or the number of the refusal, 1 to 7.
+    pub fn open(worst: u32, span: u32, padding: u32, table: &[Reservation]) -> Result<Session, u64> {
+        let opening = unsafe { yerbagunt_open(worst, span, padding, lent(table)) };
+        if opening.number == number::OK { Ok(opening.session) } else { Err(opening.number) }
+    }
+
+    pub fn arrival(&mut self, stream: u64, place: u64) -> Reply {
+        unsafe { yerbagunt_arrival(self, stream, place) }
+    }
+
+    pub fn turn(&mut self) -> Reply {
+        unsafe { yerbagunt_turn(self) }
+    }
+
+    pub fn own_turn(&mut self, stream: u64, index: u64) -> Reply {
+        unsafe { yerbagunt_own_turn(self, stream, index) }
+    }
+
+    pub fn done(&mut self, duration: u64) -> Reply {
+        unsafe { yerbagunt_done(self, duration) }
+    }
+
+    pub fn clock(&mut self, time: u64) -> Reply {
+        unsafe { yerbagunt_clock(self, time) }
+    }
+
+    /// The clock, the horizon and the latest safe moment; number 31 beside zeros where the session is not sound.
+    pub fn view(&self) -> View {
+        unsafe { yerbagunt_view(*self) }
+    }
+
+    /// A stream, counted from 1; or 31 or 8.
+    pub fn stream(&self, stream: u64) -> Result<Stream, u64> {
+        let state = unsafe { yerbagunt_stream(*self, stream) };
+        if state.number == number::OK { Ok(state.stream) } else { Err(state.number) }
+    }
+
+    /// The last job that a stream, counted from 1, closed; or 31 or 8.
+    pub fn last_job(&self, stream: u64) -> Result<Job, u64> {
+        let closing = unsafe { yerbagunt_last_job(*self, stream) };
+        if closing.number == number::OK { Ok(closing.job) } else { Err(closing.number) }
+    }
+}
+
+/// Reads a session file: its parts and its table, or 16.
+pub fn read(file: &[u8]) -> Result<(File, Table), u64> {
+    let parts = unsafe { yerbagunt_read(lent(file)) };
+    if parts.number != number::OK {
+        return Err(parts.number);
+    }
+    Ok((parts, unsafe { yerbagunt_table(lent(file)) }))
+}
+
+/// Writes the file of a table and a trace at the start of a buffer: how long it is, or 16 or 17.
+pub fn write(table: Table, trace: &[u8], out: &mut [u8]) -> Result<u64, u64> {
+    let out = LentMut { start: out.as_mut_ptr(), length: out.len() };
+    let written = unsafe { yerbagunt_write(table, lent(trace), out) };
+    if written.number == number::OK { Ok(written.length) } else { Err(written.number) }
+}

@@ -68,6 +68,7 @@ counted c x =
       least = c .least;
     })
 
+-- with these numbers one more stream can be taken in, and no sum wraps
 pub record Countable (c : Census) : Type 0 where
   pub worst-low : 0 < c .worst
   pub shares-high : c .shares ≤ 1_000_000_000_000
@@ -84,6 +85,7 @@ says c clock served place x =
     && leb (clock .0) session-end
     && if (eqb served 0) (eqb place 0) (leb served (c .count) && leb 1 (slots (c .worst) (c .horizon .0) x))
 
+-- and with these the session can be judged: a stream at the disk has bounded numbers once the load fits and no release is past the horizon
 pub record Judgeable (c : Census) (served : ℕ) (x : Stream) : Type 0 where
   pub worst-high : c .worst ≤ worst-max
   pub shares-high : c .shares ≤ 1_000_000_000_000

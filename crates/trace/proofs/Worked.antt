@@ -5,9 +5,9 @@ use Rattle.cells.specs.Cells.{numberAt}
 use Rattle.session.proofs.Rules.{rules}
 use Rattle.file.specs.Reading.{eventOf, eventFrom, eventAt, isTrace, column, tableAt, isEntry, isContents, isLaidOut}
 use Rattle.listing.specs.Line.{ascii, digits, decimal, onward, rendered, headerFields, eventFields, refusedFields}
-use Rattle.trace.specs.Trace.{called, applied, linesFrom, runOf, listingOf}
+use Rattle.trace.specs.Trace.{called, applied, printedFrom, runOf, listingOf}
 use Rattle.trace.specs.Laws.{ListingPrints}
 
 pub listing-prints : ListingPrints
-unfolding rules if listTo allTo numberAt eventOf eventFrom eventAt isTrace column tableAt isEntry isContents isLaidOut ascii digits decimal onward rendered headerFields eventFields refusedFields called applied linesFrom runOf listingOf
+unfolding rules if listTo allTo numberAt eventOf eventFrom eventAt isTrace column tableAt isEntry isContents isLaidOut ascii digits decimal onward rendered headerFields eventFields refusedFields called applied printedFrom runOf listingOf
 listing-prints = refl

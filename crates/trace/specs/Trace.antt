@@ -43,18 +43,18 @@ fieldsOf l = eventFields (l .event) (l .answer) (l .stream) (l .value) (l .clock
 unfoldable pub handed : Outcome → Stepped
 handed o = record { session = o .session; text = textOf (fieldsOf (o .line)) }
 
--- "a line per event": those of the events from i on, so many of them
-unfoldable pub linesFrom : Session → List ℕ → ℕ → ℕ → List ℕ
-linesFrom s trace i zero = []
-linesFrom s trace i (suc left) =
+-- "a line per event": what is printed of the events from i on, so many of them
+unfoldable pub printedFrom : Session → List ℕ → ℕ → ℕ → List ℕ
+printedFrom s trace i zero = []
+printedFrom s trace i (suc left) =
     let o = applied s (i + 1) (eventAt trace i) in
-    rendered (fieldsOf (o .line)) ++ linesFrom (o .session) trace (i + 1) left
+    rendered (fieldsOf (o .line)) ++ printedFrom (o .session) trace (i + 1) left
 
 -- "If reading or opening refuses it prints `refused N`, nothing more. Else a header, then a line per event"
 unfoldable pub runOf : Table → List ℕ → List ℕ
 runOf t trace =
     if (eqb (admissionOf t) 0)
-    (rendered headerFields ++ linesFrom (openingOf t .session) trace 0 (eventsIn trace))
+    (rendered headerFields ++ printedFrom (openingOf t .session) trace 0 (eventsIn trace))
     (rendered (refusedFields (admissionOf t)))
 
 unfoldable pub listingOf : List ℕ → List ℕ

@@ -7,6 +7,7 @@ pub mod Picks
 pub mod Fits
 pub mod Sound
 pub mod Counted
+pub mod Judging
 pub mod Best
 pub mod Ranks
 pub mod First

@@ -6,8 +6,6 @@ use crate::Call;
 use crate::Charge;
 use crate::Clock;
 use crate::Session;
-use crate::Stream;
-use crate::effects::append;
 use crate::effects::expire;
 use crate::effects::finish;
 use crate::effects::refuse;
@@ -21,27 +19,6 @@ use crate::soundness::judge;
 use crate::survey::survey_of;
 
 impl Session {
-    // A request of a stream, counted from 1, at a place: 8, 9.
-    pub fn arrival(self, stream: u64, place: u64) -> Answer
-        ensures { λ r. ⌜ r ≡ answerTo self (Call.Arrival stream place) ⌝ }
-    {
-        let judged = judge(self);
-        if !judged.sound {
-            return refuse(self, 31);
-        }
-        if (stream == 0) | ((self.count as u64) < stream) {
-            return refuse(self, 8);
-        }
-        let i = (stream - 1) as usize;
-        // The array alone is indexed: a session that is would be copied again for each call.
-        let streams = self.streams;
-        let x = streams[i];
-        if x.queued == Stream::QUEUE_MAX {
-            return refuse(self, 9);
-        }
-        append(self, i, place)
-    }
-
     // What the house does next: 10, then a. some slot is filled: send.
     pub fn turn(self) -> Answer
         ensures { λ r. ⌜ r ≡ answerTo self Call.Turn ⌝ }

@@ -1,4 +1,5 @@
 // A session: one disk, up to eight streams, and the calls that share it among them.
+mod arrivals;
 mod call;
 mod calls;
 mod census;

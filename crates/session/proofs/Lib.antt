@@ -12,6 +12,7 @@ pub mod Best
 pub mod Ranks
 pub mod First
 pub mod Remainders
+pub mod Summing
 pub mod Latest
 pub mod Fractions
 pub mod Lapses

@@ -19,7 +19,6 @@ use Rattle.session.specs.declared.census.Census.{Census}
 use Rattle.session.specs.declared.choice.Near.{Near}
 use Rattle.session.specs.declared.choice.Pick.{Pick}
 use Rattle.session.specs.declared.expiry.Lapse.{Lapse}
-use Rattle.session.specs.declared.survey.Survey.{Survey}
 use Rattle.session.specs.declared.stream.Stream.{Stream}
 use Rattle.session.specs.declared.Session.{Session}
 
@@ -113,11 +112,3 @@ considered worst h head best x i =
 -- whether some stream has a slot, and the one that loses it
 unfoldable pub lapseOf : Session → Lapse
 lapseOf s = record { found = not (noSlot s); stream = expiring s }
-
--- what a turn's survey of the streams says
-pub record Seen (s : Session) (r : Survey) : Type 0 where
-  pub found : r .pick .found ≡ someFilled s
-  pub stream : r .pick .stream ≡ chosen s
-  pub index : r .pick .found ≡ true → r .pick .index ≡ nearestAt s (chosen s)
-  pub lapse : r .lapse ≡ lapseOf s
-  pub until : r .until ≡ moment (latest s)

@@ -5,16 +5,14 @@ mod calls;
 mod census;
 mod choice;
 mod completions;
-mod effects;
 mod expiry;
 mod lent;
-mod moves;
 mod own_turns;
 mod reports;
 mod soundness;
 mod stream;
-mod survey;
 mod time;
+mod turns;
 mod view;
 
 ghost use mathlib.Core.Path.{_≡_};

@@ -80,12 +80,20 @@ fn repeated(session: Session, event: Event, times: u64) -> Tally {
     }
 }
 
+// Zero, which the compiler cannot know: no call, nor a part of one, may leave its loop for being the same each time.
+fn zero_of(times: u64) -> u64 {
+    times / 4_294_967_296
+}
+
 fn openings(table: Table, times: u64) -> Tally {
     let mut number: u64 = 0;
     let mut mixed: u64 = 0;
+    let mut kept = table;
+    let zero = zero_of(times);
     let mut i: u64 = 0;
     while i < times {
-        let opened = Session::open(table);
+        kept.count = kept.count ^ zero as usize;
+        let opened = Session::open(kept);
         let admission = opened.admission;
         number = refusal(admission);
         mixed = mixed ^ opened.session.head;
@@ -104,9 +112,12 @@ fn refusal(admission: Admission) -> u64 {
 fn arrivals(session: Session, stream: u64, place: u64, times: u64) -> Tally {
     let mut number: u64 = 0;
     let mut mixed: u64 = 0;
+    let mut kept = session;
+    let zero = zero_of(times);
     let mut i: u64 = 0;
     while i < times {
-        let answer = session.arrival(stream, place);
+        kept.head = kept.head ^ zero;
+        let answer = kept.arrival(stream, place);
         let reply = answer.reply;
         let clock = answer.session.clock;
         number = reply.number();
@@ -119,9 +130,12 @@ fn arrivals(session: Session, stream: u64, place: u64, times: u64) -> Tally {
 fn turns(session: Session, times: u64) -> Tally {
     let mut number: u64 = 0;
     let mut mixed: u64 = 0;
+    let mut kept = session;
+    let zero = zero_of(times);
     let mut i: u64 = 0;
     while i < times {
-        let answer = session.turn();
+        kept.head = kept.head ^ zero;
+        let answer = kept.turn();
         let reply = answer.reply;
         let clock = answer.session.clock;
         number = reply.number();
@@ -134,9 +148,12 @@ fn turns(session: Session, times: u64) -> Tally {
 fn own_turns(session: Session, stream: u64, index: u64, times: u64) -> Tally {
     let mut number: u64 = 0;
     let mut mixed: u64 = 0;
+    let mut kept = session;
+    let zero = zero_of(times);
     let mut i: u64 = 0;
     while i < times {
-        let answer = session.own_turn(stream, index);
+        kept.head = kept.head ^ zero;
+        let answer = kept.own_turn(stream, index);
         let reply = answer.reply;
         let clock = answer.session.clock;
         number = reply.number();
@@ -149,9 +166,12 @@ fn own_turns(session: Session, stream: u64, index: u64, times: u64) -> Tally {
 fn completions(session: Session, duration: u64, times: u64) -> Tally {
     let mut number: u64 = 0;
     let mut mixed: u64 = 0;
+    let mut kept = session;
+    let zero = zero_of(times);
     let mut i: u64 = 0;
     while i < times {
-        let answer = session.done(duration);
+        kept.head = kept.head ^ zero;
+        let answer = kept.done(duration);
         let reply = answer.reply;
         let clock = answer.session.clock;
         number = reply.number();
@@ -164,9 +184,12 @@ fn completions(session: Session, duration: u64, times: u64) -> Tally {
 fn clock_reports(session: Session, time: u64, times: u64) -> Tally {
     let mut number: u64 = 0;
     let mut mixed: u64 = 0;
+    let mut kept = session;
+    let zero = zero_of(times);
     let mut i: u64 = 0;
     while i < times {
-        let answer = session.clock(time);
+        kept.head = kept.head ^ zero;
+        let answer = kept.clock(time);
         let reply = answer.reply;
         let clock = answer.session.clock;
         number = reply.number();

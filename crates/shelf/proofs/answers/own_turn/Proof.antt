@@ -1,10 +1,10 @@
--- `answer` judges the order first, and then answers as the session does.
+-- `own_turn` judges the order first, and then answers as the session does.
 use borrow.Author.Needs.{needs}
 use borrow.Author.Tests.{eq-eqb, ne-eqb}
 use Rattle.table.specs.Fold.{if}
 use Rattle.shelf.specs.Image.{answeredAs}
-use Rattle.shelf.proofs.answers.answer.Statement.{statement}
-use Rattle.shelf.proofs.answers.answer.Tie as tie
+use Rattle.shelf.proofs.answers.own_turn.Statement.{statement}
+use Rattle.shelf.proofs.answers.own_turn.Tie as tie
 
 told-requires : tie.Need-told-requires
 told-requires c κs = search needs
@@ -16,8 +16,8 @@ returns c = rw (ne-eqb _ _ (c .before .if1 .taken), c .told .ensures)
 session-requires : tie.Need-session-requires
 session-requires c κs = search needs
 
-call-requires : tie.Need-call-requires
-call-requires c κs = search needs
+own-turn-requires : tie.Need-own-turn-requires
+own-turn-requires c κs = search needs
 
 of-requires : tie.Need-of-requires
 of-requires c κs = search needs
@@ -29,16 +29,16 @@ returns-2 : tie.Need-returns-2
 unfolding answeredAs if
 returns-2 c =
     let asked = c .before .before .before in
-    rw (eq-eqb _ _ (asked .before .if1 .left), c .told2 .ensures, c .before .of .ensures, c .before .before .call .ensures, asked .session .ensures)
+    rw (eq-eqb _ _ (asked .before .if1 .left), c .told2 .ensures, c .before .of .ensures, c .before .before .own-turn .ensures, asked .session .ensures)
 
-pub answer-spec : {M : Type 1} → statement M
-answer-spec =
+pub own-turn-spec : {M : Type 1} → statement M
+own-turn-spec =
     tie.close
     (tie.spec
     told-requires
     returns
     session-requires
-    call-requires
+    own-turn-requires
     of-requires
     told-requires-2
     returns-2)

@@ -25,6 +25,7 @@ pub mod Closings
 pub mod Keeps
 pub mod Opened
 pub mod Answers
+pub mod Outcomes
 pub mod Determined
 pub mod Halves
 pub mod HalvesKept

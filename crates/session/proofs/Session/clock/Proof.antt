@@ -8,13 +8,13 @@ use native.Mathlib.Numerals.{add-one}
 use Prim.Native.Nat.{_+_, _≤_, _<_, _-_}
 use lib.Dec.{ltb}
 use lib.ListN.{length-map}
-use Rattle.table.specs.Fold.{if, sumTo}
 use Rattle.table.specs.Refusal.{given, _or-next_}
 use Rattle.session.specs.Time.{session-end, moment, diskTime}
 use Rattle.session.specs.Session.{streamAt, horizon, scaledPart, latest, sound}
 use Rattle.session.specs.Calls.{set-clock, busy, late, callRefusal, effect, apply, replyTo, outcome, answerTo}
 use Rattle.session.specs.declared.time.Clock.{Clock}
 use Rattle.session.specs.declared.call.Call.{Call}
+use Rattle.session.proofs.Outcomes.{clocked-late, clocked}
 use Rattle.session.proofs.Answers.{unsound-answer, refused, accepted}
 use Rattle.session.proofs.Summing.{sumsTo, sums-none, sums-more, can-sum, can-end, until-is}
 use Rattle.session.proofs.Sound.{sound-of, admits, count-high, bounded}
@@ -41,10 +41,10 @@ abbrev μ-loop3 : tie.MeasureT-loop3
 μ-loop3 time s i rest j at used before now back past h sums₀ k₀ sums k = s .count - k
 
 element-copy-out-first : tie.Need-element-copy-out-first Inv-loop μ-loop Inv-loop2 μ-loop2 Inv-loop3 μ-loop3
-element-copy-out-first c = search needs
+element-copy-out-first c = omega arith
 
 begin-requires : tie.Need-begin-requires Inv-loop μ-loop Inv-loop2 μ-loop2 Inv-loop3 μ-loop3
-begin-requires c κs = search needs
+begin-requires c κs = tt
 
 -- that there are eight streams stands in what is told of the parameter: its last field is an array of eight, of the streams mapped
 loop-holds : tie.Need-loop-holds Inv-loop μ-loop Inv-loop2 μ-loop2 Inv-loop3 μ-loop3
@@ -84,10 +84,10 @@ mul-x-2 : tie.Need-mul-x-2 Inv-loop μ-loop Inv-loop2 μ-loop2 Inv-loop3 μ-loop
 mul-x-2 c = omega arith
 
 element-copy-out-x-2 : tie.Need-element-copy-out-x-2 Inv-loop μ-loop Inv-loop2 μ-loop2 Inv-loop3 μ-loop3
-element-copy-out-x-2 c = search needs
+element-copy-out-x-2 c = omega arith
 
 is-unused-requires : tie.Need-is-unused-requires Inv-loop μ-loop Inv-loop2 μ-loop2 Inv-loop3 μ-loop3
-is-unused-requires c κs = search needs
+is-unused-requires c κs = tt
 
 add-j : tie.Need-add-j Inv-loop μ-loop Inv-loop2 μ-loop2 Inv-loop3 μ-loop3
 add-j c = omega arith
@@ -99,7 +99,7 @@ loop2-again : tie.Need-loop2-again Inv-loop μ-loop Inv-loop2 μ-loop2 Inv-loop3
 loop2-again c = let at = c .before .before .before .loop2 in rw (c .is-unused .ensures) (resting-more _ _ _ _ (at .inv) (omega arith))
 
 slot-of-requires : tie.Need-slot-of-requires Inv-loop μ-loop Inv-loop2 μ-loop2 Inv-loop3 μ-loop3
-slot-of-requires c κs = search needs
+slot-of-requires c κs = tt
 
 mul-disk : tie.Need-mul-disk Inv-loop μ-loop Inv-loop2 μ-loop2 Inv-loop3 μ-loop3
 mul-disk c = omega (arith, c .slot-of .ensures .0)
@@ -123,23 +123,23 @@ ahead : (c : tie.Then2 Inv-loop μ-loop Inv-loop2 μ-loop2 Inv-loop3 μ-loop3) �
 ahead c = tested (c .before) .1 (c .if2 .taken)
 
 at-requires : tie.Need-at-requires Inv-loop μ-loop Inv-loop2 μ-loop2 Inv-loop3 μ-loop3
-at-requires c κs = search needs
+at-requires c κs = tt
 
 is-after-requires : tie.Need-is-after-requires Inv-loop μ-loop Inv-loop2 μ-loop2 Inv-loop3 μ-loop3
-is-after-requires c κs = search needs
+is-after-requires c κs = tt
 
 -- past 10 the disk is free, past 13 the time is not below the clock, and past 14 it stays in the session
 onward : (c : tie.Then4 Inv-loop μ-loop Inv-loop2 μ-loop2 Inv-loop3 μ-loop3) → let a = c .before .before .before .before .before .before .before .before .before .before .before .before .before .before .before .before .before .args in ltb (a .time) (a .t1 .clock .0) ≡ false
 onward c = rw (c .before .before .at .ensures) at (sym (c .before .is-after .ensures) ∙ not-true _ (c .if4 .taken))
 
 is-past-end-requires : tie.Need-is-past-end-requires Inv-loop μ-loop Inv-loop2 μ-loop2 Inv-loop3 μ-loop3
-is-past-end-requires c κs = search needs
+is-past-end-requires c κs = tt
 
 in-time : (c : tie.Then5 Inv-loop μ-loop Inv-loop2 μ-loop2 Inv-loop3 μ-loop3) → let a = c .before .before .before .before .before .before .before .before .before .before .before .before .before .before .before .before .before .before .before .args in ltb session-end (a .time) ≡ false
 in-time c = rw (c .before .before .before .before .at .ensures) at (sym (c .before .is-past-end .ensures) ∙ not-true _ (c .if5 .taken))
 
 of-requires : tie.Need-of-requires Inv-loop μ-loop Inv-loop2 μ-loop2 Inv-loop3 μ-loop3
-of-requires c κs = search needs
+of-requires c κs = tt
 
 loop3-holds : tie.Need-loop3-holds Inv-loop μ-loop Inv-loop2 μ-loop2 Inv-loop3 μ-loop3
 loop3-holds c = (omega arith, rw (c .of .ensures) (sums-none _))
@@ -180,10 +180,10 @@ until : (c : tie.After-less-remainders Inv-loop μ-loop Inv-loop2 μ-loop2 Inv-l
 until c = rw (c .less-remainders .ensures, whole (c .before), ahead (c .before .before .before .before .before .before .before .before .before .before .before .before)) (until-is _)
 
 is-after-requires-2 : tie.Need-is-after-requires-2 Inv-loop μ-loop Inv-loop2 μ-loop2 Inv-loop3 μ-loop3
-is-after-requires-2 c κs = search needs
+is-after-requires-2 c κs = tt
 
 is-after-requires-3 : tie.Need-is-after-requires-3 Inv-loop μ-loop Inv-loop2 μ-loop2 Inv-loop3 μ-loop3
-is-after-requires-3 c κs = search needs
+is-after-requires-3 c κs = tt
 
 -- what a report of the time is answered
 answered : (c : tie.After-is-after3 Inv-loop μ-loop Inv-loop2 μ-loop2 Inv-loop3 μ-loop3) → let a = c .before .before .before .before .before .before .before .before .before .before .before .before .before .before .before .before .before .before .before .before .before .before .before .before .before .before .args in answerTo (a .t1) (Call.Clock (a .time)) ≡ outcome (a .t1) (set-clock (a .time))
@@ -197,14 +197,10 @@ unfolding late
 lateness c = rw (c .before .is-after2 .ensures, c .is-after3 .ensures, until (c .before .before), c .before .before .before .before .before .before .before .before .before .before .before .at .ensures)
 
 returns : tie.Need-returns Inv-loop μ-loop Inv-loop2 μ-loop2 Inv-loop3 μ-loop3
-unfolding apply replyTo if
-returns c =
-    rw (c .before .before .before .before .before .before .before .before .before .before .before .before .at .ensures) (sym (answered (c .before) ∙ rw (sym (lateness (c .before)) ∙ c .if6 .taken)))
+returns c = clocked-late _ _ _ (c .before .before .before .before .before .before .before .before .before .before .before .before .at .ensures) (sym (lateness (c .before)) ∙ c .if6 .taken) ∙ sym (answered (c .before))
 
 returns-2 : tie.Need-returns-2 Inv-loop μ-loop Inv-loop2 μ-loop2 Inv-loop3 μ-loop3
-unfolding apply replyTo if
-returns-2 c =
-    rw (c .before .before .before .before .before .before .before .before .before .before .before .before .at .ensures) (sym (answered (c .before) ∙ rw (sym (lateness (c .before)) ∙ c .if6 .left)))
+returns-2 c = clocked _ _ _ (c .before .before .before .before .before .before .before .before .before .before .before .before .at .ensures) (sym (lateness (c .before)) ∙ c .if6 .left) ∙ sym (answered (c .before))
 
 returns-3 : tie.Need-returns-3 Inv-loop μ-loop Inv-loop2 μ-loop2 Inv-loop3 μ-loop3
 unfolding callRefusal given _or-next_ busy apply replyTo

@@ -7,14 +7,15 @@ use native.Mathlib.Omega.{arith}
 use Prim.Native.Nat.{_+_, _≤_, _<_, _-_}
 use lib.Dec.{ltb}
 use lib.ListN.{length-map}
-use Rattle.table.specs.Fold.{if}
 use Rattle.table.specs.Refusal.{given, _or-next_, outside}
 use Rattle.table.proofs.Tests.{within}
 use Rattle.session.specs.Time.{session-end, moment}
 use Rattle.session.specs.Stream.{charged}
 use Rattle.session.specs.Session.{streamAt, horizon, sound}
-use Rattle.session.specs.Calls.{finish, busy, overlong, callRefusal, effect, apply, replyTo, outcome, answerTo}
+use Rattle.session.specs.Calls.{finish, busy, callRefusal, effect, apply, replyTo, outcome, answerTo}
 use Rattle.session.specs.declared.call.Call.{Call}
+use Rattle.session.specs.declared.time.Charge.{Charge}
+use Rattle.session.proofs.Outcomes.{finished-late, finished}
 use Rattle.session.proofs.Answers.{unsound-answer, refused, accepted}
 use Rattle.session.proofs.Grounds.{served-of}
 use Rattle.session.proofs.Fits.{charge-high}
@@ -36,10 +37,10 @@ abbrev μ-loop2 : tie.MeasureT-loop2
 μ-loop2 duration s census i rest₀ j₀ rest j = 8 - j
 
 element-copy-out-first : tie.Need-element-copy-out-first Inv-loop μ-loop Inv-loop2 μ-loop2
-element-copy-out-first c = search needs
+element-copy-out-first c = omega arith
 
 begin-requires : tie.Need-begin-requires Inv-loop μ-loop Inv-loop2 μ-loop2
-begin-requires c κs = search needs
+begin-requires c κs = tt
 
 -- that there are eight streams stands in what is told of the parameter: its last field is an array of eight, of the streams mapped
 loop-holds : tie.Need-loop-holds Inv-loop μ-loop Inv-loop2 μ-loop2
@@ -79,10 +80,10 @@ mul-x-2 : tie.Need-mul-x-2 Inv-loop μ-loop Inv-loop2 μ-loop2
 mul-x-2 c = omega arith
 
 element-copy-out-x-2 : tie.Need-element-copy-out-x-2 Inv-loop μ-loop Inv-loop2 μ-loop2
-element-copy-out-x-2 c = search needs
+element-copy-out-x-2 c = omega arith
 
 is-unused-requires : tie.Need-is-unused-requires Inv-loop μ-loop Inv-loop2 μ-loop2
-is-unused-requires c κs = search needs
+is-unused-requires c κs = tt
 
 add-j : tie.Need-add-j Inv-loop μ-loop Inv-loop2 μ-loop2
 add-j c = omega arith
@@ -94,7 +95,7 @@ loop2-again : tie.Need-loop2-again Inv-loop μ-loop Inv-loop2 μ-loop2
 loop2-again c = let at = c .before .before .before .loop2 in rw (c .is-unused .ensures) (resting-more _ _ _ _ (at .inv) (omega arith))
 
 slot-of-requires : tie.Need-slot-of-requires Inv-loop μ-loop Inv-loop2 μ-loop2
-slot-of-requires c κs = search needs
+slot-of-requires c κs = tt
 
 mul-disk : tie.Need-mul-disk Inv-loop μ-loop Inv-loop2 μ-loop2
 mul-disk c = omega (arith, c .slot-of .ensures .0)
@@ -126,7 +127,7 @@ unfolding outside
 in-range c = not-true _ (c .if4 .taken)
 
 of-requires : tie.Need-of-requires Inv-loop μ-loop Inv-loop2 μ-loop2
-of-requires c κs = search needs
+of-requires c κs = tt
 
 after-requires : tie.Need-after-requires Inv-loop μ-loop Inv-loop2 μ-loop2
 after-requires c κs =
@@ -134,7 +135,7 @@ after-requires c κs =
     (sound-of _ (ok (c .before .before .before .before)) .clock-high, rw (c .before .of .ensures) (omega (arith, range)))
 
 is-past-end-requires : tie.Need-is-past-end-requires Inv-loop μ-loop Inv-loop2 μ-loop2
-is-past-end-requires c κs = search needs
+is-past-end-requires c κs = tt
 
 cast-overlong : tie.Need-cast-overlong Inv-loop μ-loop Inv-loop2 μ-loop2
 cast-overlong c = search needs
@@ -174,17 +175,18 @@ answered c =
     let a = c .before .before .before .before .before .before .before .before .before .before .before .before .before .before .before .before .before .before .before .before .before .before .args in
     accepted (a .t1) (Call.Done (a .duration)) (ok (c .before .before .before .before .before .before .before .before .before .before)) (rw (ne-eqb _ _ (c .before .before .before .before .before .before .before .before .before .if3 .taken), in-range (c .before .before .before .before .before .before .before .before), in-time (c .before .before .before)))
 
+-- the stream and the clock that were stored
+stored : (c : tie.After-charge Inv-loop μ-loop Inv-loop2 μ-loop2) → let a = c .before .before .before .before .before .before .before .before .before .before .before .before .before .before .before .before .before .before .before .before .before .before .args in c .before .charged .result ≡ charged (a .duration) (streamAt (a .t1) (a .t1 .served - 1))
+stored c = c .before .charged .ensures ∙ ap (λ (d : Charge). charged (d .0) (streamAt (c .before .before .before .before .before .before .before .before .before .before .before .before .before .before .before .before .before .before .before .before .before .before .args .t1) (c .before .before .before .before .before .before .before .before .before .before .before .before .before .before .before .before .before .before .before .before .before .before .args .t1 .served - 1))) (c .before .before .before .before .before .before .before .of .ensures)
+
+grown : (c : tie.After-charge Inv-loop μ-loop Inv-loop2 μ-loop2) → let a = c .before .before .before .before .before .before .before .before .before .before .before .before .before .before .before .before .before .before .before .before .before .before .args in c .before .before .before .before .before .after .result ≡ moment (a .t1 .clock .0 + a .duration)
+grown c = c .before .before .before .before .before .after .ensures ∙ ap (λ (d : Charge). moment (c .before .before .before .before .before .before .before .before .before .before .before .before .before .before .before .before .before .before .before .before .before .before .args .t1 .clock .0 + d .0)) (c .before .before .before .before .before .before .before .of .ensures)
+
 returns : tie.Need-returns Inv-loop μ-loop Inv-loop2 μ-loop2
-unfolding apply replyTo charged overlong if
-returns c =
-    rw (c .before .before .before .before .before .before .after .ensures, c .before .before .charged .ensures, c .before .before .before .before .before .before .before .before .of .ensures)
-    (sym (answered (c .before) ∙ rw (c .if6 .taken)))
+returns c = finished-late _ _ _ _ _ (stored (c .before)) (grown (c .before)) (c .if6 .taken) ∙ sym (answered (c .before))
 
 returns-2 : tie.Need-returns-2 Inv-loop μ-loop Inv-loop2 μ-loop2
-unfolding apply replyTo charged overlong if
-returns-2 c =
-    rw (c .before .before .before .before .before .before .after .ensures, c .before .before .charged .ensures, c .before .before .before .before .before .before .before .before .of .ensures)
-    (sym (answered (c .before) ∙ rw (c .if6 .left)))
+returns-2 c = finished _ _ _ _ _ (stored (c .before)) (grown (c .before)) (c .if6 .left) ∙ sym (answered (c .before))
 
 returns-3 : tie.Need-returns-3 Inv-loop μ-loop Inv-loop2 μ-loop2
 unfolding callRefusal given _or-next_ busy apply replyTo

@@ -25,6 +25,7 @@ use Rattle.session.specs.declared.call.Call.{Call}
 use Rattle.session.proofs.Sound.{Sound, sound-of, admits, count-high, bounded, deadline-high}
 use Rattle.session.proofs.Fits.{charge-high, expired-high}
 use Rattle.session.proofs.Grounds.{chosen-grounds, expiring-grounds}
+use Rattle.session.proofs.Outcomes.{sent, waited, lapsed-one}
 use Rattle.session.proofs.Answers.{unsound-answer, refused, sendable, turn-sends, turn-waits, turn-expires, turn-moves, turn-ends}
 use Rattle.session.proofs.Picks.{Picked, picked-next, picked-none}
 use Rattle.session.proofs.Lapses.{lapseTo, lapse-in, lapse-more}
@@ -69,10 +70,10 @@ abbrev μ-loop5 : tie.MeasureT-loop5
 μ-loop5 s₀ i rest j at used h k passes m now next₀ l₀ s next l = s .count - l
 
 element-copy-out-first : tie.Need-element-copy-out-first Inv-loop μ-loop Inv-loop2 μ-loop2 Inv-loop3 μ-loop3 Inv-loop4 μ-loop4 Inv-loop5 μ-loop5
-element-copy-out-first c = search needs
+element-copy-out-first c = omega arith
 
 begin-requires : tie.Need-begin-requires Inv-loop μ-loop Inv-loop2 μ-loop2 Inv-loop3 μ-loop3 Inv-loop4 μ-loop4 Inv-loop5 μ-loop5
-begin-requires c κs = search needs
+begin-requires c κs = tt
 
 -- that there are eight streams stands in what is told of the parameter: its last field is an array of eight, of the streams mapped
 loop-holds : tie.Need-loop-holds Inv-loop μ-loop Inv-loop2 μ-loop2 Inv-loop3 μ-loop3 Inv-loop4 μ-loop4 Inv-loop5 μ-loop5
@@ -112,10 +113,10 @@ mul-x-2 : tie.Need-mul-x-2 Inv-loop μ-loop Inv-loop2 μ-loop2 Inv-loop3 μ-loop
 mul-x-2 c = omega arith
 
 element-copy-out-x-2 : tie.Need-element-copy-out-x-2 Inv-loop μ-loop Inv-loop2 μ-loop2 Inv-loop3 μ-loop3 Inv-loop4 μ-loop4 Inv-loop5 μ-loop5
-element-copy-out-x-2 c = search needs
+element-copy-out-x-2 c = omega arith
 
 is-unused-requires : tie.Need-is-unused-requires Inv-loop μ-loop Inv-loop2 μ-loop2 Inv-loop3 μ-loop3 Inv-loop4 μ-loop4 Inv-loop5 μ-loop5
-is-unused-requires c κs = search needs
+is-unused-requires c κs = tt
 
 add-j : tie.Need-add-j Inv-loop μ-loop Inv-loop2 μ-loop2 Inv-loop3 μ-loop3 Inv-loop4 μ-loop4 Inv-loop5 μ-loop5
 add-j c = omega arith
@@ -127,7 +128,7 @@ loop2-again : tie.Need-loop2-again Inv-loop μ-loop Inv-loop2 μ-loop2 Inv-loop3
 loop2-again c = let at = c .before .before .before .loop2 in rw (c .is-unused .ensures) (resting-more _ _ _ _ (at .inv) (omega arith))
 
 slot-of-requires : tie.Need-slot-of-requires Inv-loop μ-loop Inv-loop2 μ-loop2 Inv-loop3 μ-loop3 Inv-loop4 μ-loop4 Inv-loop5 μ-loop5
-slot-of-requires c κs = search needs
+slot-of-requires c κs = tt
 
 mul-disk : tie.Need-mul-disk Inv-loop μ-loop Inv-loop2 μ-loop2 Inv-loop3 μ-loop3 Inv-loop4 μ-loop4 Inv-loop5 μ-loop5
 mul-disk c = omega (arith, c .slot-of .ensures .0)
@@ -151,7 +152,7 @@ ahead : (c : tie.Then2 Inv-loop μ-loop Inv-loop2 μ-loop2 Inv-loop3 μ-loop3 In
 ahead c = tested (c .before) .1 (c .if2 .taken)
 
 at-requires : tie.Need-at-requires Inv-loop μ-loop Inv-loop2 μ-loop2 Inv-loop3 μ-loop3 Inv-loop4 μ-loop4 Inv-loop5 μ-loop5
-at-requires c κs = search needs
+at-requires c κs = tt
 
 loop3-holds : tie.Need-loop3-holds Inv-loop μ-loop Inv-loop2 μ-loop2 Inv-loop3 μ-loop3 Inv-loop4 μ-loop4 Inv-loop5 μ-loop5
 unfolding someTo firstBest
@@ -229,7 +230,7 @@ none : (c : tie.Else4 Inv-loop μ-loop Inv-loop2 μ-loop2 Inv-loop3 μ-loop3 Inv
 none c = sym (picked (c .before) .0) ∙ c .if4 .left
 
 of-requires : tie.Need-of-requires Inv-loop μ-loop Inv-loop2 μ-loop2 Inv-loop3 μ-loop3 Inv-loop4 μ-loop4 Inv-loop5 μ-loop5
-of-requires c κs = search needs
+of-requires c κs = tt
 
 loop4-holds : tie.Need-loop4-holds Inv-loop μ-loop Inv-loop2 μ-loop2 Inv-loop3 μ-loop3 Inv-loop4 μ-loop4 Inv-loop5 μ-loop5
 unfolding someTo firstBest
@@ -311,7 +312,7 @@ until : (c : tie.After-less-remainders Inv-loop μ-loop Inv-loop2 μ-loop2 Inv-l
 until c = rw (c .less-remainders .ensures, surveyed (c .before .before) .1, ahead (c .before .before .before .before .before .before .before .before .before .before .before)) (until-is _)
 
 is-after-requires : tie.Need-is-after-requires Inv-loop μ-loop Inv-loop2 μ-loop2 Inv-loop3 μ-loop3 Inv-loop4 μ-loop4 Inv-loop5 μ-loop5
-is-after-requires c κs = search needs
+is-after-requires c κs = tt
 
 -- the slot that expires is a used stream's, whose numbers are small
 expired-at : (c : tie.Else6 Inv-loop μ-loop Inv-loop2 μ-loop2 Inv-loop3 μ-loop3 Inv-loop4 μ-loop4 Inv-loop5 μ-loop5) → let s = c .before .before .before .before .before .before .before .before .before .before .before .before .before .before .before .before .before .before .before .before .before .before .before .before .before .before .args .t1 in let n = c .before .before .before .before .before .before .loop4 .lapse .stream in
@@ -343,7 +344,7 @@ add-number-2 : tie.Need-add-number-2 Inv-loop μ-loop Inv-loop2 μ-loop2 Inv-loo
 add-number-2 c = omega (arith, expired-at (c .before .before .before) .0)
 
 element-copy-out-lowest : tie.Need-element-copy-out-lowest Inv-loop μ-loop Inv-loop2 μ-loop2 Inv-loop3 μ-loop3 Inv-loop4 μ-loop4 Inv-loop5 μ-loop5
-element-copy-out-lowest c = search needs
+element-copy-out-lowest c = omega arith
 
 moved-requires : tie.Need-moved-requires Inv-loop μ-loop Inv-loop2 μ-loop2 Inv-loop3 μ-loop3 Inv-loop4 μ-loop4 Inv-loop5 μ-loop5
 moved-requires c κs = deadline-high _ (sound-of _ (ok (c .before .before .before .before .before .before .before .before .before .before .before .before .before))) 0 (omega arith)
@@ -380,7 +381,7 @@ element-set-from-y-3 : tie.Need-element-set-from-y-3 Inv-loop μ-loop Inv-loop2 
 element-set-from-y-3 c = within (c .before .before)
 
 earlier-requires : tie.Need-earlier-requires Inv-loop μ-loop Inv-loop2 μ-loop2 Inv-loop3 μ-loop3 Inv-loop4 μ-loop4 Inv-loop5 μ-loop5
-earlier-requires c κs = search needs
+earlier-requires c κs = tt
 
 add-l : tie.Need-add-l Inv-loop μ-loop Inv-loop2 μ-loop2 Inv-loop3 μ-loop3 Inv-loop4 μ-loop4 Inv-loop5 μ-loop5
 add-l c = omega (arith, within (c .before .before .before))
@@ -398,28 +399,26 @@ loop5-again c =
     )
 
 returns : tie.Need-returns Inv-loop μ-loop Inv-loop2 μ-loop2 Inv-loop3 μ-loop3 Inv-loop4 μ-loop4 Inv-loop5 μ-loop5
-unfolding apply replyTo
 returns c =
     let s = c .before .before .before .before .before .before .before .before .before .before .before .before .before .before .before .before .before .before .before .before .before .args .t1 in
     let p = picked (c .before .before .before .before) in
     let found = c .before .before .before .if4 .taken in
-    rw (c .without .ensures)
-    (ap₂ (λ (i j : ℕ). outcome s (send i j)) (p .1) (p .2 found) ∙ sym (turn-sends s (ok (c .before .before .before .before .before .before .before .before .before)) (c .before .before .before .before .before .before .before .before .if3 .taken) (sym (p .0) ∙ found)))
+    sent s _ _ _ (c .without .ensures) ∙ ap₂ (λ (i j : ℕ). outcome s (send i j)) (p .1) (p .2 found) ∙ sym (turn-sends s (ok (c .before .before .before .before .before .before .before .before .before)) (c .before .before .before .before .before .before .before .before .if3 .taken) (sym (p .0) ∙ found))
 
 returns-2 : tie.Need-returns-2 Inv-loop μ-loop Inv-loop2 μ-loop2 Inv-loop3 μ-loop3 Inv-loop4 μ-loop4 Inv-loop5 μ-loop5
-unfolding apply replyTo
 returns-2 c =
     let s = c .before .before .before .before .before .before .before .before .before .before .before .before .before .before .before .before .before .before .before .before .before .before .before .before .before .before .args .t1 in
     let early = rw (until (c .before .before .before)) at (sym (c .before .is-after .ensures) ∙ c .if6 .taken) in
-    rw (until (c .before .before .before)) (sym (turn-waits s (ok (c .before .before .before .before .before .before .before .before .before .before .before .before .before .before)) (c .before .before .before .before .before .before .before .before .before .before .before .before .before .if3 .taken) (none (c .before .before .before .before .before .before .before .before)) (slot (c .before .before .before .before)) early))
+    waited s _ (until (c .before .before .before)) ∙ sym (turn-waits s (ok (c .before .before .before .before .before .before .before .before .before .before .before .before .before .before)) (c .before .before .before .before .before .before .before .before .before .before .before .before .before .if3 .taken) (none (c .before .before .before .before .before .before .before .before)) (slot (c .before .before .before .before)) early)
 
 returns-3 : tie.Need-returns-3 Inv-loop μ-loop Inv-loop2 μ-loop2 Inv-loop3 μ-loop3 Inv-loop4 μ-loop4 Inv-loop5 μ-loop5
-unfolding apply replyTo lapsed lapseOf
+unfolding lapseOf
 returns-3 c =
     let s = c .before .before .before .before .before .before .before .before .before .before .before .before .before .before .before .before .before .before .before .before .before .before .before .before .before .before .before .before .before .args .t1 in
     let late = rw (until (c .before .before .before .before .before .before)) at (sym (c .before .before .before .before .is-after .ensures) ∙ c .before .before .before .if6 .left) in
-    rw (c .before .lapsed .ensures)
-    (ap (λ (l : Lapse). outcome s (expire (l .stream))) (surveyed (c .before .before .before .before .before .before .before .before) .0) ∙ sym (turn-expires s (ok (c .before .before .before .before .before .before .before .before .before .before .before .before .before .before .before .before .before)) (c .before .before .before .before .before .before .before .before .before .before .before .before .before .before .before .before .if3 .taken) (none (c .before .before .before .before .before .before .before .before .before .before .before)) (slot (c .before .before .before .before .before .before .before)) late))
+    lapsed-one s _ _ (c .before .lapsed .ensures)
+    ∙ ap (λ (l : Lapse). outcome s (expire (l .stream))) (surveyed (c .before .before .before .before .before .before .before .before) .0)
+    ∙ sym (turn-expires s (ok (c .before .before .before .before .before .before .before .before .before .before .before .before .before .before .before .before .before)) (c .before .before .before .before .before .before .before .before .before .before .before .before .before .before .before .before .if3 .taken) (none (c .before .before .before .before .before .before .before .before .before .before .before)) (slot (c .before .before .before .before .before .before .before)) late)
 
 returns-4 : tie.Need-returns-4 Inv-loop μ-loop Inv-loop2 μ-loop2 Inv-loop3 μ-loop3 Inv-loop4 μ-loop4 Inv-loop5 μ-loop5
 returns-4 c =

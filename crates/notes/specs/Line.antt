@@ -1,13 +1,17 @@
 -- The lines of notes: which there are, what is read as each, and how each is shown.
 use mathlib.Core.Bool.{Bool}
-use mathlib.Core.List.{List, [], _∷_}
-use Prim.Native.Nat.{ℕ, _+_, _*_, _^_}
+use mathlib.Core.List.{List, [], _∷_, _++_}
+use Prim.Native.Nat.{ℕ, zero, suc, _+_, _-_, _*_, _^_}
 use Prim.Native.String.{String}
 use lib.Dec.{ltb, eqb}
 use Rattle.table.specs.Fold.{if}
+use Rattle.table.specs.Ranges.{streams-max}
+use Rattle.table.specs.Admission.{reservedAt, periodAt}
+use Rattle.table.specs.declared.Table.{Table}
+use Rattle.file.specs.Reading.{eventsIn, eventAt}
 use Rattle.file.specs.declared.event.Event.{Event}
 use Rattle.file.specs.declared.event.Event.the-variants.{Arrival, Turn, OwnTurn, Done, Clock, Malformed}
-use Rattle.listing.specs.Line.{ascii, wordedFields}
+use Rattle.listing.specs.Line.{ascii, rendered, wordedFields}
 use Rattle.notes.specs.declared.line.Line.{Line}
 use Rattle.notes.specs.declared.line.Line.the-variants.{Blank, Worst, Span, Padding, Stream, Call, Wrong}
 use Rattle.notes.specs.declared.draft.Place.{Place}
@@ -95,3 +99,26 @@ lineShown (Stream reserved period) = wordedFields (ascii "stream") (reserved ∷
 lineShown (Call event) = eventShown event
 lineShown Blank = wordedFields [] []
 lineShown Wrong = wordedFields [] []
+
+-- the lines of a table and a trace, in order and counted from 0: its three numbers, its streams, and the events. A table has eight places for streams.
+unfoldable pub streamAt : Table → ℕ → Line
+streamAt t i = if (ltb i streams-max) (Stream (reservedAt t i) (periodAt t i)) Wrong
+
+unfoldable pub afterNumbers : Table → List ℕ → ℕ → Line
+afterNumbers t trace i = if (ltb i (t .count)) (streamAt t i) (Call (eventAt trace (i - t .count)))
+
+unfoldable pub lineAt : Table → List ℕ → ℕ → Line
+lineAt t trace i =
+    if (eqb i 0) (Worst (t .worst))
+    (if (eqb i 1) (Span (t .span))
+    (if (eqb i 2) (Padding (t .padding))
+    (afterNumbers t trace (i - 3))))
+
+-- the first n lines of the notes of a table and a trace, as they are printed
+unfoldable pub shownTo : Table → List ℕ → ℕ → List ℕ
+shownTo t trace zero = []
+shownTo t trace (suc n) = shownTo t trace n ++ rendered (lineShown (lineAt t trace n))
+
+-- all of them
+abbrev pub notesOf : Table → List ℕ → List ℕ
+notesOf t trace = shownTo t trace (3 + t .count + eventsIn trace)

@@ -8,6 +8,7 @@ pub use draft::Place;
 use file::Event;
 use file::Writing;
 pub use line::Line;
+pub use line::line_at;
 use line::line_of;
 pub use line::shown;
 use table::Table;

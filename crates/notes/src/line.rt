@@ -4,10 +4,11 @@ use crate::draft::Place;
 use file::Event;
 use listing::Text;
 use listing::worded;
+use table::Table;
 ghost use mathlib.Core.Path.{_≡_};
 ghost use mathlib.Core.List.{[], _∷_};
 ghost use Rattle.listing.specs.Line.{wordedFields, textOf, Within};
-ghost use Rattle.notes.specs.Line.{wordLine, tableLine, numberLine, streamLine, pairLine, fieldsLine, lineOf, eventShown, lineShown};
+ghost use Rattle.notes.specs.Line.{wordLine, tableLine, numberLine, streamLine, pairLine, fieldsLine, lineOf, eventShown, lineShown, streamAt, afterNumbers, lineAt};
 
 // A line: nothing, a number of the table, a stream, an event, or none of these.
 pub enum Line {
@@ -153,6 +154,47 @@ fn stream_line(a: u64, b: u64) -> Line
     Line::Stream {
         reserved: a as u32,
         period: b as u32,
+    }
+}
+
+// The line at i of the notes of a table and a trace, counted from 0: the three numbers of the table, its streams, and the events.
+pub fn line_at(table: Table, trace: &[u8], i: usize) -> Line
+    ensures { λ r. ⌜ r ≡ lineAt table (now (trace .entry)) i ⌝ }
+{
+    if i == 0 {
+        return Line::Worst(table.worst);
+    }
+    if i == 1 {
+        return Line::Span(table.span);
+    }
+    if i == 2 {
+        return Line::Padding(table.padding);
+    }
+    after_numbers(table, trace, i - 3)
+}
+
+// The line at i of those after the numbers of a table.
+fn after_numbers(table: Table, trace: &[u8], i: usize) -> Line
+    ensures { λ r. ⌜ r ≡ afterNumbers table (now (trace .entry)) i ⌝ }
+{
+    if i < table.count {
+        return stream_at(table, i);
+    }
+    let event = file::event_at(trace, i - table.count);
+    Line::Call(event)
+}
+
+fn stream_at(table: Table, i: usize) -> Line
+    ensures { λ r. ⌜ r ≡ streamAt table i ⌝ }
+{
+    if Table::STREAMS_MAX <= i {
+        return Line::Wrong;
+    }
+    let reserved = table.reserved;
+    let period = table.period;
+    Line::Stream {
+        reserved: reserved[i],
+        period: period[i],
     }
 }
 

@@ -8,6 +8,7 @@ use table::Table;
 ghost use Rattle.listing.specs.Line.{Within};
 
 // The buffer holds more than the longest file, so that a longer one is refused without being read to its end.
+// Of an input that cannot be read it says so, and prints nothing: to read no byte fails then.
 fn main() {
     let mut none = [0u8; 0];
     if libc::read(STDIN_FILENO, &mut none) < 0 {

@@ -23,7 +23,7 @@ use Rattle.file.proofs.Events.{event-reads-back, event-writes-back}
 
 -- ---- from events to a trace and back
 
-length-event : (e : Event) → Coded e → length (bytesOf e) ≡ event-size
+pub length-event : (e : Event) → Coded e → length (bytesOf e) ≡ event-size
 unfolding bytesOf eventCells cell
 length-event (Arrival stream place) c = refl
 length-event Turn c = refl

@@ -2,3 +2,4 @@ pub mod Bytes
 pub mod Choices
 pub mod Digits
 pub mod ReadBack
+pub mod RoundTrip

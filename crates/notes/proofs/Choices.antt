@@ -7,11 +7,16 @@ use lib.Dec.{ltb, eqb}
 use borrow.Author.Tests.{eq-eqb, ne-eqb, lt-ltb, le-ltb}
 use Rattle.table.specs.Fold.{if}
 use Rattle.file.specs.Reading.{eventsIn}
+use Rattle.table.specs.declared.Table.{Table}
+use Rattle.table.proofs.Tests.{by-if}
 use Rattle.file.specs.Writing.{writeOf, writtenOn}
+use Rattle.file.specs.declared.Writing.{Writing}
+use Rattle.file.proofs.Round.{refused-changes-nothing}
 use Rattle.listing.specs.Line.{newline}
 use Rattle.notes.specs.declared.Notes.{Notes}
-use Rattle.notes.specs.declared.Composed.the-variants.{Wrong, Unfinished, Refused}
+use Rattle.notes.specs.declared.Composed.the-variants.{Written, Wrong, Unfinished, Refused}
 use Rattle.notes.specs.Notes.{Read, read, lineEnded, lengthened, byteRead, Filed, filed, told, expectedBy, traceOfNotes, filedBy}
+use Rattle.notes.specs.Laws.{NothingElseWritten}
 
 pub chosen : {A : Type 0} (b : Bool) (x y : A) → b ≡ true → if b x y ≡ x
 unfolding if
@@ -77,3 +82,20 @@ module _ (n : Notes) (trace out : List ℕ) where
 
       pub filed-whole : n .events ≤ eventsIn trace → filedBy n trace out ≡ fileWritten
       filed-whole h = on ∙ passed (ltb (eventsIn trace) (n .events)) (filed (Refused 17) out) fileWritten (le-ltb (eventsIn trace) (n .events) h)
+
+-- a file that the writer refuses leaves the buffer as it was
+not-told : (reply : Writing) (table : Table) (trace out : List ℕ) → writeOf table trace out ≡ reply → ((len : ℕ) → told reply ≡ Written len → ⊥)
+    → writtenOn table trace out ≡ out
+not-told (Writing.Written len) table trace out is none = absurd (none len refl)
+not-told (Writing.Refused number) table trace out is none = refused-changes-nothing table trace out number is
+
+pub nothing-else-written : NothingElseWritten
+unfolding filedBy
+nothing-else-written n trace out =
+    let P : Filed → Type 0 = λ f. ((len : ℕ) → f .reply ≡ Written len → ⊥) → f .out ≡ out in
+    by-if P (n .wrong) (filed (Wrong (n .line) (expectedBy n)) out) (right n trace out) (λ _ _. refl)
+    (λ _.
+    by-if P (ltb (n .numbers) 3) (filed (Unfinished (expectedBy n)) out) (whole n trace out) (λ _ _. refl)
+    (λ _.
+    by-if P (ltb (eventsIn trace) (n .events)) (filed (Refused 17) out) (fileWritten n trace out) (λ _ _. refl)
+    (λ _ none. not-told (writeOf (n .table) (traceOfNotes n trace) out) (n .table) (traceOfNotes n trace) out refl none)))

@@ -3,3 +3,4 @@ pub mod Choices
 pub mod Digits
 pub mod ReadBack
 pub mod RoundTrip
+pub mod Worked

@@ -3,12 +3,14 @@ use mathlib.Core.Bool.{true, false}
 use mathlib.Core.Path.{_≡_}
 use mathlib.Core.List.{List, _++_}
 use Prim.Native.Nat.{ℕ, _^_, _≤_, _<_}
-use lib.ListN.{length, drop}
+use lib.ListN.{length, drop, replicate}
 use Rattle.table.specs.declared.Table.{Table}
 use Rattle.cells.specs.Cells.{Bytes}
 use Rattle.file.specs.Reading.{eventsIn, tableIn, traceIn, isLaidOut}
 use Rattle.file.specs.Laws.{Coded}
-use Rattle.listing.specs.Line.{rendered}
+use Rattle.file.specs.Listing.{listing-file}
+use Rattle.listing.specs.Line.{ascii, rendered}
+use Rattle.notes.specs.declared.Notes.{Notes}
 use Rattle.notes.specs.declared.Composed.the-variants.{Written}
 use Rattle.notes.specs.declared.line.Line.{Line}
 use Rattle.notes.specs.declared.line.Line.the-variants.{Blank, Worst, Span, Padding, Stream, Call, Wrong}
@@ -43,3 +45,20 @@ ShownComposes =
     → let all = bytesRead (read started buffer) (notesOf (tableIn file) (traceIn file)) in
     let last = ended (all .notes) (all .trace) in
     filedBy (last .notes) (last .trace) out ≡ filed (Written (length file)) (file ++ drop (length file) out)
+
+-- Where no file is written, no byte of its buffer changes.
+abbrev pub NothingElseWritten : Type 0
+NothingElseWritten =
+    (n : Notes) (trace out : List ℕ) → ((len : ℕ) → filedBy n trace out .reply ≡ Written len → ⊥) → filedBy n trace out .out ≡ out
+
+-- Notes of listing (P), as they might be written by hand, are composed to the 234 bytes of its file.
+abbrev pub hand-written : List ℕ
+hand-written =
+    ascii "# listing (P)\nworst 25000\n  span  1000000\npadding 1 # the default\n\nstream 25000 250000\nstream 175000 500000\narrival 1 100\nturn\ndone 5000\nturn#\nclock 0105000\nturn\narrival 2 900\nturn\nclock 106000\ndone 25000 \nclock 160000"
+
+abbrev pub ListingComposes : Type 0
+ListingComposes =
+    let buffer : List ℕ = replicate 176 0 in
+    let all = bytesRead (read started buffer) hand-written in
+    let last = ended (all .notes) (all .trace) in
+    filedBy (last .notes) (last .trace) (replicate 234 0) ≡ filed (Written 234) listing-file

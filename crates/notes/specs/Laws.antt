@@ -1,13 +1,14 @@
 -- What is proved of notes.
 use mathlib.Core.Bool.{true, false}
 use mathlib.Core.Path.{_≡_}
-use mathlib.Core.List.{List, _++_}
-use Prim.Native.Nat.{ℕ, _^_, _≤_, _<_}
+use mathlib.Core.List.{List, _++_, map}
+use Prim.Native.Nat.{ℕ, _*_, _^_, _≤_, _<_}
 use lib.ListN.{length, drop, replicate}
 use Rattle.table.specs.declared.Table.{Table}
 use Rattle.cells.specs.Cells.{Bytes}
 use Rattle.file.specs.Reading.{eventsIn, tableIn, traceIn, isLaidOut}
 use Rattle.file.specs.Laws.{Coded}
+use Rattle.file.specs.File.{event-size}
 use Rattle.file.specs.Listing.{listing-file}
 use Rattle.listing.specs.Line.{ascii, rendered}
 use Rattle.notes.specs.declared.Notes.{Notes}
@@ -15,7 +16,8 @@ use Rattle.notes.specs.declared.Composed.the-variants.{Written}
 use Rattle.notes.specs.declared.line.Line.{Line}
 use Rattle.notes.specs.declared.line.Line.the-variants.{Blank, Worst, Span, Padding, Stream, Call, Wrong}
 use Rattle.notes.specs.Line.{lineShown, notesOf}
-use Rattle.notes.specs.Notes.{noted, started, after, Read, read, traceAfter, bytesRead, ended, filed, filedBy}
+use Rattle.notes.specs.Notes.{noted, started, after, Read, read, traceAfter, bytesRead, ended, Filed, filed, filedBy}
+use Rattle.notes.specs.Cases.{Case, cases}
 
 -- a line whose numbers have room in their fields
 abbrev pub Fits : Line → Type 0
@@ -51,14 +53,21 @@ abbrev pub NothingElseWritten : Type 0
 NothingElseWritten =
     (n : Notes) (trace out : List ℕ) → ((len : ℕ) → filedBy n trace out .reply ≡ Written len → ⊥) → filedBy n trace out .out ≡ out
 
+-- what composing makes of some notes, in buffers of zeros for so many events and a file of so many bytes
+abbrev pub composedIn : ℕ → ℕ → List ℕ → Filed
+composedIn events size notes =
+    let all = bytesRead (read started (replicate (event-size * events) 0)) notes in
+    let last = ended (all .notes) (all .trace) in
+    filedBy (last .notes) (last .trace) (replicate size 0)
+
 -- Notes of listing (P), as they might be written by hand, are composed to the 234 bytes of its file.
 abbrev pub hand-written : List ℕ
 hand-written =
     ascii "# listing (P)\nworst 25000\n  span  1000000\npadding 1 # the default\n\nstream 25000 250000\nstream 175000 500000\narrival 1 100\nturn\ndone 5000\nturn#\nclock 0105000\nturn\narrival 2 900\nturn\nclock 106000\ndone 25000 \nclock 160000"
 
 abbrev pub ListingComposes : Type 0
-ListingComposes =
-    let buffer : List ℕ = replicate 176 0 in
-    let all = bytesRead (read started buffer) hand-written in
-    let last = ended (all .notes) (all .trace) in
-    filedBy (last .notes) (last .trace) (replicate 234 0) ≡ filed (Written 234) listing-file
+ListingComposes = composedIn 11 234 hand-written ≡ filed (Written 234) listing-file
+
+-- Each case of `Cases` comes out as it stands there.
+abbrev pub CasesHold : Type 0
+CasesHold = map (λ (k : Case). composedIn 2 106 (ascii (k .notes)) .reply) cases ≡ map (λ (k : Case). k .answer) cases

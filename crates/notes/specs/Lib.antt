@@ -1,4 +1,5 @@
 pub mod Draft
 pub mod Line
 pub mod Notes
+pub mod Cases
 pub mod Laws

@@ -4,3 +4,4 @@ pub mod Digits
 pub mod ReadBack
 pub mod RoundTrip
 pub mod Worked
+pub mod Words

@@ -3,6 +3,7 @@ use mathlib.Core.Bool.{true, false}
 use mathlib.Core.Path.{_≡_}
 use mathlib.Core.List.{List, _++_, map}
 use Prim.Native.Nat.{ℕ, _*_, _^_, _≤_, _<_}
+use Prim.Native.Char.{code}
 use lib.ListN.{length, drop, replicate}
 use Rattle.table.specs.declared.Table.{Table}
 use Rattle.cells.specs.Cells.{Bytes}
@@ -11,11 +12,12 @@ use Rattle.file.specs.Laws.{Coded}
 use Rattle.file.specs.File.{event-size}
 use Rattle.file.specs.Listing.{listing-file}
 use Rattle.listing.specs.Line.{ascii, rendered}
+use Rattle.listing.specs.Laws.{Each}
 use Rattle.notes.specs.declared.Notes.{Notes}
 use Rattle.notes.specs.declared.Composed.the-variants.{Written}
 use Rattle.notes.specs.declared.line.Line.{Line}
 use Rattle.notes.specs.declared.line.Line.the-variants.{Blank, Worst, Span, Padding, Stream, Call, Wrong}
-use Rattle.notes.specs.Line.{lineShown, notesOf}
+use Rattle.notes.specs.Line.{heldAfter, lineShown, notesOf}
 use Rattle.notes.specs.Notes.{noted, started, after, Read, read, traceAfter, bytesRead, ended, Filed, filed, filedBy}
 use Rattle.notes.specs.Cases.{Case, cases}
 
@@ -35,6 +37,13 @@ LineReadsBack =
     (line numbers : ℕ) (table : Table) (events : ℕ) (trace : List ℕ) (l : Line) → Fits l
     → let n = noted line numbers table events in
     after n l .wrong ≡ false → bytesRead (read n trace) (rendered (lineShown l)) ≡ read (after n l) (traceAfter trace events l)
+
+-- Words are told apart by the numbers as which they are held, however many letters they have.
+abbrev pub Letter : ℕ → Type 0
+Letter byte = (code "a" ≤ byte) × (byte ≤ code "z")
+
+abbrev pub WordsTell : Type 0
+WordsTell = (a b : List ℕ) → Each Letter a → Each Letter b → heldAfter 0 a ≡ heldAfter 0 b → a ≡ b
 
 -- Notes may be read in pieces: it makes no difference where they are cut.
 abbrev pub PiecesJoin : Type 0

@@ -10,12 +10,12 @@ use Rattle.listing.specs.Laws.{Each}
 use Rattle.notes.specs.Line.{heldAfter}
 use Rattle.notes.specs.Laws.{Letter, WordsTell}
 
-held-append : (a b : List ℕ) (n : ℕ) → heldAfter n (a ++ b) ≡ heldAfter (heldAfter n a) b
+pub held-append : (a b : List ℕ) (n : ℕ) → heldAfter n (a ++ b) ≡ heldAfter (heldAfter n a) b
 unfolding heldAfter
 held-append [] b n = refl
 held-append (x ∷ a) b n = held-append a b (n * 256 + x)
 
-held-grows : (a : List ℕ) (n : ℕ) → n ≤ heldAfter n a
+pub held-grows : (a : List ℕ) (n : ℕ) → n ≤ heldAfter n a
 unfolding heldAfter
 held-grows [] n = omega arith
 held-grows (x ∷ a) n = omega (arith, held-grows a (n * 256 + x))

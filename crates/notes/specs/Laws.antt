@@ -1,7 +1,7 @@
 -- What is proved of notes.
 use mathlib.Core.Bool.{true, false}
 use mathlib.Core.Path.{_≡_}
-use mathlib.Core.List.{List, _++_, map}
+use mathlib.Core.List.{List, [], _∷_, _++_, map}
 use Prim.Native.Nat.{ℕ, _*_, _^_, _≤_, _<_}
 use Prim.Native.Char.{code}
 use lib.ListN.{length, drop, replicate}
@@ -16,8 +16,11 @@ use Rattle.listing.specs.Laws.{Each}
 use Rattle.notes.specs.declared.Notes.{Notes}
 use Rattle.notes.specs.declared.Composed.the-variants.{Written}
 use Rattle.notes.specs.declared.line.Line.{Line}
+use Rattle.notes.specs.declared.draft.Draft.{Draft}
 use Rattle.notes.specs.declared.line.Line.the-variants.{Blank, Worst, Span, Padding, Stream, Call, Wrong}
-use Rattle.notes.specs.Line.{heldAfter, lineShown, notesOf}
+use Rattle.notes.specs.Draft.{blank, withByte}
+use Rattle.notes.specs.Line.{heldAfter, lineOf, lineShown, notesOf}
+use Rattle.notes.specs.Words.{wordsOf, lineOfWords}
 use Rattle.notes.specs.Notes.{noted, started, after, Read, read, traceAfter, bytesRead, ended, Filed, filed, filedBy}
 use Rattle.notes.specs.Cases.{Case, cases}
 
@@ -37,6 +40,14 @@ LineReadsBack =
     (line numbers : ℕ) (table : Table) (events : ℕ) (trace : List ℕ) (l : Line) → Fits l
     → let n = noted line numbers table events in
     after n l .wrong ≡ false → bytesRead (read n trace) (rendered (lineShown l)) ≡ read (after n l) (traceAfter trace events l)
+
+-- A line that is read byte by byte is the line of its words, whatever bytes they are.
+unfoldable pub drawn : Draft → List ℕ → Draft
+drawn d [] = d
+drawn d (byte ∷ rest) = drawn (withByte d byte) rest
+
+abbrev pub LineByWords : Type 0
+LineByWords = (line : List ℕ) → lineOf (drawn blank line) ≡ lineOfWords (wordsOf line)
 
 -- Words are told apart by the numbers as which they are held, however many letters they have.
 abbrev pub Letter : ℕ → Type 0

@@ -1,4 +1,4 @@
--- A line that is shown is read as that line.
+-- A line of notes is taken as what its words say; and a line that is shown is read as that line.
 use mathlib.Core.Bool.{Bool, true, false, _&&_, false≢true}
 use mathlib.Core.Path.{_≡_, refl, sym, ap, _∙_}
 use mathlib.Core.List.{List, [], _∷_, _++_}
@@ -22,9 +22,11 @@ use Rattle.notes.specs.declared.draft.Place.the-variants.{Between, Withi
 use Rattle.notes.specs.declared.draft.Draft.{Draft}
 use Rattle.notes.specs.Draft.{drafted, blank, hash, isLetter, lettered, isDigit, longer, lengthens, firstLonger, secondLonger, inField, begun, afterGap, afterField, withByte}
 use Rattle.notes.specs.Line.{heldAfter, held, wordLine, tableLine, numberLine, streamLine, pairLine, fieldsLine, lineOf, lineShown}
-use Rattle.notes.specs.Notes.{noted, stopped, afterNumber, afterStream, afterEvent, after, Read, read, traceAfter, lineEnded, lengthened, byteRead, bytesRead}
-use Rattle.notes.specs.Laws.{Fits, LineReadsBack}
+use Rattle.notes.specs.Notes.{noted, stopped, afterNumber, afterStream, afterEvent, after, expectedBy, Read, read, traceAfter, lineEnded, lengthened, byteRead, bytesRead}
+use Rattle.notes.specs.Laws.{Fits, LineReadsBack, drawn, LineIsJudged}
+use Rattle.notes.specs.Words.{wordsOf, lineOfWords}
 use Rattle.notes.proofs.Choices.{byte-lengthens}
+use Rattle.notes.proofs.Grammar.{line-by-words}
 
 -- ---- digits
 
@@ -174,6 +176,59 @@ module _ (line numbers : ℕ) (table : Table) (events : ℕ) (trace : List ℕ) 
       ap (λ (k : Line). ending k (after (so-far d) k)) is
       ∙ ap (λ (next : Notes). ending l next) (after-same d l h)
       ∙ ap (λ (b : Bool). read (after before l) (if b trace (traceAfter trace events l))) h
+
+  -- and a line that may not stand there stops the reading
+  stops-choice : (b : Bool) (x y z : Notes) → if b x y .wrong ≡ true → x .wrong ≡ false → if b x z ≡ z
+  unfolding if
+  stops-choice true x y z h w = absurd (false≢true (sym w ∙ h))
+  stops-choice false x y z h w = refl
+
+  after-stops : (d : Draft) (l : Line) → after before l .wrong ≡ true → after (so-far d) l ≡ stopped (so-far d)
+  unfolding afterNumber afterStream afterEvent
+  after-stops d Blank h = absurd (false≢true h)
+  after-stops d (Worst x) h = stops-choice _ _ (stopped before) (stopped (so-far d)) h refl
+  after-stops d (Span x) h = stops-choice _ _ (stopped before) (stopped (so-far d)) h refl
+  after-stops d (Padding x) h = stops-choice _ _ (stopped before) (stopped (so-far d)) h refl
+  after-stops d (Stream e p) h = stops-choice _ _ (stopped before) (stopped (so-far d)) h refl
+  after-stops d (Call event) h = stops-choice _ _ (stopped before) (stopped (so-far d)) h refl
+  after-stops d Wrong h = refl
+
+  not-taken : (d : Draft) (l : Line) → lineOf d ≡ l → after before l .wrong ≡ true → lineEnded (so-far d) trace ≡ read (stopped (so-far d)) trace
+  unfolding lineEnded if
+  not-taken d l is h =
+      ap (λ (k : Line). ending k (after (so-far d) k)) is
+      ∙ ap (λ (next : Notes). ending l next) (after-stops d l h)
+
+  -- ---- any line
+
+  bytes-drawn : (bytes : List ℕ) (d : Draft) → Each (λ byte. byte ≡ newline → ⊥) bytes
+      → (rest : List ℕ) → bytesRead (at-draft d) (bytes ++ rest) ≡ bytesRead (at-draft (drawn d bytes)) rest
+  unfolding bytesRead drawn Each
+  bytes-drawn [] d p rest = refl
+  bytes-drawn (byte ∷ bytes) d p rest =
+      ap (λ (r : Read). bytesRead r (bytes ++ rest)) (byte-lengthens (so-far d) trace byte refl (p .0))
+      ∙ bytes-drawn bytes (withByte d byte) (p .1) rest
+
+  line-drawn : (bytes : List ℕ) → Each (λ byte. byte ≡ newline → ⊥) bytes
+      → bytesRead (at-draft blank) (bytes ++ (newline ∷ [])) ≡ lineEnded (so-far (drawn blank bytes)) trace
+  unfolding bytesRead byteRead if
+  line-drawn bytes p = bytes-drawn bytes blank p (newline ∷ [])
+
+pub line-is-judged : LineIsJudged
+unfolding expectedBy
+line-is-judged i k t e trace bytes p =
+    let d = drawn blank bytes in
+    let r = line-drawn i k t e trace bytes p in
+    let is = line-by-words bytes in (
+      λ right. r ∙ taken-as i k t e trace d (lineOfWords (wordsOf bytes)) is right,
+      λ wrong.
+          let q = r ∙ not-taken i k t e trace d (lineOfWords (wordsOf bytes)) is wrong in (
+            ap (λ (x : Read). x .notes .wrong) q,
+            ap (λ (x : Read). x .notes .line) q,
+            ap (λ (x : Read). expectedBy (x .notes)) q,
+            ap (λ (x : Read). x .trace) q,
+          ),
+    )
 
 -- ---- what each line is read as
 

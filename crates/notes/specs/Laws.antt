@@ -11,7 +11,7 @@ use Rattle.file.specs.Reading.{eventsIn, tableIn, traceIn, isLaidOut}
 use Rattle.file.specs.Laws.{Coded}
 use Rattle.file.specs.File.{event-size}
 use Rattle.file.specs.Listing.{listing-file}
-use Rattle.listing.specs.Line.{ascii, rendered}
+use Rattle.listing.specs.Line.{newline, ascii, rendered}
 use Rattle.listing.specs.Laws.{Each}
 use Rattle.notes.specs.declared.Notes.{Notes}
 use Rattle.notes.specs.declared.Composed.the-variants.{Written}
@@ -21,7 +21,7 @@ use Rattle.notes.specs.declared.line.Line.the-variants.{Blank, Worst, Sp
 use Rattle.notes.specs.Draft.{blank, withByte}
 use Rattle.notes.specs.Line.{heldAfter, lineOf, lineShown, notesOf}
 use Rattle.notes.specs.Words.{wordsOf, lineOfWords}
-use Rattle.notes.specs.Notes.{noted, started, after, Read, read, traceAfter, bytesRead, ended, Filed, filed, filedBy}
+use Rattle.notes.specs.Notes.{noted, started, after, expectedBy, Read, read, traceAfter, bytesRead, ended, Filed, filed, filedBy}
 use Rattle.notes.specs.Cases.{Case, cases}
 
 -- a line whose numbers have room in their fields
@@ -48,6 +48,17 @@ drawn d (byte ∷ rest) = drawn (withByte d byte) rest
 
 abbrev pub LineByWords : Type 0
 LineByWords = (line : List ℕ) → lineOf (drawn blank line) ≡ lineOfWords (wordsOf line)
+
+-- So a line of notes is taken as what its words say, where that may stand; where it may not, the line is told with what was expected, and the trace stays.
+abbrev pub LineIsJudged : Type 0
+LineIsJudged =
+    (line numbers : ℕ) (table : Table) (events : ℕ) (trace bytes : List ℕ) → Each (λ byte. byte ≡ newline → ⊥) bytes
+    → let n = noted line numbers table events in
+    let l = lineOfWords (wordsOf bytes) in
+    let r = bytesRead (read n trace) (bytes ++ (newline ∷ [])) in
+    (after n l .wrong ≡ false → r ≡ read (after n l) (traceAfter trace events l))
+    × (after n l .wrong ≡ true
+    → (r .notes .wrong ≡ true) × (r .notes .line ≡ line) × (expectedBy (r .notes) ≡ expectedBy n) × (r .trace ≡ trace))
 
 -- Words are told apart by the numbers as which they are held, however many letters they have.
 abbrev pub Letter : ℕ → Type 0

@@ -3,3 +3,4 @@
 void *memcpy(void *, const void *, size_t);
 void *memset(void *, int, size_t);
 int memcmp(const void *, const void *, size_t);
+int strcmp(const char *, const char *);

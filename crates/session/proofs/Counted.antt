@@ -12,7 +12,6 @@ use borrow.Author.Tests.{leb-true, eqb-true, eqb-false, le-leb, le-ltb, lt-ltb, 
 use Rattle.table.specs.Fold.{if, sumTo, smallestTo, largestTo, allTo}
 use Rattle.table.specs.Refusal.{given, _or-next_}
 use Rattle.table.specs.Admission.{periodAt, grantedOf, shareOf, shareAt, streamRefusalAt, numbersRefusal, streamRefusal, streamsRefusal, sharesOf, smallestPeriod, loadOf, admissionOf}
-use Rattle.table.specs.declared.Table.{Table}
 use Rattle.table.proofs.Tests.{le-or-lt, both, by-if, or-next-none, same-test}
 use Rattle.table.proofs.Folds.{at-or-below, first-none, first-all, largest-le, largest-high, sum-agree, sum-high, smallest-agree, smallest-is, all-at, all-of}
 use Rattle.table.proofs.Judged.{Numbers, numbers-of, Fits-in, stream-of, share-high, admits-of}
@@ -103,25 +102,24 @@ module _ (s : Session) where
     pub passed : c .sound ≡ true → Passed c n
     pub failed : c .sound ≡ false → sound s ≡ false
 
-  pub counted-none : (t : Table) → t .worst ≡ s .worst → t .span ≡ s .span → t .padding ≡ s .padding → t .count ≡ s .count
-      → numbersRefusal t ≡ numbersRefusal (tableOf s) → CountedTo (begun t (streamAt s 0)) 0
-  unfolding begun smallestTo largestTo sumTo admissionOf
-  counted-none t w h k n same =
+  pub counted-none : CountedTo (begun (s .worst) (s .span) (s .padding) (s .count) (streamAt s 0)) 0
+  unfolding begun smallestTo largestTo sumTo admissionOf numbersRefusal
+  counted-none =
       record {
-        worst = w;
-        span = h;
-        padding = k;
-        count = n;
+        worst = refl;
+        span = refl;
+        padding = refl;
+        count = refl;
         passed = λ ok.
             record {
-              numbers = sym same ∙ eqb-true _ _ ok;
+              numbers = eqb-true _ _ ok;
               each = λ i l. absurd (omega (arith, l));
               horizon = refl;
               released = refl;
               shares = refl;
               least = refl;
             };
-        failed = λ bad. not-sound (λ q. eqb-false _ _ bad (same ∙ or-next-none _ _ (q .admitted) .0));
+        failed = λ bad. not-sound (λ q. eqb-false _ _ bad (or-next-none _ _ (q .admitted) .0));
       }
 
   pub counted-more : (c : Census) (n : ℕ) → n < s .count → c .sound ≡ true → CountedTo c n → CountedTo (counted c (streamAt s n)) (n + 1)

@@ -7,10 +7,12 @@ pub mod Picks
 pub mod Fits
 pub mod Sound
 pub mod Counted
+pub mod Judging
 pub mod Best
 pub mod Ranks
 pub mod First
 pub mod Remainders
+pub mod Summing
 pub mod Latest
 pub mod Fractions
 pub mod Lapses

@@ -3,7 +3,7 @@ use mathlib.Core.Bool.{Bool, true, false, not, _&&_, _||_}
 use mathlib.Core.List.{List}
 use mathlib.Core.Path.{_≡_}
 use Prim.Native.Nat.{ℕ, _+_, _*_, _/_, _≤_, _<_, min, max}
-use lib.ListN.{getD}
+use lib.ListN.{getD, replicate}
 use lib.Dec.{leb, ltb, eqb}
 use Rattle.table.specs.Fold.{if}
 use Rattle.table.specs.Ranges.{worst-max}
@@ -19,7 +19,6 @@ use Rattle.session.specs.declared.census.Census.{Census}
 use Rattle.session.specs.declared.choice.Near.{Near}
 use Rattle.session.specs.declared.choice.Pick.{Pick}
 use Rattle.session.specs.declared.expiry.Lapse.{Lapse}
-use Rattle.session.specs.declared.survey.Survey.{Survey}
 use Rattle.session.specs.declared.stream.Stream.{Stream}
 use Rattle.session.specs.declared.Session.{Session}
 
@@ -28,14 +27,14 @@ unfoldable pub inOrder : ℕ → ℕ → ℕ → Stream → Bool
 inOrder worst span k x = eqb (streamRefusal worst span k (x .reserved) (x .period)) 0 && soundCells worst k x
 
 -- what is kept of a session's streams as it is judged: before the first used stream, and with one more
-unfoldable pub begun : Table → Stream → Census
-begun t first =
+unfoldable pub begun : ℕ → ℕ → ℕ → ℕ → Stream → Census
+begun worst span k count first =
     record {
-      worst = t .worst;
-      span = t .span;
-      padding = t .padding;
-      count = t .count;
-      sound = eqb (numbersRefusal t) 0;
+      worst = worst;
+      span = span;
+      padding = k;
+      count = count;
+      sound = eqb (numbersRefusal (record { worst = worst; span = span; padding = k; count = count; reserved = replicate 8 0; period = replicate 8 0 })) 0;
       horizon = first .deadline;
       released = moment 0;
       shares = 0;
@@ -113,11 +112,3 @@ considered worst h head best x i =
 -- whether some stream has a slot, and the one that loses it
 unfoldable pub lapseOf : Session → Lapse
 lapseOf s = record { found = not (noSlot s); stream = expiring s }
-
--- what a turn's survey of the streams says
-pub record Seen (s : Session) (r : Survey) : Type 0 where
-  pub found : r .pick .found ≡ someFilled s
-  pub stream : r .pick .stream ≡ chosen s
-  pub index : r .pick .found ≡ true → r .pick .index ≡ nearestAt s (chosen s)
-  pub lapse : r .lapse ≡ lapseOf s
-  pub until : r .until ≡ moment (latest s)

@@ -2,7 +2,7 @@
 ghost use mathlib.Core.Path.{_≡_};
 ghost use mathlib.Core.Bool.{true};
 ghost use Prim.Native.Nat.{_≤_, _<_, min};
-ghost use Rattle.session.specs.Search.{begun, counted, Countable, says, Judgeable};
+ghost use Rattle.session.specs.Search.{inOrder, begun, counted, Countable, says, Judgeable};
 use crate::Clock;
 use crate::Stream;
 use table::Table;
@@ -22,17 +22,25 @@ pub(crate) struct Census {
 
 impl Census {
     // Nothing passed yet: the smallest deadline and period start with those of the first stream.
-    pub(crate) fn begin(table: Table, first: Stream) -> Census
-        ensures { λ r. ⌜ r ≡ begun table first ⌝ }
+    pub(crate) fn begin(worst: u32, span: u32, padding: u32, count: usize, first: Stream) -> Census
+        ensures { λ r. ⌜ r ≡ begun worst span padding count first ⌝ }
     {
+        let table = Table {
+            worst: worst,
+            span: span,
+            padding: padding,
+            count: count,
+            reserved: [0u32; 8],
+            period: [0u32; 8],
+        };
         let refusal = table::numbers_refusal(table);
         let start = Clock::at(0);
         let deadline = first.deadline;
         Census {
-            worst: table.worst,
-            span: table.span,
-            padding: table.padding,
-            count: table.count,
+            worst: worst,
+            span: span,
+            padding: padding,
+            count: count,
             sound: refusal == 0,
             horizon: deadline,
             released: start,
@@ -41,21 +49,13 @@ impl Census {
         }
     }
 
-    // With one more used stream.
-    pub(crate) fn with(self, x: Stream) -> Census
-        requires { ⌜ Countable self ⌝ }
+    // With one more used stream, of which it is known whether it is in order. That is not asked here, since a larger function would be called and not written out at each place.
+    pub(crate) fn with(self, ordered: bool, x: Stream) -> Census
+        requires { ⌜ Countable self × (ordered ≡ inOrder (self .worst) (self .span) (self .padding) x) ⌝ }
         ensures { λ r. ⌜ r ≡ counted self x ⌝ }
     {
-        let refusal = table::stream_refusal(
-            self.worst,
-            self.span,
-            self.padding,
-            x.reserved,
-            x.period,
-        );
-        let cells = x.is_sound(self.worst, self.padding);
         let mut next = self;
-        if (refusal != 0) | !cells {
+        if !ordered {
             next.sound = false;
             return next;
         }

@@ -1,16 +1,18 @@
 // A session: one disk, up to eight streams, and the calls that share it among them.
+mod arrivals;
 mod call;
 mod calls;
 mod census;
 mod choice;
-mod effects;
+mod completions;
 mod expiry;
 mod lent;
-mod moves;
+mod own_turns;
+mod reports;
 mod soundness;
 mod stream;
-mod survey;
 mod time;
+mod turns;
 mod view;
 
 ghost use mathlib.Core.Path.{_≡_};

@@ -7,7 +7,6 @@ ghost use Rattle.session.specs.Session.{horizon, sound};
 use crate::Clock;
 use crate::Session;
 use crate::census::Census;
-use table::Table;
 
 pub(crate) struct Judged {
     pub(crate) sound: bool,
@@ -18,20 +17,13 @@ pub(crate) struct Judged {
 pub(crate) fn judge(s: Session) -> Judged
     ensures { λ r. ⌜ (r .sound ≡ sound s) × (r .sound ≡ true → r .horizon ≡ moment (horizon s)) ⌝ }
 {
-    let table = Table {
-        worst: s.worst,
-        span: s.span,
-        padding: s.padding,
-        count: s.count,
-        reserved: [0u32; 8],
-        period: [0u32; 8],
-    };
     let first = s.streams[0];
-    let mut census = Census::begin(table, first);
+    let mut census = Census::begin(s.worst, s.span, s.padding, s.count, first);
     let mut i: usize = 0;
     while census.sound & (i < s.count) {
         let x = s.streams[i];
-        census = census.with(x);
+        let ordered = x.is_in_order(s.worst, s.span, s.padding);
+        census = census.with(ordered, x);
         i += 1;
     }
     let mut rest = true;
@@ -52,7 +44,7 @@ pub(crate) fn judge(s: Session) -> Judged
 }
 
 // Where the stream with a number stands among the eight; for a number that none has, the first.
-fn slot_of(number: usize) -> usize
+pub(crate) fn slot_of(number: usize) -> usize
     ensures { λ r. ⌜ (r < 8) × ((number ≡ 0 → ⊥) → number ≤ 8 → r ≡ number - 1) ⌝ }
 {
     if number == 0 {

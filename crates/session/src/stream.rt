@@ -6,6 +6,7 @@ ghost use Prim.Native.Nat.{_≤_, _<_};
 ghost use Rattle.session.specs.Stream.{slots, filled, soundQueue, soundCells, zeroJob, unusedStream, arrived, closedUp, without, charged, lapsed, closed, moved, closesPastEnd};
 ghost use Rattle.session.specs.Time.{session-end};
 ghost use Rattle.session.specs.Bounds.{Bounded};
+ghost use Rattle.session.specs.Search.{inOrder};
 ghost use Rattle.session.specs.Opening.{freshStream};
 
 #[repr(C)]
@@ -103,6 +104,16 @@ impl Stream {
         let places = self.places;
         let queue = queue_is_sound(places, self.queued);
         budget & due & in_session & charge & expired & queue
+    }
+
+    // Whether nothing refuses its reservation, and its cells are those of a stream in use.
+    pub(crate) fn is_in_order(self, worst: u32, span: u32, k: u32) -> bool
+        requires { ⌜ 0 < worst ⌝ }
+        ensures { λ r. ⌜ r ≡ inOrder worst span k self ⌝ }
+    {
+        let refusal = table::stream_refusal(worst, span, k, self.reserved, self.period);
+        let cells = self.is_sound(worst, k);
+        (refusal == 0) & cells
     }
 
     // Whether every cell is 0.

@@ -55,10 +55,12 @@ fn told(reply: Reply, call: Call) -> Told
     }
 }
 
-// Any call; an image that stands for no session is refused 31 and handed back.
-fn answer(image: Image, call: Call) -> Answered
-    ensures { λ r. ⌜ r ≡ answeredAs image call ⌝ }
+// Each call has a function of its own, so that the compiler writes the call out where it is made: one function for all would cost two more copies of the session.
+// An image that stands for no session is refused 31 and handed back.
+pub(crate) fn arrival(image: Image, stream: u64, place: u64) -> Answered
+    ensures { λ r. ⌜ r ≡ answeredAs image (Call.Arrival stream place) ⌝ }
 {
+    let call = Call::Arrival { stream, place };
     if image.order != Image::NEAREST {
         let reply = told(Reply::Refused { number: 31 }, call);
         return Answered {
@@ -67,7 +69,7 @@ fn answer(image: Image, call: Call) -> Answered
         };
     }
     let session = image.session();
-    let answer = session.call(call);
+    let answer = session.arrival(stream, place);
     let after = Image::of(answer.session);
     let answered = answer.reply;
     let reply = told(answered, call);
@@ -77,34 +79,92 @@ fn answer(image: Image, call: Call) -> Answered
     }
 }
 
-pub(crate) fn arrival(image: Image, stream: u64, place: u64) -> Answered
-    ensures { λ r. ⌜ r ≡ answeredAs image (Call.Arrival stream place) ⌝ }
-{
-    answer(image, Call::Arrival { stream, place })
-}
-
 pub(crate) fn turn(image: Image) -> Answered
     ensures { λ r. ⌜ r ≡ answeredAs image Call.Turn ⌝ }
 {
-    answer(image, Call::Turn)
+    let call = Call::Turn;
+    if image.order != Image::NEAREST {
+        let reply = told(Reply::Refused { number: 31 }, call);
+        return Answered {
+            session: image,
+            reply: reply,
+        };
+    }
+    let session = image.session();
+    let answer = session.turn();
+    let after = Image::of(answer.session);
+    let answered = answer.reply;
+    let reply = told(answered, call);
+    Answered {
+        session: after,
+        reply: reply,
+    }
 }
 
 pub(crate) fn own_turn(image: Image, stream: u64, index: u64) -> Answered
     ensures { λ r. ⌜ r ≡ answeredAs image (Call.OwnTurn stream index) ⌝ }
 {
-    answer(image, Call::OwnTurn { stream, index })
+    let call = Call::OwnTurn { stream, index };
+    if image.order != Image::NEAREST {
+        let reply = told(Reply::Refused { number: 31 }, call);
+        return Answered {
+            session: image,
+            reply: reply,
+        };
+    }
+    let session = image.session();
+    let answer = session.own_turn(stream, index);
+    let after = Image::of(answer.session);
+    let answered = answer.reply;
+    let reply = told(answered, call);
+    Answered {
+        session: after,
+        reply: reply,
+    }
 }
 
 pub(crate) fn done(image: Image, duration: u64) -> Answered
     ensures { λ r. ⌜ r ≡ answeredAs image (Call.Done duration) ⌝ }
 {
-    answer(image, Call::Done { duration })
+    let call = Call::Done { duration };
+    if image.order != Image::NEAREST {
+        let reply = told(Reply::Refused { number: 31 }, call);
+        return Answered {
+            session: image,
+            reply: reply,
+        };
+    }
+    let session = image.session();
+    let answer = session.done(duration);
+    let after = Image::of(answer.session);
+    let answered = answer.reply;
+    let reply = told(answered, call);
+    Answered {
+        session: after,
+        reply: reply,
+    }
 }
 
 pub(crate) fn clock(image: Image, time: u64) -> Answered
     ensures { λ r. ⌜ r ≡ answeredAs image (Call.Clock time) ⌝ }
 {
-    answer(image, Call::Clock { time })
+    let call = Call::Clock { time };
+    if image.order != Image::NEAREST {
+        let reply = told(Reply::Refused { number: 31 }, call);
+        return Answered {
+            session: image,
+            reply: reply,
+        };
+    }
+    let session = image.session();
+    let answer = session.clock(time);
+    let after = Image::of(answer.session);
+    let answered = answer.reply;
+    let reply = told(answered, call);
+    Answered {
+        session: after,
+        reply: reply,
+    }
 }
 
 // The session to be shown: one that stands for none is shown as the all-zero session, which is not sound.

@@ -1,97 +1,283 @@
--- `Session::clock` refuses by 31, 10, 13 and 14 and sets the clock: each way out rewrites the tests that led there.
+-- `Session::clock` judges the session, refuses by 31, 10, 13 and 14 and sets the clock: each way out rewrites the tests that led there.
+use borrow.Author.Needs.{needs}
 use borrow.Author.Tests.{eq-eqb, ne-eqb, not-true, not-false}
+use mathlib.Core.Bool.{true, false, _&&_}
+use mathlib.Core.Path.{_≡_, sym, ap, _∙_}
+use native.Mathlib.Omega.{arith}
+use native.Mathlib.Numerals.{add-one}
+use Prim.Native.Nat.{_+_, _≤_, _<_, _-_}
+use lib.Dec.{ltb}
+use lib.ListN.{length-map}
+use Rattle.table.specs.Fold.{if, sumTo}
 use Rattle.table.specs.Refusal.{given, _or-next_}
-use Rattle.session.specs.Session.{sound}
-use Rattle.session.specs.Calls.{set-clock, busy, callRefusal, effect, outcome}
+use Rattle.session.specs.Time.{session-end, moment, diskTime}
+use Rattle.session.specs.Session.{streamAt, horizon, scaledPart, latest, sound}
+use Rattle.session.specs.Calls.{set-clock, busy, late, callRefusal, effect, apply, replyTo, outcome, answerTo}
 use Rattle.session.specs.declared.time.Clock.{Clock}
 use Rattle.session.specs.declared.call.Call.{Call}
 use Rattle.session.proofs.Answers.{unsound-answer, refused, accepted}
-use mathlib.Core.Bool.{true}
-use mathlib.Core.Path.{_≡_, sym, ap, _∙_}
-use borrow.Author.Needs.{needs}
+use Rattle.session.proofs.Summing.{sumsTo, sums-none, sums-more, can-sum, can-end, until-is}
+use Rattle.session.proofs.Sound.{sound-of, admits, count-high, bounded}
+use Rattle.session.proofs.Judging.{Counting, Resting, counting-none, used, below, can-count, counting-more, resting-none, resting-more, can-judge, judged}
 use Rattle.session.proofs.Session.clock.Statement.{statement}
 use Rattle.session.proofs.Session.clock.Tie as tie
 
-judge-requires : tie.Need-judge-requires
-judge-requires c κs = search needs
+abbrev Inv-loop : tie.InvT-loop
+Inv-loop time s census₀ i₀ census i = Counting s census i
 
-refuse-requires : tie.Need-refuse-requires
-refuse-requires c κs = search needs
+abbrev μ-loop : tie.MeasureT-loop
+μ-loop time s census₀ i₀ census i = s .count - i
 
-returns : tie.Need-returns
-returns c = c .refuse .ensures ∙ sym (unsound-answer _ _ (sym (c .before .before .before .judge .ensures .0) ∙ not-true _ (c .before .if1 .taken)))
+abbrev Inv-loop2 : tie.InvT-loop2
+Inv-loop2 time s census i rest₀ j₀ rest j = Resting s census rest j
 
-refuse-requires-2 : tie.Need-refuse-requires-2
-refuse-requires-2 c κs = search needs
+abbrev μ-loop2 : tie.MeasureT-loop2
+μ-loop2 time s census i rest₀ j₀ rest j = 8 - j
 
--- past 31 the session is sound
-ok : (c : tie.Else1) → sound (c .before .before .before .args .self) ≡ true
-ok c = sym (c .before .before .judge .ensures .0) ∙ not-false _ (c .if1 .left)
+abbrev Inv-loop3 : tie.InvT-loop3
+Inv-loop3 time s i rest j at used before now back past h sums₀ k₀ sums k = (k ≤ s .count) × (sums ≡ sumsTo s k)
 
-returns-2 : tie.Need-returns-2
-unfolding callRefusal given _or-next_ busy
-returns-2 c = c .refuse2 .ensures ∙ sym (refused _ (Call.Clock _) (ok (c .before .before .before)) 9 (rw (ne-eqb _ _ (c .before .if2 .taken))))
+abbrev μ-loop3 : tie.MeasureT-loop3
+μ-loop3 time s i rest j at used before now back past h sums₀ k₀ sums k = s .count - k
 
-at-requires : tie.Need-at-requires
+element-copy-out-first : tie.Need-element-copy-out-first Inv-loop μ-loop Inv-loop2 μ-loop2 Inv-loop3 μ-loop3
+element-copy-out-first c = search needs
+
+begin-requires : tie.Need-begin-requires Inv-loop μ-loop Inv-loop2 μ-loop2 Inv-loop3 μ-loop3
+begin-requires c κs = search needs
+
+-- that there are eight streams stands in what is told of the parameter: its last field is an array of eight, of the streams mapped
+loop-holds : tie.Need-loop-holds Inv-loop μ-loop Inv-loop2 μ-loop2 Inv-loop3 μ-loop3
+loop-holds c =
+    let s = c .before .before .args .t1 in
+    let array = c .before .before .good .0 .1 .1 .1 .1 .1 .1 .1 .1 .1 .1 .0 in
+    rw (c .begin .ensures) (counting-none s (sym (length-map (s .streams) _) ∙ array .1 .0 .1))
+
+mul-x : tie.Need-mul-x Inv-loop μ-loop Inv-loop2 μ-loop2 Inv-loop3 μ-loop3
+mul-x c = let at = c .before .before .loop in omega (arith, below _ _ _ (at .inv) (c .if1 .taken))
+
+element-copy-out-x : tie.Need-element-copy-out-x Inv-loop μ-loop Inv-loop2 μ-loop2 Inv-loop3 μ-loop3
+element-copy-out-x c = let at = c .before .before .loop in omega (arith, below _ _ _ (at .inv) (c .if1 .taken))
+
+is-in-order-requires : tie.Need-is-in-order-requires Inv-loop μ-loop Inv-loop2 μ-loop2 Inv-loop3 μ-loop3
+is-in-order-requires c κs = let at = c .before .before .before .loop in rw (sym (at .inv .counts .worst)) (can-count _ _ _ (at .inv) (c .before .if1 .taken) .worst-low)
+
+with-requires : tie.Need-with-requires Inv-loop μ-loop Inv-loop2 μ-loop2 Inv-loop3 μ-loop3
+with-requires c κs =
+    let at = c .before .before .before .before .loop in
+    let k = at .inv .counts in
+    (can-count _ _ _ (at .inv) (c .before .before .if1 .taken), rw (k .worst, k .span, k .padding) (c .is-in-order .ensures))
+
+add-i : tie.Need-add-i Inv-loop μ-loop Inv-loop2 μ-loop2 Inv-loop3 μ-loop3
+add-i c = let at = c .before .before .before .before .before .loop in omega (arith, below _ _ _ (at .inv) (c .before .before .before .if1 .taken))
+
+loop-less : tie.Need-loop-less Inv-loop μ-loop Inv-loop2 μ-loop2 Inv-loop3 μ-loop3
+loop-less c = let at = c .before .before .before .before .before .loop in omega (arith, used _ _ _ (at .inv) (c .before .before .before .if1 .taken))
+
+loop-again : tie.Need-loop-again Inv-loop μ-loop Inv-loop2 μ-loop2 Inv-loop3 μ-loop3
+loop-again c = let at = c .before .before .before .before .before .loop in rw (c .with .ensures) (counting-more _ _ _ (at .inv) (c .before .before .before .if1 .taken))
+
+loop2-holds : tie.Need-loop2-holds Inv-loop μ-loop Inv-loop2 μ-loop2 Inv-loop3 μ-loop3
+loop2-holds c = resting-none _ _ _ (c .before .before .loop .inv) (c .if1 .left)
+
+mul-x-2 : tie.Need-mul-x-2 Inv-loop μ-loop Inv-loop2 μ-loop2 Inv-loop3 μ-loop3
+mul-x-2 c = omega arith
+
+element-copy-out-x-2 : tie.Need-element-copy-out-x-2 Inv-loop μ-loop Inv-loop2 μ-loop2 Inv-loop3 μ-loop3
+element-copy-out-x-2 c = search needs
+
+is-unused-requires : tie.Need-is-unused-requires Inv-loop μ-loop Inv-loop2 μ-loop2 Inv-loop3 μ-loop3
+is-unused-requires c κs = search needs
+
+add-j : tie.Need-add-j Inv-loop μ-loop Inv-loop2 μ-loop2 Inv-loop3 μ-loop3
+add-j c = omega arith
+
+loop2-less : tie.Need-loop2-less Inv-loop μ-loop Inv-loop2 μ-loop2 Inv-loop3 μ-loop3
+loop2-less c = omega arith
+
+loop2-again : tie.Need-loop2-again Inv-loop μ-loop Inv-loop2 μ-loop2 Inv-loop3 μ-loop3
+loop2-again c = let at = c .before .before .before .loop2 in rw (c .is-unused .ensures) (resting-more _ _ _ _ (at .inv) (omega arith))
+
+slot-of-requires : tie.Need-slot-of-requires Inv-loop μ-loop Inv-loop2 μ-loop2 Inv-loop3 μ-loop3
+slot-of-requires c κs = search needs
+
+mul-disk : tie.Need-mul-disk Inv-loop μ-loop Inv-loop2 μ-loop2 Inv-loop3 μ-loop3
+mul-disk c = omega (arith, c .slot-of .ensures .0)
+
+element-copy-out-disk : tie.Need-element-copy-out-disk Inv-loop μ-loop Inv-loop2 μ-loop2 Inv-loop3 μ-loop3
+element-copy-out-disk c = omega (arith, c .slot-of .ensures .0)
+
+is-sound-requires : tie.Need-is-sound-requires Inv-loop μ-loop Inv-loop2 μ-loop2 Inv-loop3 μ-loop3
+is-sound-requires c κs = can-judge _ _ _ _ (c .before .before .before .before .loop2 .inv) _ (c .before .before .slot-of .ensures .1)
+
+-- what the test for 31 says, and past it the session is sound and the horizon is the census's
+tested : (c : tie.After-is-sound Inv-loop μ-loop Inv-loop2 μ-loop2 Inv-loop3 μ-loop3) → let s = c .before .before .before .before .before .before .before .before .before .before .before .args .t1 in
+    let test = c .before .before .before .before .before .loop2 .rest && c .is-sound .result in
+    (test ≡ sound s) × (test ≡ true → c .before .before .before .before .before .before .before .before .loop .census .horizon ≡ moment (horizon s))
+tested c = rw (c .is-sound .ensures) (judged _ _ _ _ (c .before .before .before .before .before .loop2 .inv) _ (c .before .before .before .slot-of .ensures .1) (omega arith))
+
+ok : (c : tie.Then2 Inv-loop μ-loop Inv-loop2 μ-loop2 Inv-loop3 μ-loop3) → sound (c .before .before .before .before .before .before .before .before .before .before .before .before .args .t1) ≡ true
+ok c = sym (tested (c .before) .0) ∙ c .if2 .taken
+
+ahead : (c : tie.Then2 Inv-loop μ-loop Inv-loop2 μ-loop2 Inv-loop3 μ-loop3) → c .before .before .before .before .before .before .before .before .before .loop .census .horizon ≡ moment (horizon (c .before .before .before .before .before .before .before .before .before .before .before .before .args .t1))
+ahead c = tested (c .before) .1 (c .if2 .taken)
+
+at-requires : tie.Need-at-requires Inv-loop μ-loop Inv-loop2 μ-loop2 Inv-loop3 μ-loop3
 at-requires c κs = search needs
 
-is-after-requires : tie.Need-is-after-requires
+is-after-requires : tie.Need-is-after-requires Inv-loop μ-loop Inv-loop2 μ-loop2 Inv-loop3 μ-loop3
 is-after-requires c κs = search needs
 
-refuse-requires-3 : tie.Need-refuse-requires-3
-refuse-requires-3 c κs = search needs
+-- past 10 the disk is free, past 13 the time is not below the clock, and past 14 it stays in the session
+onward : (c : tie.Then4 Inv-loop μ-loop Inv-loop2 μ-loop2 Inv-loop3 μ-loop3) → let a = c .before .before .before .before .before .before .before .before .before .before .before .before .before .before .before .before .before .args in ltb (a .time) (a .t1 .clock .0) ≡ false
+onward c = rw (c .before .before .at .ensures) at (sym (c .before .is-after .ensures) ∙ not-true _ (c .if4 .taken))
 
-returns-3 : tie.Need-returns-3
-unfolding callRefusal given _or-next_ busy
-returns-3 c =
-    let test = rw (c .before .before .before .at .ensures) at (sym (c .before .before .is-after .ensures) ∙ c .before .if3 .taken) in
-    c .refuse3 .ensures ∙ sym (refused _ (Call.Clock _) (ok (c .before .before .before .before .before .before)) 12 (rw (eq-eqb _ _ (c .before .before .before .before .if2 .left), test)))
-
-is-past-end-requires : tie.Need-is-past-end-requires
+is-past-end-requires : tie.Need-is-past-end-requires Inv-loop μ-loop Inv-loop2 μ-loop2 Inv-loop3 μ-loop3
 is-past-end-requires c κs = search needs
 
-refuse-requires-4 : tie.Need-refuse-requires-4
-refuse-requires-4 c κs = search needs
+in-time : (c : tie.Then5 Inv-loop μ-loop Inv-loop2 μ-loop2 Inv-loop3 μ-loop3) → let a = c .before .before .before .before .before .before .before .before .before .before .before .before .before .before .before .before .before .before .before .args in ltb session-end (a .time) ≡ false
+in-time c = rw (c .before .before .before .before .at .ensures) at (sym (c .before .is-past-end .ensures) ∙ not-true _ (c .if5 .taken))
 
-returns-4 : tie.Need-returns-4
-unfolding callRefusal given _or-next_ busy
-returns-4 c =
-    let early = rw (c .before .before .before .before .before .at .ensures) at (sym (c .before .before .before .before .is-after .ensures) ∙ c .before .before .before .if3 .left) in
-    let test = rw (c .before .before .before .before .before .at .ensures) at (sym (c .before .before .is-past-end .ensures) ∙ c .before .if4 .taken) in
-    c .refuse4 .ensures ∙ sym (refused _ (Call.Clock _) (ok (c .before .before .before .before .before .before .before .before)) 13 (rw (eq-eqb _ _ (c .before .before .before .before .before .before .if2 .left), early, test)))
+of-requires : tie.Need-of-requires Inv-loop μ-loop Inv-loop2 μ-loop2 Inv-loop3 μ-loop3
+of-requires c κs = search needs
 
-latest-requires : tie.Need-latest-requires
-latest-requires c κs = (ok (c .before .before .before .before .before .before .before), c .before .before .before .before .before .before .before .before .before .judge .ensures .1 (not-false _ (c .before .before .before .before .before .before .before .if1 .left)))
+loop3-holds : tie.Need-loop3-holds Inv-loop μ-loop Inv-loop2 μ-loop2 Inv-loop3 μ-loop3
+loop3-holds c = (omega arith, rw (c .of .ensures) (sums-none _))
 
-set-clock-requires : tie.Need-set-clock-requires
-set-clock-requires c κs = search needs
+mul-x-3 : tie.Need-mul-x-3 Inv-loop μ-loop Inv-loop2 μ-loop2 Inv-loop3 μ-loop3
+mul-x-3 c = omega (arith, count-high _ (ok (c .before .before .before .before .before .before .before .before .before .before .before)))
 
-returns-5 : tie.Need-returns-5
+element-copy-out-x-3 : tie.Need-element-copy-out-x-3 Inv-loop μ-loop Inv-loop2 μ-loop2 Inv-loop3 μ-loop3
+element-copy-out-x-3 c = omega (arith, count-high _ (ok (c .before .before .before .before .before .before .before .before .before .before .before)))
+
+summed-requires : tie.Need-summed-requires Inv-loop μ-loop Inv-loop2 μ-loop2 Inv-loop3 μ-loop3
+summed-requires c κs =
+    let at = c .before .before .loop3 in
+    rw (at .inv .1, ahead (c .before .before .before .before .before .before .before .before .before .before .before .before)) (can-sum _ (sound-of _ (ok (c .before .before .before .before .before .before .before .before .before .before .before .before))) (at .k) (omega arith))
+
+add-k : tie.Need-add-k Inv-loop μ-loop Inv-loop2 μ-loop2 Inv-loop3 μ-loop3
+add-k c = omega (arith, count-high _ (ok (c .before .before .before .before .before .before .before .before .before .before .before .before .before)))
+
+loop3-less : tie.Need-loop3-less Inv-loop μ-loop Inv-loop2 μ-loop2 Inv-loop3 μ-loop3
+loop3-less c = omega arith
+
+loop3-again : tie.Need-loop3-again Inv-loop μ-loop Inv-loop2 μ-loop2 Inv-loop3 μ-loop3
+loop3-again c =
+    let at = c .before .before .before .loop3 in
+    (omega arith, rw (c .summed .ensures, ahead (c .before .before .before .before .before .before .before .before .before .before .before .before .before), at .inv .1) (sums-more _ (at .k)))
+
+-- the loop ends with the sums of all streams
+whole : (c : tie.After-loop3 Inv-loop μ-loop Inv-loop2 μ-loop2 Inv-loop3 μ-loop3) → c .before .loop3 .sums ≡ sumsTo (c .before .before .before .before .before .before .before .before .before .before .before .before .before .before .before .before .before .before .before .before .before .before .before .args .t1) (c .before .before .before .before .before .before .before .before .before .before .before .before .before .before .before .before .before .before .before .before .before .before .before .args .t1 .count)
+whole c =
+    let at = c .before .loop3 in
+    let e : at .k ≡ c .before .before .before .before .before .before .before .before .before .before .before .before .before .before .before .before .before .before .before .before .before .before .before .args .t1 .count = omega arith in
+    at .inv .1 ∙ ap (sumsTo (c .before .before .before .before .before .before .before .before .before .before .before .before .before .before .before .before .before .before .before .before .before .before .before .args .t1)) e
+
+less-remainders-requires : tie.Need-less-remainders-requires Inv-loop μ-loop Inv-loop2 μ-loop2 Inv-loop3 μ-loop3
+less-remainders-requires c κs = rw (whole c, ahead (c .before .before .before .before .before .before .before .before .before .before .before)) (can-end _ (sound-of _ (ok (c .before .before .before .before .before .before .before .before .before .before .before))))
+
+until : (c : tie.After-less-remainders Inv-loop μ-loop Inv-loop2 μ-loop2 Inv-loop3 μ-loop3) → c .less-remainders .result ≡ moment (latest (c .before .before .before .before .before .before .before .before .before .before .before .before .before .before .before .before .before .before .before .before .before .before .before .before .args .t1))
+until c = rw (c .less-remainders .ensures, whole (c .before), ahead (c .before .before .before .before .before .before .before .before .before .before .before .before)) (until-is _)
+
+is-after-requires-2 : tie.Need-is-after-requires-2 Inv-loop μ-loop Inv-loop2 μ-loop2 Inv-loop3 μ-loop3
+is-after-requires-2 c κs = search needs
+
+is-after-requires-3 : tie.Need-is-after-requires-3 Inv-loop μ-loop Inv-loop2 μ-loop2 Inv-loop3 μ-loop3
+is-after-requires-3 c κs = search needs
+
+-- what a report of the time is answered
+answered : (c : tie.After-is-after3 Inv-loop μ-loop Inv-loop2 μ-loop2 Inv-loop3 μ-loop3) → let a = c .before .before .before .before .before .before .before .before .before .before .before .before .before .before .before .before .before .before .before .before .before .before .before .before .before .before .args in answerTo (a .t1) (Call.Clock (a .time)) ≡ outcome (a .t1) (set-clock (a .time))
 unfolding callRefusal given _or-next_ busy effect
+answered c =
+    let a = c .before .before .before .before .before .before .before .before .before .before .before .before .before .before .before .before .before .before .before .before .before .before .before .before .before .before .args in
+    accepted (a .t1) (Call.Clock (a .time)) (ok (c .before .before .before .before .before .before .before .before .before .before .before .before .before .before)) (rw (eq-eqb _ _ (c .before .before .before .before .before .before .before .before .before .before .before .before .before .if3 .taken), onward (c .before .before .before .before .before .before .before .before .before), in-time (c .before .before .before .before .before .before .before)))
+
+lateness : (c : tie.After-is-after3 Inv-loop μ-loop Inv-loop2 μ-loop2 Inv-loop3 μ-loop3) → let a = c .before .before .before .before .before .before .before .before .before .before .before .before .before .before .before .before .before .before .before .before .before .before .before .before .before .before .args in (c .before .is-after2 .result && c .is-after3 .result) ≡ late (a .t1) (a .time)
+unfolding late
+lateness c = rw (c .before .is-after2 .ensures, c .is-after3 .ensures, until (c .before .before), c .before .before .before .before .before .before .before .before .before .before .before .at .ensures)
+
+returns : tie.Need-returns Inv-loop μ-loop Inv-loop2 μ-loop2 Inv-loop3 μ-loop3
+unfolding apply replyTo if
+returns c =
+    rw (c .before .before .before .before .before .before .before .before .before .before .before .before .at .ensures) (sym (answered (c .before) ∙ rw (sym (lateness (c .before)) ∙ c .if6 .taken)))
+
+returns-2 : tie.Need-returns-2 Inv-loop μ-loop Inv-loop2 μ-loop2 Inv-loop3 μ-loop3
+unfolding apply replyTo if
+returns-2 c =
+    rw (c .before .before .before .before .before .before .before .before .before .before .before .before .at .ensures) (sym (answered (c .before) ∙ rw (sym (lateness (c .before)) ∙ c .if6 .left)))
+
+returns-3 : tie.Need-returns-3 Inv-loop μ-loop Inv-loop2 μ-loop2 Inv-loop3 μ-loop3
+unfolding callRefusal given _or-next_ busy apply replyTo
+returns-3 c =
+    let a = c .before .before .before .before .before .before .before .before .before .before .before .before .before .before .before .before .before .before .before .args in
+    let test = rw (c .before .before .before .before .at .ensures) at (sym (c .before .is-past-end .ensures) ∙ not-false _ (c .if5 .left)) in
+    sym (refused (a .t1) (Call.Clock (a .time)) (ok (c .before .before .before .before .before .before .before)) 13 (rw (eq-eqb _ _ (c .before .before .before .before .before .before .if3 .taken), onward (c .before .before), test)))
+
+returns-4 : tie.Need-returns-4 Inv-loop μ-loop Inv-loop2 μ-loop2 Inv-loop3 μ-loop3
+unfolding callRefusal given _or-next_ busy apply replyTo
+returns-4 c =
+    let a = c .before .before .before .before .before .before .before .before .before .before .before .before .before .before .before .before .before .args in
+    let test = rw (c .before .before .at .ensures) at (sym (c .before .is-after .ensures) ∙ not-false _ (c .if4 .left)) in
+    sym (refused (a .t1) (Call.Clock (a .time)) (ok (c .before .before .before .before .before)) 12 (rw (eq-eqb _ _ (c .before .before .before .before .if3 .taken), test)))
+
+returns-5 : tie.Need-returns-5 Inv-loop μ-loop Inv-loop2 μ-loop2 Inv-loop3 μ-loop3
+unfolding callRefusal given _or-next_ busy apply replyTo
 returns-5 c =
-    let s = c .before .before .before .before .before .before .before .before .before .before .before .before .args .self in
-    let early = rw (c .before .before .before .before .before .before .at .ensures) at (sym (c .before .before .before .before .before .is-after .ensures) ∙ c .before .before .before .before .if3 .left) in
-    let test = rw (c .before .before .before .before .before .before .at .ensures) at (sym (c .before .before .before .is-past-end .ensures) ∙ c .before .before .if4 .left) in
-    c .set-clock .ensures
-    ∙ ap (λ (t : Clock). outcome s (set-clock (t .0))) (c .before .before .before .before .before .before .at .ensures)
-    ∙ sym (accepted s (Call.Clock _) (ok (c .before .before .before .before .before .before .before .before .before)) (rw (eq-eqb _ _ (c .before .before .before .before .before .before .before .if2 .left), early, test)))
+    let a = c .before .before .before .before .before .before .before .before .before .before .before .before .before .args in
+    sym (refused (a .t1) (Call.Clock (a .time)) (ok (c .before)) 9 (rw (ne-eqb _ _ (c .if3 .left))))
+
+returns-6 : tie.Need-returns-6 Inv-loop μ-loop Inv-loop2 μ-loop2 Inv-loop3 μ-loop3
+unfolding apply replyTo
+returns-6 c = sym (unsound-answer _ _ (sym (tested (c .before) .0) ∙ c .if2 .left))
 
 pub clock-spec : {M : Type 1} → statement M
 clock-spec =
     tie.close
     (tie.spec
-    judge-requires
-    refuse-requires
-    returns
-    refuse-requires-2
-    returns-2
+    Inv-loop
+    μ-loop
+    Inv-loop2
+    μ-loop2
+    Inv-loop3
+    μ-loop3
+    element-copy-out-first
+    begin-requires
+    loop-holds
+    mul-x
+    element-copy-out-x
+    is-in-order-requires
+    with-requires
+    add-i
+    loop-less
+    loop-again
+    loop2-holds
+    mul-x-2
+    element-copy-out-x-2
+    is-unused-requires
+    add-j
+    loop2-less
+    loop2-again
+    slot-of-requires
+    mul-disk
+    element-copy-out-disk
+    is-sound-requires
     at-requires
     is-after-requires
-    refuse-requires-3
-    returns-3
     is-past-end-requires
-    refuse-requires-4
+    of-requires
+    loop3-holds
+    mul-x-3
+    element-copy-out-x-3
+    summed-requires
+    add-k
+    loop3-less
+    loop3-again
+    less-remainders-requires
+    is-after-requires-2
+    is-after-requires-3
+    returns
+    returns-2
+    returns-3
     returns-4
-    latest-requires
-    set-clock-requires
-    returns-5)
+    returns-5
+    returns-6)

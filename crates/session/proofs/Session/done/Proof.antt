@@ -1,111 +1,258 @@
--- `Session::done` refuses by 31, 11, 12 and 14 and charges the completion: each way out rewrites the tests that led there.
+-- `Session::done` judges the session, refuses by 31, 11, 12 and 14 and charges the completion: each way out rewrites the tests that led there.
+use borrow.Author.Needs.{needs}
 use borrow.Author.Tests.{eq-eqb, ne-eqb, not-true, not-false}
+use mathlib.Core.Bool.{true, false, _&&_}
+use mathlib.Core.Path.{_≡_, sym, ap, _∙_}
+use native.Mathlib.Omega.{arith}
+use Prim.Native.Nat.{_+_, _≤_, _<_, _-_}
+use lib.Dec.{ltb}
+use lib.ListN.{length-map}
+use Rattle.table.specs.Fold.{if}
 use Rattle.table.specs.Refusal.{given, _or-next_, outside}
 use Rattle.table.proofs.Tests.{within}
-use Rattle.session.specs.Session.{sound}
-use Rattle.session.specs.Calls.{finish, busy, callRefusal, effect, outcome}
-use Rattle.session.specs.declared.time.Charge.{Charge}
+use Rattle.session.specs.Time.{session-end, moment}
+use Rattle.session.specs.Stream.{charged}
+use Rattle.session.specs.Session.{streamAt, horizon, sound}
+use Rattle.session.specs.Calls.{finish, busy, overlong, callRefusal, effect, apply, replyTo, outcome, answerTo}
 use Rattle.session.specs.declared.call.Call.{Call}
 use Rattle.session.proofs.Answers.{unsound-answer, refused, accepted}
-use Rattle.session.proofs.Sound.{sound-of, count-high, bounded}
-use Rattle.session.proofs.Fits.{charge-high}
 use Rattle.session.proofs.Grounds.{served-of}
-use Prim.Native.Nat.{_-_, _<_}
-use native.Mathlib.Omega.{arith}
-use mathlib.Core.Bool.{true}
-use mathlib.Core.Path.{_≡_, sym, ap, _∙_}
-use borrow.Author.Needs.{needs}
+use Rattle.session.proofs.Fits.{charge-high}
+use Rattle.session.proofs.Sound.{sound-of, count-high, bounded}
+use Rattle.session.proofs.Judging.{Counting, Resting, counting-none, used, below, can-count, counting-more, resting-none, resting-more, can-judge, judged}
 use Rattle.session.proofs.Session.done.Statement.{statement}
 use Rattle.session.proofs.Session.done.Tie as tie
 
-judge-requires : tie.Need-judge-requires
-judge-requires c κs = search needs
+abbrev Inv-loop : tie.InvT-loop
+Inv-loop duration s census₀ i₀ census i = Counting s census i
 
-refuse-requires : tie.Need-refuse-requires
-refuse-requires c κs = search needs
+abbrev μ-loop : tie.MeasureT-loop
+μ-loop duration s census₀ i₀ census i = s .count - i
 
-returns : tie.Need-returns
-returns c = c .refuse .ensures ∙ sym (unsound-answer _ _ (sym (c .before .before .before .judge .ensures .0) ∙ not-true _ (c .before .if1 .taken)))
+abbrev Inv-loop2 : tie.InvT-loop2
+Inv-loop2 duration s census i rest₀ j₀ rest j = Resting s census rest j
 
-refuse-requires-2 : tie.Need-refuse-requires-2
-refuse-requires-2 c κs = search needs
+abbrev μ-loop2 : tie.MeasureT-loop2
+μ-loop2 duration s census i rest₀ j₀ rest j = 8 - j
 
--- past 31 the session is sound
-ok : (c : tie.Else1) → sound (c .before .before .before .args .self) ≡ true
-ok c = sym (c .before .before .judge .ensures .0) ∙ not-false _ (c .if1 .left)
+element-copy-out-first : tie.Need-element-copy-out-first Inv-loop μ-loop Inv-loop2 μ-loop2
+element-copy-out-first c = search needs
 
-returns-2 : tie.Need-returns-2
-unfolding callRefusal given _or-next_ busy
-returns-2 c = c .refuse2 .ensures ∙ sym (refused _ (Call.Done _) (ok (c .before .before)) 10 (rw (eq-eqb _ _ (c .before .if2 .taken))))
+begin-requires : tie.Need-begin-requires Inv-loop μ-loop Inv-loop2 μ-loop2
+begin-requires c κs = search needs
 
-refuse-requires-3 : tie.Need-refuse-requires-3
-refuse-requires-3 c κs = search needs
+-- that there are eight streams stands in what is told of the parameter: its last field is an array of eight, of the streams mapped
+loop-holds : tie.Need-loop-holds Inv-loop μ-loop Inv-loop2 μ-loop2
+loop-holds c =
+    let s = c .before .before .args .t1 in
+    let array = c .before .before .good .0 .1 .1 .1 .1 .1 .1 .1 .1 .1 .1 .0 in
+    rw (c .begin .ensures) (counting-none s (sym (length-map (s .streams) _) ∙ array .1 .0 .1))
 
-returns-3 : tie.Need-returns-3
-unfolding callRefusal given _or-next_ busy outside
-returns-3 c = c .refuse3 .ensures ∙ sym (refused _ (Call.Done _) (ok (c .before .before .before)) 11 (rw (ne-eqb _ _ (c .before .before .if2 .left), c .before .if3 .taken)))
+mul-x : tie.Need-mul-x Inv-loop μ-loop Inv-loop2 μ-loop2
+mul-x c = let at = c .before .before .loop in omega (arith, below _ _ _ (at .inv) (c .if1 .taken))
 
-of-requires : tie.Need-of-requires
+element-copy-out-x : tie.Need-element-copy-out-x Inv-loop μ-loop Inv-loop2 μ-loop2
+element-copy-out-x c = let at = c .before .before .loop in omega (arith, below _ _ _ (at .inv) (c .if1 .taken))
+
+is-in-order-requires : tie.Need-is-in-order-requires Inv-loop μ-loop Inv-loop2 μ-loop2
+is-in-order-requires c κs = let at = c .before .before .before .loop in rw (sym (at .inv .counts .worst)) (can-count _ _ _ (at .inv) (c .before .if1 .taken) .worst-low)
+
+with-requires : tie.Need-with-requires Inv-loop μ-loop Inv-loop2 μ-loop2
+with-requires c κs =
+    let at = c .before .before .before .before .loop in
+    let k = at .inv .counts in
+    (can-count _ _ _ (at .inv) (c .before .before .if1 .taken), rw (k .worst, k .span, k .padding) (c .is-in-order .ensures))
+
+add-i : tie.Need-add-i Inv-loop μ-loop Inv-loop2 μ-loop2
+add-i c = let at = c .before .before .before .before .before .loop in omega (arith, below _ _ _ (at .inv) (c .before .before .before .if1 .taken))
+
+loop-less : tie.Need-loop-less Inv-loop μ-loop Inv-loop2 μ-loop2
+loop-less c = let at = c .before .before .before .before .before .loop in omega (arith, used _ _ _ (at .inv) (c .before .before .before .if1 .taken))
+
+loop-again : tie.Need-loop-again Inv-loop μ-loop Inv-loop2 μ-loop2
+loop-again c = let at = c .before .before .before .before .before .loop in rw (c .with .ensures) (counting-more _ _ _ (at .inv) (c .before .before .before .if1 .taken))
+
+loop2-holds : tie.Need-loop2-holds Inv-loop μ-loop Inv-loop2 μ-loop2
+loop2-holds c = resting-none _ _ _ (c .before .before .loop .inv) (c .if1 .left)
+
+mul-x-2 : tie.Need-mul-x-2 Inv-loop μ-loop Inv-loop2 μ-loop2
+mul-x-2 c = omega arith
+
+element-copy-out-x-2 : tie.Need-element-copy-out-x-2 Inv-loop μ-loop Inv-loop2 μ-loop2
+element-copy-out-x-2 c = search needs
+
+is-unused-requires : tie.Need-is-unused-requires Inv-loop μ-loop Inv-loop2 μ-loop2
+is-unused-requires c κs = search needs
+
+add-j : tie.Need-add-j Inv-loop μ-loop Inv-loop2 μ-loop2
+add-j c = omega arith
+
+loop2-less : tie.Need-loop2-less Inv-loop μ-loop Inv-loop2 μ-loop2
+loop2-less c = omega arith
+
+loop2-again : tie.Need-loop2-again Inv-loop μ-loop Inv-loop2 μ-loop2
+loop2-again c = let at = c .before .before .before .loop2 in rw (c .is-unused .ensures) (resting-more _ _ _ _ (at .inv) (omega arith))
+
+slot-of-requires : tie.Need-slot-of-requires Inv-loop μ-loop Inv-loop2 μ-loop2
+slot-of-requires c κs = search needs
+
+mul-disk : tie.Need-mul-disk Inv-loop μ-loop Inv-loop2 μ-loop2
+mul-disk c = omega (arith, c .slot-of .ensures .0)
+
+element-copy-out-disk : tie.Need-element-copy-out-disk Inv-loop μ-loop Inv-loop2 μ-loop2
+element-copy-out-disk c = omega (arith, c .slot-of .ensures .0)
+
+is-sound-requires : tie.Need-is-sound-requires Inv-loop μ-loop Inv-loop2 μ-loop2
+is-sound-requires c κs = can-judge _ _ _ _ (c .before .before .before .before .loop2 .inv) _ (c .before .before .slot-of .ensures .1)
+
+-- what the test for 31 says, and past it the session is sound and the horizon is the census's
+tested : (c : tie.After-is-sound Inv-loop μ-loop Inv-loop2 μ-loop2) → let s = c .before .before .before .before .before .before .before .before .before .before .before .args .t1 in
+    let test = c .before .before .before .before .before .loop2 .rest && c .is-sound .result in
+    (test ≡ sound s) × (test ≡ true → c .before .before .before .before .before .before .before .before .loop .census .horizon ≡ moment (horizon s))
+tested c = rw (c .is-sound .ensures) (judged _ _ _ _ (c .before .before .before .before .before .loop2 .inv) _ (c .before .before .before .slot-of .ensures .1) (omega arith))
+
+ok : (c : tie.Then2 Inv-loop μ-loop Inv-loop2 μ-loop2) → sound (c .before .before .before .before .before .before .before .before .before .before .before .before .args .t1) ≡ true
+ok c = sym (tested (c .before) .0) ∙ c .if2 .taken
+
+-- past 11 a stream is served, and past 12 the duration is in its range
+busy-here : (c : tie.Then3 Inv-loop μ-loop Inv-loop2 μ-loop2) → let s = c .before .before .before .before .before .before .before .before .before .before .before .before .before .args .t1 in (1 ≤ s .served) × (s .served ≤ s .count) × (s .count ≤ 8)
+busy-here c =
+    let s = c .before .before .before .before .before .before .before .before .before .before .before .before .before .args .t1 in
+    let at = served-of s (sound-of s (ok (c .before)) .disk) (c .if3 .taken) in
+    (omega arith, omega arith, count-high s (ok (c .before)))
+
+in-range : (c : tie.Then4 Inv-loop μ-loop Inv-loop2 μ-loop2) → let a = c .before .before .before .before .before .before .before .before .before .before .before .before .before .before .args in outside 1 10000000 (a .duration) ≡ false
+unfolding outside
+in-range c = not-true _ (c .if4 .taken)
+
+of-requires : tie.Need-of-requires Inv-loop μ-loop Inv-loop2 μ-loop2
 of-requires c κs = search needs
 
-after-requires : tie.Need-after-requires
-unfolding outside
+after-requires : tie.Need-after-requires Inv-loop μ-loop Inv-loop2 μ-loop2
 after-requires c κs =
-    let range = within 1 10000000 (c .before .before .before .before .before .before .args .duration) (c .before .if3 .left) in
-    (sound-of _ (ok (c .before .before .before)) .clock-high, rw (c .of .ensures) (omega arith))
+    let range = within 1 10000000 (c .before .before .before .before .before .before .before .before .before .before .before .before .before .before .before .before .args .duration) (in-range (c .before .before)) in
+    (sound-of _ (ok (c .before .before .before .before)) .clock-high, rw (c .before .of .ensures) (omega (arith, range)))
 
-is-past-end-requires : tie.Need-is-past-end-requires
+is-past-end-requires : tie.Need-is-past-end-requires Inv-loop μ-loop Inv-loop2 μ-loop2
 is-past-end-requires c κs = search needs
 
-refuse-requires-4 : tie.Need-refuse-requires-4
-refuse-requires-4 c κs = search needs
+cast-overlong : tie.Need-cast-overlong Inv-loop μ-loop Inv-loop2 μ-loop2
+cast-overlong c = search needs
 
-returns-4 : tie.Need-returns-4
-unfolding callRefusal given _or-next_ busy outside
+-- past 14 the clock stays in the session
+in-time : (c : tie.Then5 Inv-loop μ-loop Inv-loop2 μ-loop2) → let a = c .before .before .before .before .before .before .before .before .before .before .before .before .before .before .before .before .before .before .before .args in ltb session-end (a .t1 .clock .0 + a .duration) ≡ false
+in-time c = rw (c .before .before .after .ensures, c .before .before .before .before .of .ensures) at (sym (c .before .is-past-end .ensures) ∙ not-true _ (c .if5 .taken))
+
+sub-n : tie.Need-sub-n Inv-loop μ-loop Inv-loop2 μ-loop2
+sub-n c = busy-here (c .before .before .before .before .before .before) .0
+
+mul-x-3 : tie.Need-mul-x-3 Inv-loop μ-loop Inv-loop2 μ-loop2
+mul-x-3 c = omega (arith, busy-here (c .before .before .before .before .before .before))
+
+element-copy-out-x-3 : tie.Need-element-copy-out-x-3 Inv-loop μ-loop Inv-loop2 μ-loop2
+element-copy-out-x-3 c = omega (arith, busy-here (c .before .before .before .before .before .before))
+
+charged-requires : tie.Need-charged-requires Inv-loop μ-loop Inv-loop2 μ-loop2
+charged-requires c κs =
+    let s = c .before .before .before .before .before .before .before .before .before .before .before .before .before .before .before .before .before .before .before .before .args .t1 in
+    let range = within 1 10000000 (c .before .before .before .before .before .before .before .before .before .before .before .before .before .before .before .before .before .before .before .before .args .duration) (in-range (c .before .before .before .before .before .before)) in
+    (omega (arith, charge-high (bounded s (sound-of s (ok (c .before .before .before .before .before .before .before .before))) (s .served - 1) (omega (arith, busy-here (c .before .before .before .before .before .before .before))))), rw (c .before .before .before .before .before .of .ensures) (omega (arith, range)))
+
+mul-y : tie.Need-mul-y Inv-loop μ-loop Inv-loop2 μ-loop2
+mul-y c = omega (arith, busy-here (c .before .before .before .before .before .before .before .before .before))
+
+element-set-from-y : tie.Need-element-set-from-y Inv-loop μ-loop Inv-loop2 μ-loop2
+element-set-from-y c = omega (arith, busy-here (c .before .before .before .before .before .before .before .before .before))
+
+add-number : tie.Need-add-number Inv-loop μ-loop Inv-loop2 μ-loop2
+add-number c = omega (arith, busy-here (c .before .before .before .before .before .before .before .before .before))
+
+-- what a completion is answered
+answered : (c : tie.After-charge Inv-loop μ-loop Inv-loop2 μ-loop2) → let a = c .before .before .before .before .before .before .before .before .before .before .before .before .before .before .before .before .before .before .before .before .before .before .args in answerTo (a .t1) (Call.Done (a .duration)) ≡ outcome (a .t1) (finish (a .t1 .served - 1) (a .duration))
+unfolding callRefusal given _or-next_ busy effect
+answered c =
+    let a = c .before .before .before .before .before .before .before .before .before .before .before .before .before .before .before .before .before .before .before .before .before .before .args in
+    accepted (a .t1) (Call.Done (a .duration)) (ok (c .before .before .before .before .before .before .before .before .before .before)) (rw (ne-eqb _ _ (c .before .before .before .before .before .before .before .before .before .if3 .taken), in-range (c .before .before .before .before .before .before .before .before), in-time (c .before .before .before)))
+
+returns : tie.Need-returns Inv-loop μ-loop Inv-loop2 μ-loop2
+unfolding apply replyTo charged overlong if
+returns c =
+    rw (c .before .before .before .before .before .before .after .ensures, c .before .before .charged .ensures, c .before .before .before .before .before .before .before .before .of .ensures)
+    (sym (answered (c .before) ∙ rw (c .if6 .taken)))
+
+returns-2 : tie.Need-returns-2 Inv-loop μ-loop Inv-loop2 μ-loop2
+unfolding apply replyTo charged overlong if
+returns-2 c =
+    rw (c .before .before .before .before .before .before .after .ensures, c .before .before .charged .ensures, c .before .before .before .before .before .before .before .before .of .ensures)
+    (sym (answered (c .before) ∙ rw (c .if6 .left)))
+
+returns-3 : tie.Need-returns-3 Inv-loop μ-loop Inv-loop2 μ-loop2
+unfolding callRefusal given _or-next_ busy apply replyTo
+returns-3 c =
+    let a = c .before .before .before .before .before .before .before .before .before .before .before .before .before .before .before .before .before .before .before .args in
+    let test = rw (c .before .before .after .ensures, c .before .before .before .before .of .ensures) at (sym (c .before .is-past-end .ensures) ∙ not-false _ (c .if5 .left)) in
+    sym (refused (a .t1) (Call.Done (a .duration)) (ok (c .before .before .before .before .before .before .before)) 13 (rw (ne-eqb _ _ (c .before .before .before .before .before .before .if3 .taken), in-range (c .before .before .before .before .before), test)))
+
+returns-4 : tie.Need-returns-4 Inv-loop μ-loop Inv-loop2 μ-loop2
+unfolding callRefusal given _or-next_ busy outside apply replyTo
 returns-4 c =
-    let test = rw (c .before .before .before .after .ensures, c .before .before .before .before .of .ensures) at (sym (c .before .before .is-past-end .ensures) ∙ c .before .if4 .taken) in
-    c .refuse4 .ensures ∙ sym (refused _ (Call.Done _) (ok (c .before .before .before .before .before .before .before)) 13 (rw (ne-eqb _ _ (c .before .before .before .before .before .before .if2 .left), c .before .before .before .before .before .if3 .left, test)))
+    let a = c .before .before .before .before .before .before .before .before .before .before .before .before .before .before .args in
+    let out : outside 1 10000000 (a .duration) ≡ true = not-false _ (c .if4 .left) in
+    sym (refused (a .t1) (Call.Done (a .duration)) (ok (c .before .before)) 11 (rw (ne-eqb _ _ (c .before .if3 .taken), out)))
 
-sub-finish : tie.Need-sub-finish
-sub-finish c = search needs
-
-finish-requires : tie.Need-finish-requires
-unfolding outside
-finish-requires c κs =
-    let start = c .before .before .before .before .before .before .before .before .before in
-    let s = start .args .self in
-    let q = sound-of s (ok (c .before .before .before .before .before .before)) in
-    let range = within 1 10000000 (start .args .duration) (c .before .before .before .before .if3 .left) in
-    let at = served-of s (q .disk) (c .before .before .before .before .before .if2 .left) in
-    let i = s .served - 1 in
-    let l : i < s .count = omega arith in
-    (omega (arith, count-high s (ok (c .before .before .before .before .before .before))), omega (arith, charge-high (bounded s q i l)), q .clock-high, rw (c .before .before .before .of .ensures) (omega arith))
-
-returns-5 : tie.Need-returns-5
-unfolding callRefusal given _or-next_ busy outside effect
+returns-5 : tie.Need-returns-5 Inv-loop μ-loop Inv-loop2 μ-loop2
+unfolding callRefusal given _or-next_ busy apply replyTo
 returns-5 c =
-    let s = c .before .before .before .before .before .before .before .before .before .before .args .self in
-    let test = rw (c .before .before .before .after .ensures, c .before .before .before .before .of .ensures) at (sym (c .before .before .is-past-end .ensures) ∙ c .before .if4 .left) in
-    c .finish .ensures
-    ∙ ap (λ (d : Charge). outcome s (finish (s .served - 1) (d .0))) (c .before .before .before .before .of .ensures)
-    ∙ sym (accepted s (Call.Done _) (ok (c .before .before .before .before .before .before .before)) (rw (ne-eqb _ _ (c .before .before .before .before .before .before .if2 .left), c .before .before .before .before .before .if3 .left, test)))
+    let a = c .before .before .before .before .before .before .before .before .before .before .before .before .before .args in
+    sym (refused (a .t1) (Call.Done (a .duration)) (ok (c .before)) 10 (rw (eq-eqb _ _ (c .if3 .left))))
+
+returns-6 : tie.Need-returns-6 Inv-loop μ-loop Inv-loop2 μ-loop2
+unfolding apply replyTo
+returns-6 c = sym (unsound-answer _ _ (sym (tested (c .before) .0) ∙ c .if2 .left))
 
 pub done-spec : {M : Type 1} → statement M
 done-spec =
     tie.close
     (tie.spec
-    judge-requires
-    refuse-requires
-    returns
-    refuse-requires-2
-    returns-2
-    refuse-requires-3
-    returns-3
+    Inv-loop
+    μ-loop
+    Inv-loop2
+    μ-loop2
+    element-copy-out-first
+    begin-requires
+    loop-holds
+    mul-x
+    element-copy-out-x
+    is-in-order-requires
+    with-requires
+    add-i
+    loop-less
+    loop-again
+    loop2-holds
+    mul-x-2
+    element-copy-out-x-2
+    is-unused-requires
+    add-j
+    loop2-less
+    loop2-again
+    slot-of-requires
+    mul-disk
+    element-copy-out-disk
+    is-sound-requires
     of-requires
     after-requires
     is-past-end-requires
-    refuse-requires-4
+    cast-overlong
+    sub-n
+    mul-x-3
+    element-copy-out-x-3
+    charged-requires
+    mul-y
+    element-set-from-y
+    add-number
+    returns
+    returns-2
+    returns-3
     returns-4
-    sub-finish
-    finish-requires
-    returns-5)
+    returns-5
+    returns-6)

@@ -1,167 +1,538 @@
--- `Session::turn` refuses by 31 and 10 and sends where some slot is filled; else it waits or expires where a stream has a slot, and moves or refuses by 14 where none has.
-use borrow.Author.Tests.{ne-eqb, not-true, not-false}
+-- `Session::turn` judges the session, refuses by 31 and 10 and sends where some slot is filled; else it waits or expires where a stream has a slot, and moves or refuses by 14 where none has.
+use borrow.Author.Needs.{needs}
+use borrow.Author.Tests.{eq-eqb, ne-eqb, not-true, not-false}
+use mathlib.Core.Bool.{Bool, true, false, _&&_}
+use mathlib.Core.Path.{_≡_, refl, sym, ap, ap₂, subst, subst₂, _∙_}
+use native.Mathlib.Omega.{arith}
+use native.Mathlib.Numerals.{add-one}
+use Prim.Native.Nat.{ℕ, _+_, _≤_, _<_, _-_}
+use lib.Dec.{leb, ltb}
+use lib.ListN.{length-map}
+use Rattle.table.specs.Fold.{someTo}
 use Rattle.table.specs.Refusal.{given, _or-next_}
-use Rattle.session.specs.Time.{moment}
-use Rattle.session.specs.Session.{streamAt, horizon, someFilled, noSlot, sound}
-use Rattle.session.specs.Choice.{expiring}
-use Rattle.session.specs.Search.{lapseOf, Seen}
-use Rattle.session.specs.Calls.{send, expire, busy, callRefusal, outcome}
+use Rattle.table.proofs.Folds.{some-not-all}
+use Rattle.session.specs.Time.{session-end, moment}
+use Rattle.session.specs.Stream.{closesPastEnd, lapsed, moved}
+use Rattle.session.specs.Session.{streamAt, horizon, slotsAt, someFilled, noSlot, latest, sound}
+use Rattle.session.specs.Choice.{firstBest, nearestAt, chosen, expiresBefore, expiring}
+use Rattle.session.specs.Search.{lapseOf}
+use Rattle.session.specs.Calls.{send, move, wait, expire, busy, movePassesEnd, callRefusal, apply, replyTo, outcome, answerTo}
+use Rattle.session.specs.declared.time.Clock.{Clock}
 use Rattle.session.specs.declared.expiry.Lapse.{Lapse}
+use Rattle.session.specs.declared.stream.Stream.{Stream}
 use Rattle.session.specs.declared.Session.{Session}
 use Rattle.session.specs.declared.call.Call.{Call}
-use Rattle.session.proofs.Sound.{sound-of, count-high, bounded}
+use Rattle.session.proofs.Sound.{Sound, sound-of, admits, count-high, bounded, deadline-high}
 use Rattle.session.proofs.Fits.{charge-high, expired-high}
 use Rattle.session.proofs.Grounds.{chosen-grounds, expiring-grounds}
 use Rattle.session.proofs.Answers.{unsound-answer, refused, sendable, turn-sends, turn-waits, turn-expires, turn-moves, turn-ends}
-use Prim.Native.Nat.{ℕ, _≤_, _<_}
-use native.Mathlib.Omega.{arith}
-use mathlib.Core.Bool.{true, false}
-use mathlib.Core.Path.{_≡_, sym, ap, ap₂, subst₂, _∙_}
-use borrow.Author.Needs.{needs}
+use Rattle.session.proofs.Picks.{Picked, picked-next, picked-none}
+use Rattle.session.proofs.Lapses.{lapseTo, lapse-in, lapse-more}
+use Rattle.session.proofs.Summing.{sumsTo, sums-none, sums-more, can-sum, can-end, until-is}
+use Rattle.session.proofs.Closings.{Moving, moving-none, moving-more, moving-all}
+use Rattle.session.proofs.Judging.{Counting, Resting, counting-none, used, below, can-count, counting-more, resting-none, resting-more, can-judge, judged}
 use Rattle.session.proofs.Session.turn.Statement.{statement}
 use Rattle.session.proofs.Session.turn.Tie as tie
 
-judge-requires : tie.Need-judge-requires
-judge-requires c κs = search needs
+abbrev Inv-loop : tie.InvT-loop
+Inv-loop s census₀ i₀ census i = Counting s census i
 
-refuse-requires : tie.Need-refuse-requires
-refuse-requires c κs = search needs
+abbrev μ-loop : tie.MeasureT-loop
+μ-loop s census₀ i₀ census i = s .count - i
 
-returns : tie.Need-returns
-returns c = c .refuse .ensures ∙ sym (unsound-answer _ _ (sym (c .before .before .before .judge .ensures .0) ∙ not-true _ (c .before .if1 .taken)))
+abbrev Inv-loop2 : tie.InvT-loop2
+Inv-loop2 s census i rest₀ j₀ rest j = Resting s census rest j
 
-refuse-requires-2 : tie.Need-refuse-requires-2
-refuse-requires-2 c κs = search needs
+abbrev μ-loop2 : tie.MeasureT-loop2
+μ-loop2 s census i rest₀ j₀ rest j = 8 - j
 
--- past 31 the session is sound, and the horizon is the one judged with
-ok : (c : tie.Else1) → (sound (c .before .before .before .args .self) ≡ true) × (c .before .before .judge .result .horizon ≡ moment (horizon (c .before .before .before .args .self)))
-ok c =
-    let yes = not-false _ (c .if1 .left) in
-    (sym (c .before .before .judge .ensures .0) ∙ yes, c .before .before .judge .ensures .1 yes)
+abbrev Inv-loop3 : tie.InvT-loop3
+Inv-loop3 s i rest j at used h pick₀ k₀ pick k = (k ≤ s .count) × Picked s k pick
 
-returns-2 : tie.Need-returns-2
-unfolding callRefusal given _or-next_ busy
-returns-2 c = c .refuse2 .ensures ∙ sym (refused _ Call.Turn (ok (c .before .before .before) .0) 9 (rw (ne-eqb _ _ (c .before .if2 .taken))))
+abbrev μ-loop3 : tie.MeasureT-loop3
+μ-loop3 s i rest j at used h pick₀ k₀ pick k = s .count - k
 
-survey-of-requires : tie.Need-survey-of-requires
-survey-of-requires c κs = ok (c .before .before .before)
+abbrev Inv-loop4 : tie.InvT-loop4
+Inv-loop4 s i rest j at used h k lapse₀ sums₀ passes₀ m₀ lapse sums passes m =
+    (m ≤ s .count)
+    × (lapse ≡ lapseTo (λ n. leb 1 (slotsAt s n)) (expiresBefore s) m)
+    × (sums ≡ sumsTo s m)
+    × (passes ≡ someTo (λ n. closesPastEnd (h .0) (streamAt s n)) m)
 
--- the session of a turn that is not refused, and what is known of it once its streams are surveyed
-at : tie.After-pick → Session
-at c = c .before .before .before .before .before .before .before .before .args .self
+abbrev μ-loop4 : tie.MeasureT-loop4
+μ-loop4 s i rest j at used h k lapse₀ sums₀ passes₀ m₀ lapse sums passes m = s .count - m
 
-known : (c : tie.After-pick) → (sound (at c) ≡ true) × (at c .served ≡ 0) × Seen (at c) (c .before .survey-of .result)
-unfolding at
-known c = (ok (c .before .before .before .before .before) .0, c .before .before .before .if2 .left, c .before .survey-of .ensures)
+abbrev Inv-loop5 : tie.InvT-loop5
+Inv-loop5 s₀ i rest j at used h k passes m now next₀ l₀ s next l = (l ≤ s .count) × (now ≡ s₀ .clock) × ((q : Sound s₀) × Moving s₀ q s next l)
 
-send-requires : tie.Need-send-requires
-unfolding at
-send-requires c κs =
-    let s = at (c .before) in
-    let k = known (c .before) in
-    let found = c .if3 .taken in
-    subst₂ (λ (i j : ℕ). (i < 8) × (j < 16) × (1 ≤ streamAt s i .queued)) (sym (k .2 .stream)) (sym (k .2 .index found))
-    (sendable s (sound-of s (k .0)) _ _ (chosen-grounds s (k .1) (sym (k .2 .found) ∙ found)))
+abbrev μ-loop5 : tie.MeasureT-loop5
+μ-loop5 s₀ i rest j at used h k passes m now next₀ l₀ s next l = s .count - l
 
-returns-3 : tie.Need-returns-3
-unfolding at
-returns-3 c =
-    let k = known (c .before .before) in
-    let found = c .before .if3 .taken in
-    let s = at (c .before .before) in
-    c .send .ensures
-    ∙ ap₂ (λ (i j : ℕ). outcome s (send i j)) (k .2 .stream) (k .2 .index found)
-    ∙ sym (turn-sends s (k .0) (k .1) (sym (k .2 .found) ∙ found))
+element-copy-out-first : tie.Need-element-copy-out-first Inv-loop μ-loop Inv-loop2 μ-loop2 Inv-loop3 μ-loop3 Inv-loop4 μ-loop4 Inv-loop5 μ-loop5
+element-copy-out-first c = search needs
+
+begin-requires : tie.Need-begin-requires Inv-loop μ-loop Inv-loop2 μ-loop2 Inv-loop3 μ-loop3 Inv-loop4 μ-loop4 Inv-loop5 μ-loop5
+begin-requires c κs = search needs
+
+-- that there are eight streams stands in what is told of the parameter: its last field is an array of eight, of the streams mapped
+loop-holds : tie.Need-loop-holds Inv-loop μ-loop Inv-loop2 μ-loop2 Inv-loop3 μ-loop3 Inv-loop4 μ-loop4 Inv-loop5 μ-loop5
+loop-holds c =
+    let s = c .before .before .args .t1 in
+    let array = c .before .before .good .0 .1 .1 .1 .1 .1 .1 .1 .1 .1 .1 .0 in
+    rw (c .begin .ensures) (counting-none s (sym (length-map (s .streams) _) ∙ array .1 .0 .1))
+
+mul-x : tie.Need-mul-x Inv-loop μ-loop Inv-loop2 μ-loop2 Inv-loop3 μ-loop3 Inv-loop4 μ-loop4 Inv-loop5 μ-loop5
+mul-x c = let at = c .before .before .loop in omega (arith, below _ _ _ (at .inv) (c .if1 .taken))
+
+element-copy-out-x : tie.Need-element-copy-out-x Inv-loop μ-loop Inv-loop2 μ-loop2 Inv-loop3 μ-loop3 Inv-loop4 μ-loop4 Inv-loop5 μ-loop5
+element-copy-out-x c = let at = c .before .before .loop in omega (arith, below _ _ _ (at .inv) (c .if1 .taken))
+
+is-in-order-requires : tie.Need-is-in-order-requires Inv-loop μ-loop Inv-loop2 μ-loop2 Inv-loop3 μ-loop3 Inv-loop4 μ-loop4 Inv-loop5 μ-loop5
+is-in-order-requires c κs = let at = c .before .before .before .loop in rw (sym (at .inv .counts .worst)) (can-count _ _ _ (at .inv) (c .before .if1 .taken) .worst-low)
+
+with-requires : tie.Need-with-requires Inv-loop μ-loop Inv-loop2 μ-loop2 Inv-loop3 μ-loop3 Inv-loop4 μ-loop4 Inv-loop5 μ-loop5
+with-requires c κs =
+    let at = c .before .before .before .before .loop in
+    let k = at .inv .counts in
+    (can-count _ _ _ (at .inv) (c .before .before .if1 .taken), rw (k .worst, k .span, k .padding) (c .is-in-order .ensures))
+
+add-i : tie.Need-add-i Inv-loop μ-loop Inv-loop2 μ-loop2 Inv-loop3 μ-loop3 Inv-loop4 μ-loop4 Inv-loop5 μ-loop5
+add-i c = let at = c .before .before .before .before .before .loop in omega (arith, below _ _ _ (at .inv) (c .before .before .before .if1 .taken))
+
+loop-less : tie.Need-loop-less Inv-loop μ-loop Inv-loop2 μ-loop2 Inv-loop3 μ-loop3 Inv-loop4 μ-loop4 Inv-loop5 μ-loop5
+loop-less c = let at = c .before .before .before .before .before .loop in omega (arith, used _ _ _ (at .inv) (c .before .before .before .if1 .taken))
+
+loop-again : tie.Need-loop-again Inv-loop μ-loop Inv-loop2 μ-loop2 Inv-loop3 μ-loop3 Inv-loop4 μ-loop4 Inv-loop5 μ-loop5
+loop-again c = let at = c .before .before .before .before .before .loop in rw (c .with .ensures) (counting-more _ _ _ (at .inv) (c .before .before .before .if1 .taken))
+
+loop2-holds : tie.Need-loop2-holds Inv-loop μ-loop Inv-loop2 μ-loop2 Inv-loop3 μ-loop3 Inv-loop4 μ-loop4 Inv-loop5 μ-loop5
+loop2-holds c = resting-none _ _ _ (c .before .before .loop .inv) (c .if1 .left)
+
+mul-x-2 : tie.Need-mul-x-2 Inv-loop μ-loop Inv-loop2 μ-loop2 Inv-loop3 μ-loop3 Inv-loop4 μ-loop4 Inv-loop5 μ-loop5
+mul-x-2 c = omega arith
+
+element-copy-out-x-2 : tie.Need-element-copy-out-x-2 Inv-loop μ-loop Inv-loop2 μ-loop2 Inv-loop3 μ-loop3 Inv-loop4 μ-loop4 Inv-loop5 μ-loop5
+element-copy-out-x-2 c = search needs
+
+is-unused-requires : tie.Need-is-unused-requires Inv-loop μ-loop Inv-loop2 μ-loop2 Inv-loop3 μ-loop3 Inv-loop4 μ-loop4 Inv-loop5 μ-loop5
+is-unused-requires c κs = search needs
+
+add-j : tie.Need-add-j Inv-loop μ-loop Inv-loop2 μ-loop2 Inv-loop3 μ-loop3 Inv-loop4 μ-loop4 Inv-loop5 μ-loop5
+add-j c = omega arith
+
+loop2-less : tie.Need-loop2-less Inv-loop μ-loop Inv-loop2 μ-loop2 Inv-loop3 μ-loop3 Inv-loop4 μ-loop4 Inv-loop5 μ-loop5
+loop2-less c = omega arith
+
+loop2-again : tie.Need-loop2-again Inv-loop μ-loop Inv-loop2 μ-loop2 Inv-loop3 μ-loop3 Inv-loop4 μ-loop4 Inv-loop5 μ-loop5
+loop2-again c = let at = c .before .before .before .loop2 in rw (c .is-unused .ensures) (resting-more _ _ _ _ (at .inv) (omega arith))
+
+slot-of-requires : tie.Need-slot-of-requires Inv-loop μ-loop Inv-loop2 μ-loop2 Inv-loop3 μ-loop3 Inv-loop4 μ-loop4 Inv-loop5 μ-loop5
+slot-of-requires c κs = search needs
+
+mul-disk : tie.Need-mul-disk Inv-loop μ-loop Inv-loop2 μ-loop2 Inv-loop3 μ-loop3 Inv-loop4 μ-loop4 Inv-loop5 μ-loop5
+mul-disk c = omega (arith, c .slot-of .ensures .0)
+
+element-copy-out-disk : tie.Need-element-copy-out-disk Inv-loop μ-loop Inv-loop2 μ-loop2 Inv-loop3 μ-loop3 Inv-loop4 μ-loop4 Inv-loop5 μ-loop5
+element-copy-out-disk c = omega (arith, c .slot-of .ensures .0)
+
+is-sound-requires : tie.Need-is-sound-requires Inv-loop μ-loop Inv-loop2 μ-loop2 Inv-loop3 μ-loop3 Inv-loop4 μ-loop4 Inv-loop5 μ-loop5
+is-sound-requires c κs = can-judge _ _ _ _ (c .before .before .before .before .loop2 .inv) _ (c .before .before .slot-of .ensures .1)
+
+-- what the test for 31 says, and past it the session is sound and the horizon is the census's
+tested : (c : tie.After-is-sound Inv-loop μ-loop Inv-loop2 μ-loop2 Inv-loop3 μ-loop3 Inv-loop4 μ-loop4 Inv-loop5 μ-loop5) → let s = c .before .before .before .before .before .before .before .before .before .before .before .args .t1 in
+    let test = c .before .before .before .before .before .loop2 .rest && c .is-sound .result in
+    (test ≡ sound s) × (test ≡ true → c .before .before .before .before .before .before .before .before .loop .census .horizon ≡ moment (horizon s))
+tested c = rw (c .is-sound .ensures) (judged _ _ _ _ (c .before .before .before .before .before .loop2 .inv) _ (c .before .before .before .slot-of .ensures .1) (omega arith))
+
+ok : (c : tie.Then2 Inv-loop μ-loop Inv-loop2 μ-loop2 Inv-loop3 μ-loop3 Inv-loop4 μ-loop4 Inv-loop5 μ-loop5) → sound (c .before .before .before .before .before .before .before .before .before .before .before .before .args .t1) ≡ true
+ok c = sym (tested (c .before) .0) ∙ c .if2 .taken
+
+ahead : (c : tie.Then2 Inv-loop μ-loop Inv-loop2 μ-loop2 Inv-loop3 μ-loop3 Inv-loop4 μ-loop4 Inv-loop5 μ-loop5) → c .before .before .before .before .before .before .before .before .before .loop .census .horizon ≡ moment (horizon (c .before .before .before .before .before .before .before .before .before .before .before .before .args .t1))
+ahead c = tested (c .before) .1 (c .if2 .taken)
+
+at-requires : tie.Need-at-requires Inv-loop μ-loop Inv-loop2 μ-loop2 Inv-loop3 μ-loop3 Inv-loop4 μ-loop4 Inv-loop5 μ-loop5
+at-requires c κs = search needs
+
+loop3-holds : tie.Need-loop3-holds Inv-loop μ-loop Inv-loop2 μ-loop2 Inv-loop3 μ-loop3 Inv-loop4 μ-loop4 Inv-loop5 μ-loop5
+unfolding someTo firstBest
+loop3-holds c = (omega arith, picked-none _ _ refl refl)
+
+mul-x-3 : tie.Need-mul-x-3 Inv-loop μ-loop Inv-loop2 μ-loop2 Inv-loop3 μ-loop3 Inv-loop4 μ-loop4 Inv-loop5 μ-loop5
+mul-x-3 c = omega (arith, count-high _ (ok (c .before .before .before .before .before)))
+
+element-copy-out-x-3 : tie.Need-element-copy-out-x-3 Inv-loop μ-loop Inv-loop2 μ-loop2 Inv-loop3 μ-loop3 Inv-loop4 μ-loop4 Inv-loop5 μ-loop5
+element-copy-out-x-3 c = omega (arith, count-high _ (ok (c .before .before .before .before .before)))
+
+consider-requires : tie.Need-consider-requires Inv-loop μ-loop Inv-loop2 μ-loop2 Inv-loop3 μ-loop3 Inv-loop4 μ-loop4 Inv-loop5 μ-loop5
+consider-requires c κs = rw (ahead (c .before .before .before .before .before .before)) (bounded _ (sound-of _ (ok (c .before .before .before .before .before .before))) (c .before .before .loop3 .k) (c .before .loop3-test .taken))
+
+add-k : tie.Need-add-k Inv-loop μ-loop Inv-loop2 μ-loop2 Inv-loop3 μ-loop3 Inv-loop4 μ-loop4 Inv-loop5 μ-loop5
+add-k c = omega (arith, c .before .before .loop3-test .taken, count-high _ (ok (c .before .before .before .before .before .before .before)))
+
+loop3-less : tie.Need-loop3-less Inv-loop μ-loop Inv-loop2 μ-loop2 Inv-loop3 μ-loop3 Inv-loop4 μ-loop4 Inv-loop5 μ-loop5
+loop3-less c = omega arith
+
+loop3-again : tie.Need-loop3-again Inv-loop μ-loop Inv-loop2 μ-loop2 Inv-loop3 μ-loop3 Inv-loop4 μ-loop4 Inv-loop5 μ-loop5
+loop3-again c =
+    let at = c .before .before .before .loop3 in
+    (omega (arith, c .before .before .loop3-test .taken), rw (add-one, c .consider .ensures, ahead (c .before .before .before .before .before .before .before)) (picked-next _ (at .k) (at .pick) (at .inv .1)))
+
+-- what the first search found, once it has passed all streams
+picked : (c : tie.After-loop3 Inv-loop μ-loop Inv-loop2 μ-loop2 Inv-loop3 μ-loop3 Inv-loop4 μ-loop4 Inv-loop5 μ-loop5) → let s = c .before .before .before .before .before .before .before .before .before .before .before .before .before .before .before .before .before .args .t1 in let pick = c .before .loop3 .pick in
+    (pick .found ≡ someFilled s) × (pick .stream ≡ chosen s) × (pick .found ≡ true → pick .index ≡ nearestAt s (chosen s))
+unfolding someFilled chosen
+picked c =
+    let s = c .before .before .before .before .before .before .before .before .before .before .before .before .before .before .before .before .before .args .t1 in
+    let at = c .before .loop3 in
+    let e : at .k ≡ s .count = omega arith in
+    let p = subst (λ (n : ℕ). Picked s n (at .pick)) e (at .inv .1) in
+    (p .found, p .stream, λ f. p .index f ∙ ap (nearestAt s) (p .stream))
+
+-- a request that was found is in the arrays' ranges
+ranges : (c : tie.Then4 Inv-loop μ-loop Inv-loop2 μ-loop2 Inv-loop3 μ-loop3 Inv-loop4 μ-loop4 Inv-loop5 μ-loop5) → let s = c .before .before .before .before .before .before .before .before .before .before .before .before .before .before .before .before .before .before .args .t1 in let pick = c .before .before .loop3 .pick in
+    (pick .stream < 8) × (pick .index < 16) × (1 ≤ streamAt s (pick .stream) .queued)
+ranges c =
+    let s = c .before .before .before .before .before .before .before .before .before .before .before .before .before .before .before .before .before .before .args .t1 in
+    let p = picked (c .before) in
+    subst₂ (λ (i j : ℕ). (i < 8) × (j < 16) × (1 ≤ streamAt s i .queued)) (sym (p .1)) (sym (p .2 (c .if4 .taken)))
+    (sendable s (sound-of s (ok (c .before .before .before .before .before .before))) _ _ (chosen-grounds s (c .before .before .before .before .before .if3 .taken) (sym (p .0) ∙ c .if4 .taken)))
+
+mul-x-4 : tie.Need-mul-x-4 Inv-loop μ-loop Inv-loop2 μ-loop2 Inv-loop3 μ-loop3 Inv-loop4 μ-loop4 Inv-loop5 μ-loop5
+mul-x-4 c = omega (arith, ranges c .0)
+
+element-copy-out-x-4 : tie.Need-element-copy-out-x-4 Inv-loop μ-loop Inv-loop2 μ-loop2 Inv-loop3 μ-loop3 Inv-loop4 μ-loop4 Inv-loop5 μ-loop5
+element-copy-out-x-4 c = ranges c .0
+
+mul-place : tie.Need-mul-place Inv-loop μ-loop Inv-loop2 μ-loop2 Inv-loop3 μ-loop3 Inv-loop4 μ-loop4 Inv-loop5 μ-loop5
+mul-place c = omega (arith, ranges (c .before .before) .1)
+
+array-read-place : tie.Need-array-read-place Inv-loop μ-loop Inv-loop2 μ-loop2 Inv-loop3 μ-loop3 Inv-loop4 μ-loop4 Inv-loop5 μ-loop5
+array-read-place c = ranges (c .before .before) .1
+
+without-requires : tie.Need-without-requires Inv-loop μ-loop Inv-loop2 μ-loop2 Inv-loop3 μ-loop3 Inv-loop4 μ-loop4 Inv-loop5 μ-loop5
+without-requires c κs = let r = ranges (c .before .before) in (r .1, r .2)
+
+mul-y : tie.Need-mul-y Inv-loop μ-loop Inv-loop2 μ-loop2 Inv-loop3 μ-loop3 Inv-loop4 μ-loop4 Inv-loop5 μ-loop5
+mul-y c = omega (arith, ranges (c .before .before .before) .0)
+
+element-set-from-y : tie.Need-element-set-from-y Inv-loop μ-loop Inv-loop2 μ-loop2 Inv-loop3 μ-loop3 Inv-loop4 μ-loop4 Inv-loop5 μ-loop5
+element-set-from-y c = ranges (c .before .before .before) .0
+
+add-self : tie.Need-add-self Inv-loop μ-loop Inv-loop2 μ-loop2 Inv-loop3 μ-loop3 Inv-loop4 μ-loop4 Inv-loop5 μ-loop5
+add-self c = omega (arith, ranges (c .before .before .before) .0)
+
+add-number : tie.Need-add-number Inv-loop μ-loop Inv-loop2 μ-loop2 Inv-loop3 μ-loop3 Inv-loop4 μ-loop4 Inv-loop5 μ-loop5
+add-number c = omega (arith, ranges (c .before .before .before) .0)
 
 -- past the sending no slot is filled
-none : (c : tie.Else3) → someFilled (at (c .before)) ≡ false
-none c = sym (known (c .before) .2 .found) ∙ c .if3 .left
+none : (c : tie.Else4 Inv-loop μ-loop Inv-loop2 μ-loop2 Inv-loop3 μ-loop3 Inv-loop4 μ-loop4 Inv-loop5 μ-loop5) → someFilled (c .before .before .before .before .before .before .before .before .before .before .before .before .before .before .before .before .before .before .args .t1) ≡ false
+none c = sym (picked (c .before) .0) ∙ c .if4 .left
 
-is-after-requires : tie.Need-is-after-requires
-is-after-requires c κs = search needs
+of-requires : tie.Need-of-requires Inv-loop μ-loop Inv-loop2 μ-loop2 Inv-loop3 μ-loop3 Inv-loop4 μ-loop4 Inv-loop5 μ-loop5
+of-requires c κs = search needs
 
-wait-requires : tie.Need-wait-requires
-unfolding at
-wait-requires c κs = known (c .before .before .before .before .before .before) .2 .until
+loop4-holds : tie.Need-loop4-holds Inv-loop μ-loop Inv-loop2 μ-loop2 Inv-loop3 μ-loop3 Inv-loop4 μ-loop4 Inv-loop5 μ-loop5
+unfolding someTo firstBest
+loop4-holds c = (omega arith, refl, rw (c .of .ensures) (sums-none _), refl)
+
+-- what the search for a slot points at is a used stream
+pointed : (c : tie.In-loop4 Inv-loop μ-loop Inv-loop2 μ-loop2 Inv-loop3 μ-loop3 Inv-loop4 μ-loop4 Inv-loop5 μ-loop5) → let s = c .before .before .before .before .before .before .before .before .before .before .before .before .before .before .before .before .before .before .before .before .before .args .t1 in (c .before .loop4 .lapse .stream < s .count) × (s .count ≤ 8)
+pointed c =
+    let s = c .before .before .before .before .before .before .before .before .before .before .before .before .before .before .before .before .before .before .before .before .before .args .t1 in
+    let at = c .before .loop4 in
+    let numbers = admits s (sound-of s (ok (c .before .before .before .before .before .before .before .before .before))) .numbers in
+    (rw (at .inv .1) (lapse-in (λ n. leb 1 (slotsAt s n)) (expiresBefore s) (at .m) (s .count) (at .inv .0) (numbers .count-low)), numbers .count-high)
+
+mul-other : tie.Need-mul-other Inv-loop μ-loop Inv-loop2 μ-loop2 Inv-loop3 μ-loop3 Inv-loop4 μ-loop4 Inv-loop5 μ-loop5
+mul-other c = omega (arith, pointed c)
+
+element-copy-out-other : tie.Need-element-copy-out-other Inv-loop μ-loop Inv-loop2 μ-loop2 Inv-loop3 μ-loop3 Inv-loop4 μ-loop4 Inv-loop5 μ-loop5
+element-copy-out-other c = omega (arith, pointed c)
+
+mul-x-5 : tie.Need-mul-x-5 Inv-loop μ-loop Inv-loop2 μ-loop2 Inv-loop3 μ-loop3 Inv-loop4 μ-loop4 Inv-loop5 μ-loop5
+mul-x-5 c = omega (arith, pointed (c .before), c .before .loop4-test .taken)
+
+element-copy-out-x-5 : tie.Need-element-copy-out-x-5 Inv-loop μ-loop Inv-loop2 μ-loop2 Inv-loop3 μ-loop3 Inv-loop4 μ-loop4 Inv-loop5 μ-loop5
+element-copy-out-x-5 c = omega (arith, pointed (c .before), c .before .loop4-test .taken)
+
+better-requires : tie.Need-better-requires Inv-loop μ-loop Inv-loop2 μ-loop2 Inv-loop3 μ-loop3 Inv-loop4 μ-loop4 Inv-loop5 μ-loop5
+better-requires c κs =
+    let q = sound-of _ (ok (c .before .before .before .before .before .before .before .before .before .before .before)) in
+    rw (ahead (c .before .before .before .before .before .before .before .before .before .before .before)) (bounded _ q (c .before .before .before .loop4 .lapse .stream) (pointed (c .before .before) .0), bounded _ q (c .before .before .before .loop4 .m) (c .before .before .loop4-test .taken))
+
+summed-requires : tie.Need-summed-requires Inv-loop μ-loop Inv-loop2 μ-loop2 Inv-loop3 μ-loop3 Inv-loop4 μ-loop4 Inv-loop5 μ-loop5
+summed-requires c κs =
+    let at = c .before .before .before .before .loop4 in
+    rw (at .inv .2, ahead (c .before .before .before .before .before .before .before .before .before .before .before .before)) (can-sum _ (sound-of _ (ok (c .before .before .before .before .before .before .before .before .before .before .before .before))) (at .m) (c .before .before .before .loop4-test .taken))
+
+closes-past-end-requires : tie.Need-closes-past-end-requires Inv-loop μ-loop Inv-loop2 μ-loop2 Inv-loop3 μ-loop3 Inv-loop4 μ-loop4 Inv-loop5 μ-loop5
+closes-past-end-requires c κs = bounded _ (sound-of _ (ok (c .before .before .before .before .before .before .before .before .before .before .before .before .before))) (c .before .before .before .before .before .loop4 .m) (c .before .before .before .before .loop4-test .taken) .deadline-high
+
+add-m : tie.Need-add-m Inv-loop μ-loop Inv-loop2 μ-loop2 Inv-loop3 μ-loop3 Inv-loop4 μ-loop4 Inv-loop5 μ-loop5
+add-m c = omega (arith, c .before .before .before .before .before .loop4-test .taken, pointed (c .before .before .before .before .before) .1)
+
+loop4-less : tie.Need-loop4-less Inv-loop μ-loop Inv-loop2 μ-loop2 Inv-loop3 μ-loop3 Inv-loop4 μ-loop4 Inv-loop5 μ-loop5
+loop4-less c = omega arith
+
+loop4-again : tie.Need-loop4-again Inv-loop μ-loop Inv-loop2 μ-loop2 Inv-loop3 μ-loop3 Inv-loop4 μ-loop4 Inv-loop5 μ-loop5
+unfolding someTo
+loop4-again c =
+    let s = c .before .before .before .before .before .before .before .before .before .before .before .before .before .before .before .before .before .before .before .before .before .before .before .before .before .before .args .t1 in
+    let at = c .before .before .before .before .before .before .loop4 in (
+      omega (arith, c .before .before .before .before .before .loop4-test .taken),
+      rw (add-one, c .before .before .better .ensures, ahead (c .before .before .before .before .before .before .before .before .before .before .before .before .before .before), at .inv .1) (sym (lapse-more (λ n. leb 1 (slotsAt s n)) (expiresBefore s) (at .m))),
+      rw (c .before .summed .ensures, ahead (c .before .before .before .before .before .before .before .before .before .before .before .before .before .before), at .inv .2) (sums-more s (at .m)),
+      rw (add-one, c .closes-past-end .ensures, at .inv .3),
+    )
+
+-- what the second search found
+surveyed : (c : tie.After-loop4 Inv-loop μ-loop Inv-loop2 μ-loop2 Inv-loop3 μ-loop3 Inv-loop4 μ-loop4 Inv-loop5 μ-loop5) → let s = c .before .before .before .before .before .before .before .before .before .before .before .before .before .before .before .before .before .before .before .before .before .args .t1 in let at = c .before .loop4 in
+    (at .lapse ≡ lapseOf s) × (at .sums ≡ sumsTo s (s .count)) × (at .passes ≡ movePassesEnd s)
+unfolding lapseOf noSlot expiring movePassesEnd
+surveyed c =
+    let s = c .before .before .before .before .before .before .before .before .before .before .before .before .before .before .before .before .before .before .before .before .before .args .t1 in
+    let at = c .before .loop4 in
+    let e : at .m ≡ s .count = omega arith in
+    (rw (at .inv .1, e, some-not-all (slotsAt s) (s .count)), at .inv .2 ∙ ap (sumsTo s) e, rw (at .inv .3, e, ahead (c .before .before .before .before .before .before .before .before .before)))
 
 -- a stream has a slot, or none has
-slot : (c : tie.Then4) → noSlot (at (c .before .before .before)) ≡ false
+slot : (c : tie.Then5 Inv-loop μ-loop Inv-loop2 μ-loop2 Inv-loop3 μ-loop3 Inv-loop4 μ-loop4 Inv-loop5 μ-loop5) → noSlot (c .before .before .before .before .before .before .before .before .before .before .before .before .before .before .before .before .before .before .before .before .before .before .args .t1) ≡ false
 unfolding lapseOf
-slot c = not-true (noSlot (at (c .before .before .before))) (sym (ap (λ (l : Lapse). l .found) (known (c .before .before .before) .2 .lapse)) ∙ c .if4 .taken)
+slot c = not-true _ (sym (ap (λ (l : Lapse). l .found) (surveyed (c .before) .0)) ∙ c .if5 .taken)
 
-over : (c : tie.Else4) → noSlot (at (c .before .before .before)) ≡ true
+over : (c : tie.Else5 Inv-loop μ-loop Inv-loop2 μ-loop2 Inv-loop3 μ-loop3 Inv-loop4 μ-loop4 Inv-loop5 μ-loop5) → noSlot (c .before .before .before .before .before .before .before .before .before .before .before .before .before .before .before .before .before .before .before .before .before .before .args .t1) ≡ true
 unfolding lapseOf
-over c = not-false (noSlot (at (c .before .before .before))) (sym (ap (λ (l : Lapse). l .found) (known (c .before .before .before) .2 .lapse)) ∙ c .if4 .left)
+over c = not-false _ (sym (ap (λ (l : Lapse). l .found) (surveyed (c .before) .0)) ∙ c .if5 .left)
 
-returns-4 : tie.Need-returns-4
-unfolding at
+less-remainders-requires : tie.Need-less-remainders-requires Inv-loop μ-loop Inv-loop2 μ-loop2 Inv-loop3 μ-loop3 Inv-loop4 μ-loop4 Inv-loop5 μ-loop5
+less-remainders-requires c κs = rw (surveyed (c .before) .1, ahead (c .before .before .before .before .before .before .before .before .before .before)) (can-end _ (sound-of _ (ok (c .before .before .before .before .before .before .before .before .before .before))))
+
+until : (c : tie.After-less-remainders Inv-loop μ-loop Inv-loop2 μ-loop2 Inv-loop3 μ-loop3 Inv-loop4 μ-loop4 Inv-loop5 μ-loop5) → c .less-remainders .result ≡ moment (latest (c .before .before .before .before .before .before .before .before .before .before .before .before .before .before .before .before .before .before .before .before .before .before .before .args .t1))
+until c = rw (c .less-remainders .ensures, surveyed (c .before .before) .1, ahead (c .before .before .before .before .before .before .before .before .before .before .before)) (until-is _)
+
+is-after-requires : tie.Need-is-after-requires Inv-loop μ-loop Inv-loop2 μ-loop2 Inv-loop3 μ-loop3 Inv-loop4 μ-loop4 Inv-loop5 μ-loop5
+is-after-requires c κs = search needs
+
+-- the slot that expires is a used stream's, whose numbers are small
+expired-at : (c : tie.Else6 Inv-loop μ-loop Inv-loop2 μ-loop2 Inv-loop3 μ-loop3 Inv-loop4 μ-loop4 Inv-loop5 μ-loop5) → let s = c .before .before .before .before .before .before .before .before .before .before .before .before .before .before .before .before .before .before .before .before .before .before .before .before .before .before .args .t1 in let n = c .before .before .before .before .before .before .loop4 .lapse .stream in
+    (n < 8) × (streamAt s n .charge .0 ≤ session-end) × (streamAt s n .expired ≤ session-end)
+unfolding lapseOf
+expired-at c =
+    let s = c .before .before .before .before .before .before .before .before .before .before .before .before .before .before .before .before .before .before .before .before .before .before .before .before .before .before .args .t1 in
+    let g = expiring-grounds s (c .before .before .before .before .before .before .before .before .before .before .before .before .before .if3 .taken) (slot (c .before .before .before .before)) in
+    let x = bounded s (sound-of s (ok (c .before .before .before .before .before .before .before .before .before .before .before .before .before .before))) (expiring s) (g .exists) in
+    rw (ap (λ (l : Lapse). l .stream) (surveyed (c .before .before .before .before .before) .0))
+    (omega (arith, g .exists, count-high s (ok (c .before .before .before .before .before .before .before .before .before .before .before .before .before .before))), omega (arith, charge-high x), omega (arith, expired-high x))
+
+mul-x-6 : tie.Need-mul-x-6 Inv-loop μ-loop Inv-loop2 μ-loop2 Inv-loop3 μ-loop3 Inv-loop4 μ-loop4 Inv-loop5 μ-loop5
+mul-x-6 c = omega (arith, expired-at c .0)
+
+element-copy-out-x-6 : tie.Need-element-copy-out-x-6 Inv-loop μ-loop Inv-loop2 μ-loop2 Inv-loop3 μ-loop3 Inv-loop4 μ-loop4 Inv-loop5 μ-loop5
+element-copy-out-x-6 c = expired-at c .0
+
+lapsed-requires : tie.Need-lapsed-requires Inv-loop μ-loop Inv-loop2 μ-loop2 Inv-loop3 μ-loop3 Inv-loop4 μ-loop4 Inv-loop5 μ-loop5
+lapsed-requires c κs = let x = expired-at (c .before) in (x .1, x .2)
+
+mul-y-2 : tie.Need-mul-y-2 Inv-loop μ-loop Inv-loop2 μ-loop2 Inv-loop3 μ-loop3 Inv-loop4 μ-loop4 Inv-loop5 μ-loop5
+mul-y-2 c = omega (arith, expired-at (c .before .before .before) .0)
+
+element-set-from-y-2 : tie.Need-element-set-from-y-2 Inv-loop μ-loop Inv-loop2 μ-loop2 Inv-loop3 μ-loop3 Inv-loop4 μ-loop4 Inv-loop5 μ-loop5
+element-set-from-y-2 c = expired-at (c .before .before .before) .0
+
+add-number-2 : tie.Need-add-number-2 Inv-loop μ-loop Inv-loop2 μ-loop2 Inv-loop3 μ-loop3 Inv-loop4 μ-loop4 Inv-loop5 μ-loop5
+add-number-2 c = omega (arith, expired-at (c .before .before .before) .0)
+
+element-copy-out-lowest : tie.Need-element-copy-out-lowest Inv-loop μ-loop Inv-loop2 μ-loop2 Inv-loop3 μ-loop3 Inv-loop4 μ-loop4 Inv-loop5 μ-loop5
+element-copy-out-lowest c = search needs
+
+moved-requires : tie.Need-moved-requires Inv-loop μ-loop Inv-loop2 μ-loop2 Inv-loop3 μ-loop3 Inv-loop4 μ-loop4 Inv-loop5 μ-loop5
+moved-requires c κs = deadline-high _ (sound-of _ (ok (c .before .before .before .before .before .before .before .before .before .before .before .before .before))) 0 (omega arith)
+
+loop5-holds : tie.Need-loop5-holds Inv-loop μ-loop Inv-loop2 μ-loop2 Inv-loop3 μ-loop3 Inv-loop4 μ-loop4 Inv-loop5 μ-loop5
+loop5-holds c =
+    let s = c .before .before .before .before .before .before .before .before .before .before .before .before .before .before .before .before .before .before .before .before .before .before .before .before .before .before .before .args .t1 in
+    let q = sound-of s (ok (c .before .before .before .before .before .before .before .before .before .before .before .before .before .before .before)) in
+    let e = c .before .moved .ensures ∙ ap (λ (h : Clock). moved (s .clock) (h .0) (streamAt s 0)) (ahead (c .before .before .before .before .before .before .before .before .before .before .before .before .before .before .before)) in
+    (omega arith, refl, (q, subst (λ (y : Stream). Moving s q s (y .deadline) 0) (sym e) (moving-none s q)))
+
+-- the move goes over used streams
+within : (c : tie.In-loop5 Inv-loop μ-loop Inv-loop2 μ-loop2 Inv-loop3 μ-loop3 Inv-loop4 μ-loop4 Inv-loop5 μ-loop5) → c .before .loop5 .l < 8
+within c =
+    let at = c .before .loop5 in
+    let kept = ap (λ (z : Session). z .count) (at .inv .2 .1 .cells) in
+    omega (arith, c .loop5-test .taken, kept, admits _ (at .inv .2 .0) .numbers .count-high)
+
+mul-x-7 : tie.Need-mul-x-7 Inv-loop μ-loop Inv-loop2 μ-loop2 Inv-loop3 μ-loop3 Inv-loop4 μ-loop4 Inv-loop5 μ-loop5
+mul-x-7 c = omega (arith, within c)
+
+element-copy-out-x-7 : tie.Need-element-copy-out-x-7 Inv-loop μ-loop Inv-loop2 μ-loop2 Inv-loop3 μ-loop3 Inv-loop4 μ-loop4 Inv-loop5 μ-loop5
+element-copy-out-x-7 c = within c
+
+moved-requires-2 : tie.Need-moved-requires-2 Inv-loop μ-loop Inv-loop2 μ-loop2 Inv-loop3 μ-loop3 Inv-loop4 μ-loop4 Inv-loop5 μ-loop5
+moved-requires-2 c κs =
+    let at = c .before .before .loop5 in
+    rw (at .inv .2 .1 .rest (at .l) (omega arith)) (deadline-high _ (at .inv .2 .0) (at .l) (within (c .before)))
+
+mul-y-3 : tie.Need-mul-y-3 Inv-loop μ-loop Inv-loop2 μ-loop2 Inv-loop3 μ-loop3 Inv-loop4 μ-loop4 Inv-loop5 μ-loop5
+mul-y-3 c = omega (arith, within (c .before .before))
+
+element-set-from-y-3 : tie.Need-element-set-from-y-3 Inv-loop μ-loop Inv-loop2 μ-loop2 Inv-loop3 μ-loop3 Inv-loop4 μ-loop4 Inv-loop5 μ-loop5
+element-set-from-y-3 c = within (c .before .before)
+
+earlier-requires : tie.Need-earlier-requires Inv-loop μ-loop Inv-loop2 μ-loop2 Inv-loop3 μ-loop3 Inv-loop4 μ-loop4 Inv-loop5 μ-loop5
+earlier-requires c κs = search needs
+
+add-l : tie.Need-add-l Inv-loop μ-loop Inv-loop2 μ-loop2 Inv-loop3 μ-loop3 Inv-loop4 μ-loop4 Inv-loop5 μ-loop5
+add-l c = omega (arith, within (c .before .before .before))
+
+loop5-less : tie.Need-loop5-less Inv-loop μ-loop Inv-loop2 μ-loop2 Inv-loop3 μ-loop3 Inv-loop4 μ-loop4 Inv-loop5 μ-loop5
+loop5-less c = omega arith
+
+loop5-again : tie.Need-loop5-again Inv-loop μ-loop Inv-loop2 μ-loop2 Inv-loop3 μ-loop3 Inv-loop4 μ-loop4 Inv-loop5 μ-loop5
+loop5-again c =
+    let at = c .before .before .before .before .loop5 in
+    let q = at .inv .2 .0 in (
+      omega arith,
+      at .inv .1,
+      (q, moving-more _ q (at .self) (at .next) (at .l) _ _ _ _ (within (c .before .before .before)) (at .inv .2 .1) (at .inv .1) (ap (λ (z : Clock). z .0) (ahead (c .before .before .before .before .before .before .before .before .before .before .before .before .before .before .before .before .before .before .before .before))) (c .before .moved2 .ensures) (c .earlier .ensures)),
+    )
+
+returns : tie.Need-returns Inv-loop μ-loop Inv-loop2 μ-loop2 Inv-loop3 μ-loop3 Inv-loop4 μ-loop4 Inv-loop5 μ-loop5
+unfolding apply replyTo
+returns c =
+    let s = c .before .before .before .before .before .before .before .before .before .before .before .before .before .before .before .before .before .before .before .before .before .args .t1 in
+    let p = picked (c .before .before .before .before) in
+    let found = c .before .before .before .if4 .taken in
+    rw (c .without .ensures)
+    (ap₂ (λ (i j : ℕ). outcome s (send i j)) (p .1) (p .2 found) ∙ sym (turn-sends s (ok (c .before .before .before .before .before .before .before .before .before)) (c .before .before .before .before .before .before .before .before .if3 .taken) (sym (p .0) ∙ found)))
+
+returns-2 : tie.Need-returns-2 Inv-loop μ-loop Inv-loop2 μ-loop2 Inv-loop3 μ-loop3 Inv-loop4 μ-loop4 Inv-loop5 μ-loop5
+unfolding apply replyTo
+returns-2 c =
+    let s = c .before .before .before .before .before .before .before .before .before .before .before .before .before .before .before .before .before .before .before .before .before .before .before .before .before .before .args .t1 in
+    let early = rw (until (c .before .before .before)) at (sym (c .before .is-after .ensures) ∙ c .if6 .taken) in
+    rw (until (c .before .before .before)) (sym (turn-waits s (ok (c .before .before .before .before .before .before .before .before .before .before .before .before .before .before)) (c .before .before .before .before .before .before .before .before .before .before .before .before .before .if3 .taken) (none (c .before .before .before .before .before .before .before .before)) (slot (c .before .before .before .before)) early))
+
+returns-3 : tie.Need-returns-3 Inv-loop μ-loop Inv-loop2 μ-loop2 Inv-loop3 μ-loop3 Inv-loop4 μ-loop4 Inv-loop5 μ-loop5
+unfolding apply replyTo lapsed lapseOf
+returns-3 c =
+    let s = c .before .before .before .before .before .before .before .before .before .before .before .before .before .before .before .before .before .before .before .before .before .before .before .before .before .before .before .before .before .args .t1 in
+    let late = rw (until (c .before .before .before .before .before .before)) at (sym (c .before .before .before .before .is-after .ensures) ∙ c .before .before .before .if6 .left) in
+    rw (c .before .lapsed .ensures)
+    (ap (λ (l : Lapse). outcome s (expire (l .stream))) (surveyed (c .before .before .before .before .before .before .before .before) .0) ∙ sym (turn-expires s (ok (c .before .before .before .before .before .before .before .before .before .before .before .before .before .before .before .before .before)) (c .before .before .before .before .before .before .before .before .before .before .before .before .before .before .before .before .if3 .taken) (none (c .before .before .before .before .before .before .before .before .before .before .before)) (slot (c .before .before .before .before .before .before .before)) late))
+
+returns-4 : tie.Need-returns-4 Inv-loop μ-loop Inv-loop2 μ-loop2 Inv-loop3 μ-loop3 Inv-loop4 μ-loop4 Inv-loop5 μ-loop5
 returns-4 c =
-    let k = known (c .before .before .before .before .before .before .before) in
-    let early = rw (k .2 .until) at (sym (c .before .before .is-after .ensures) ∙ c .before .if5 .taken) in
-    c .wait .ensures ∙ sym (turn-waits (at (c .before .before .before .before .before .before .before)) (k .0) (k .1) (none (c .before .before .before .before .before .before)) (slot (c .before .before .before .before)) early)
+    let s = c .before .before .before .before .before .before .before .before .before .before .before .before .before .before .before .before .before .before .before .before .before .before .before .before .before .before .before .before .before .args .t1 in
+    let at = c .before .loop5 in
+    let q = at .inv .2 .0 in
+    let m = at .inv .2 .1 in
+    let kept = ap (λ (z : Session). z .count) (m .cells) in
+    let e : at .l ≡ s .count = omega (arith, kept) in
+    let fits = sym (surveyed (c .before .before .before .before .before .before .before .before) .2) ∙ not-true _ (c .before .before .before .before .before .before .if7 .taken) in
+    moving-all _ q (at .self) (at .next) (subst (Moving _ q (at .self) (at .next)) e m)
+    ∙ sym (turn-moves s (ok (c .before .before .before .before .before .before .before .before .before .before .before .before .before .before .before .before .before)) (c .before .before .before .before .before .before .before .before .before .before .before .before .before .before .before .before .if3 .taken) (none (c .before .before .before .before .before .before .before .before .before .before .before)) (over (c .before .before .before .before .before .before .before)) fits)
 
-expire-requires : tie.Need-expire-requires
-unfolding at lapseOf
-expire-requires c κs =
-    let s = at (c .before .before .before .before .before .before) in
-    let k = known (c .before .before .before .before .before .before) in
-    let g = expiring-grounds s (k .1) (slot (c .before .before .before)) in
-    let x = bounded s (sound-of s (k .0)) (expiring s) (g .exists) in
-    rw (ap (λ (l : Lapse). l .stream) (k .2 .lapse))
-    (omega (arith, g .exists, count-high s (k .0)), omega (arith, charge-high x), omega (arith, expired-high x))
+returns-5 : tie.Need-returns-5 Inv-loop μ-loop Inv-loop2 μ-loop2 Inv-loop3 μ-loop3 Inv-loop4 μ-loop4 Inv-loop5 μ-loop5
+unfolding apply replyTo
+returns-5 c = sym (turn-ends _ (ok (c .before .before .before .before .before .before .before .before .before .before .before)) (c .before .before .before .before .before .before .before .before .before .before .if3 .taken) (over (c .before)) (sym (surveyed (c .before .before) .2) ∙ not-false _ (c .if7 .left)))
 
-returns-5 : tie.Need-returns-5
-unfolding at lapseOf
-returns-5 c =
-    let s = at (c .before .before .before .before .before .before .before) in
-    let k = known (c .before .before .before .before .before .before .before) in
-    let late = rw (k .2 .until) at (sym (c .before .before .is-after .ensures) ∙ c .before .if5 .left) in
-    c .expire .ensures
-    ∙ ap (λ (l : Lapse). outcome s (expire (l .stream))) (k .2 .lapse)
-    ∙ sym (turn-expires s (k .0) (k .1) (none (c .before .before .before .before .before .before)) (slot (c .before .before .before .before)) late)
+returns-6 : tie.Need-returns-6 Inv-loop μ-loop Inv-loop2 μ-loop2 Inv-loop3 μ-loop3 Inv-loop4 μ-loop4 Inv-loop5 μ-loop5
+unfolding callRefusal given _or-next_ busy apply replyTo
+returns-6 c = sym (refused (c .before .before .before .before .before .before .before .before .before .before .before .before .before .args .t1) Call.Turn (ok (c .before)) 9 (rw (ne-eqb _ _ (c .if3 .left))))
 
-passes-end-requires : tie.Need-passes-end-requires
-passes-end-requires c κs = ok (c .before .before .before .before .before .before .before .before)
-
-refuse-requires-3 : tie.Need-refuse-requires-3
-refuse-requires-3 c κs = search needs
-
-returns-6 : tie.Need-returns-6
-unfolding at
-returns-6 c =
-    let k = known (c .before .before .before .before .before .before) in
-    c .refuse3 .ensures
-    ∙ sym (turn-ends (at (c .before .before .before .before .before .before)) (k .0) (k .1) (over (c .before .before .before)) (sym (c .before .before .passes-end .ensures) ∙ c .before .if6 .taken))
-
-move-on-requires : tie.Need-move-on-requires
-move-on-requires c κs = ok (c .before .before .before .before .before .before .before .before .before .before)
-
-returns-7 : tie.Need-returns-7
-unfolding at
-returns-7 c =
-    let k = known (c .before .before .before .before .before .before) in
-    c .move-on .ensures
-    ∙ sym (turn-moves (at (c .before .before .before .before .before .before)) (k .0) (k .1) (none (c .before .before .before .before .before)) (over (c .before .before .before)) (sym (c .before .before .passes-end .ensures) ∙ c .before .if6 .left))
+returns-7 : tie.Need-returns-7 Inv-loop μ-loop Inv-loop2 μ-loop2 Inv-loop3 μ-loop3 Inv-loop4 μ-loop4 Inv-loop5 μ-loop5
+unfolding apply replyTo
+returns-7 c = sym (unsound-answer _ _ (sym (tested (c .before) .0) ∙ c .if2 .left))
 
 pub turn-spec : {M : Type 1} → statement M
 turn-spec =
     tie.close
     (tie.spec
-    judge-requires
-    refuse-requires
-    returns
-    refuse-requires-2
-    returns-2
-    survey-of-requires
-    send-requires
-    returns-3
+    Inv-loop
+    μ-loop
+    Inv-loop2
+    μ-loop2
+    Inv-loop3
+    μ-loop3
+    Inv-loop4
+    μ-loop4
+    Inv-loop5
+    μ-loop5
+    element-copy-out-first
+    begin-requires
+    loop-holds
+    mul-x
+    element-copy-out-x
+    is-in-order-requires
+    with-requires
+    add-i
+    loop-less
+    loop-again
+    loop2-holds
+    mul-x-2
+    element-copy-out-x-2
+    is-unused-requires
+    add-j
+    loop2-less
+    loop2-again
+    slot-of-requires
+    mul-disk
+    element-copy-out-disk
+    is-sound-requires
+    at-requires
+    loop3-holds
+    mul-x-3
+    element-copy-out-x-3
+    consider-requires
+    add-k
+    loop3-less
+    loop3-again
+    mul-x-4
+    element-copy-out-x-4
+    mul-place
+    array-read-place
+    without-requires
+    mul-y
+    element-set-from-y
+    add-self
+    add-number
+    of-requires
+    loop4-holds
+    mul-other
+    element-copy-out-other
+    mul-x-5
+    element-copy-out-x-5
+    better-requires
+    summed-requires
+    closes-past-end-requires
+    add-m
+    loop4-less
+    loop4-again
+    less-remainders-requires
     is-after-requires
-    wait-requires
+    mul-x-6
+    element-copy-out-x-6
+    lapsed-requires
+    mul-y-2
+    element-set-from-y-2
+    add-number-2
+    element-copy-out-lowest
+    moved-requires
+    loop5-holds
+    mul-x-7
+    element-copy-out-x-7
+    moved-requires-2
+    mul-y-3
+    element-set-from-y-3
+    earlier-requires
+    add-l
+    loop5-less
+    loop5-again
+    returns
+    returns-2
+    returns-3
     returns-4
-    expire-requires
     returns-5
-    passes-end-requires
-    refuse-requires-3
     returns-6
-    move-on-requires
     returns-7)

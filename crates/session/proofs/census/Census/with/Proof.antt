@@ -1,52 +1,32 @@
 -- `Census::with` takes in one more stream: one in order has a share of at most the span.
-use mathlib.Core.Bool.{Bool, true, false, not, _&&_, _||_, false≢true}
-use mathlib.Core.Path.{_≡_, refl, sym, ap, _∙_}
+use mathlib.Core.Bool.{Bool, true, false}
+use mathlib.Core.Path.{_≡_, sym, _∙_}
 use Prim.Native.Nat.{ℕ, _≤_, _*_, _/_}
 use native.Mathlib.Nat.{div-le-self}
 use native.Mathlib.Omega.{arith}
 use lib.Dec.{eqb}
-use borrow.Author.Tests.{eqb-true, not-false}
+use borrow.Author.Tests.{eqb-true, not-true, not-false}
 use borrow.Author.Needs.{needs}
 use Rattle.table.specs.Fold.{if}
 use Rattle.table.specs.Admission.{shareOf, streamRefusal}
 use Rattle.table.proofs.Tests.{both}
 use Rattle.table.proofs.Judged.{Fits-in, stream-of, share-high}
-use Rattle.session.specs.Stream.{soundCells, soundStream}
+use Rattle.session.specs.Stream.{soundCells}
 use Rattle.session.specs.Search.{counted, inOrder}
 use Rattle.session.specs.declared.stream.Stream.{Stream}
 use Rattle.session.proofs.Sound as facts
 use Rattle.session.proofs.census.Census.with.Statement.{statement}
 use Rattle.session.proofs.census.Census.with.Tie as tie
 
--- of two tests one fails, or both hold
-one-fails : (a b : Bool) → (not a || not b) ≡ true → (a && b) ≡ false
-one-fails true true t = absurd (false≢true t)
-one-fails true false t = refl
-one-fails false b t = refl
-
-both-hold : (a b : Bool) → (not a || not b) ≡ false → (a && b) ≡ true
-both-hold true true t = refl
-both-hold true false t = absurd (false≢true (sym t))
-both-hold false b t = absurd (false≢true (sym t))
-
-stream-refusal-requires : tie.Need-stream-refusal-requires
-stream-refusal-requires c κs = search needs
-
-is-sound-requires : tie.Need-is-sound-requires
-is-sound-requires c κs = c .before .pre .worst-low
-
 returns : tie.Need-returns
-unfolding counted inOrder if
+unfolding counted if
 returns c =
-    let bad = one-fails (eqb (c .before .before .stream-refusal .result) 0) (c .before .is-sound .result) (c .if1 .taken) in
-    rw (rw (c .before .before .stream-refusal .ensures, c .before .is-sound .ensures) at bad)
+    let bad = sym (c .before .pre .1) ∙ not-true _ (c .if1 .taken) in
+    rw bad
 
 -- past the test the stream is in order
-good : (c : tie.Else1) → inOrder (c .before .before .before .args .self .worst) (c .before .before .before .args .self .span) (c .before .before .before .args .self .padding) (c .before .before .before .args .x) ≡ true
-unfolding inOrder
-good c =
-    rw (c .before .before .stream-refusal .ensures, c .before .is-sound .ensures)
-    at (both-hold (eqb (c .before .before .stream-refusal .result) 0) (c .before .is-sound .result) (c .if1 .left))
+good : (c : tie.Else1) → let a = c .before .args in inOrder (a .self .worst) (a .self .span) (a .self .padding) (a .x) ≡ true
+good c = sym (c .before .pre .1) ∙ not-false _ (c .if1 .left)
 
 module _ (worst span k : ℕ) (x : Stream) (h : inOrder worst span k x ≡ true) where
   fits : Fits-in worst span k (x .reserved) (x .period)
@@ -72,7 +52,7 @@ div-share : tie.Need-div-share
 div-share c = let low = fits _ _ _ _ (good (c .before .before .before .before .before)) .period-low in omega arith
 
 cast-share : tie.Need-cast-share
-cast-share c = let a = c .before .before .before .before .before .before .before .before .args in omega (arith, div-le-self (a .self .span) (a .x .period))
+cast-share c = let a = c .before .before .before .before .before .before .args in omega (arith, div-le-self (a .self .span) (a .x .period))
 
 mul-share : tie.Need-mul-share
 mul-share c = rw (c .before .before .micros .ensures) (omega (arith, share-small _ _ _ _ (good (c .before .before .before .before .before))))
@@ -80,7 +60,7 @@ mul-share c = rw (c .before .before .micros .ensures) (omega (arith, share-small
 add-next : tie.Need-add-next
 add-next c =
     rw (c .before .before .before .micros .ensures)
-    (omega (arith, share-small _ _ _ _ (good (c .before .before .before .before .before .before)), c .before .before .before .before .before .before .before .before .before .pre .shares-high))
+    (omega (arith, share-small _ _ _ _ (good (c .before .before .before .before .before .before)), c .before .before .before .before .before .before .before .pre .0 .shares-high))
 
 smaller-requires : tie.Need-smaller-requires
 smaller-requires c κs = search needs
@@ -100,8 +80,6 @@ pub with-spec : {M : Type 1} → statement M
 with-spec =
     tie.close
     (tie.spec
-    stream-refusal-requires
-    is-sound-requires
     returns
     earlier-requires
     later-requires

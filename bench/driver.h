@@ -1,0 +1,102 @@
+/* Makes the last call of a session file many times over in place, each time on the same session, so that its instructions can be counted.
+ *
+ * Standard input has the number of times in eight bytes, and then the file; of a file without events the table is opened.
+ * Prints the number of times and the number of the last reply. With the word `restore` nothing is called: what remains is putting
+ * the session back before each call, which is not the call's.
+ *
+ * Whoever includes this says what a session is (`image`) and has functions that give a reply's number. */
+#include <stdio.h>
+#include <string.h>
+
+#define TIMES_BYTES 8
+#define TABLE_AT (TIMES_BYTES + 26)
+#define EVENT_BYTES 16
+#define ROOM 65536
+
+/* No store before this is left out by the compiler, and none of it is known after. */
+#define KEEP(thing) __asm__ volatile("" : : "r"(thing) : "memory")
+
+#define REPEAT(call)                                  \
+    for (uint64_t i = 0; i < times; i++) {            \
+        memcpy(&work, &prepared, sizeof work);        \
+        KEEP(&work);                                  \
+        number = (call);                              \
+        KEEP(&work);                                  \
+    }
+
+static uint8_t input[ROOM];
+static image prepared, work;
+
+static uint64_t number_at(size_t at, int width)
+{
+    uint64_t n = 0;
+    for (int i = width - 1; i >= 0; i--)
+        n = n << 8 | input[at + i];
+    return n;
+}
+
+static void take_table(void)
+{
+    table_numbers(number_at(TABLE_AT, 4), number_at(TABLE_AT + 4, 4), number_at(TABLE_AT + 8, 4), number_at(TABLE_AT + 12, 4));
+    for (size_t i = 0; i < number_at(TABLE_AT + 12, 4); i++)
+        table_stream(i, number_at(TABLE_AT + 16 + 8 * i, 4), number_at(TABLE_AT + 20 + 8 * i, 4));
+}
+
+/* Makes the call of an event so many times, each time on the prepared session, which is left in `work`. */
+static uint64_t repeat(size_t event, uint64_t times)
+{
+    uint64_t stream = input[event + 1], value = number_at(event + 8, 8), number = 0;
+    switch (input[event]) {
+    case 1:
+        REPEAT(arrival(&work, stream, value));
+        break;
+    case 2:
+        REPEAT(turn(&work));
+        break;
+    case 3:
+        REPEAT(own_turn(&work, stream, value));
+        break;
+    case 4:
+        REPEAT(done(&work, value));
+        break;
+    default:
+        REPEAT(clock(&work, value));
+    }
+    return number;
+}
+
+static uint64_t restore_only(uint64_t times)
+{
+    uint64_t number = 0;
+    REPEAT(number);
+    return number;
+}
+
+static uint64_t open_only(uint64_t times)
+{
+    uint64_t number = 0;
+    for (uint64_t i = 0; i < times; i++)
+        number = open_again();
+    return number;
+}
+
+int main(int words, char **word)
+{
+    size_t length = fread(input, 1, ROOM, stdin);
+    uint64_t times = number_at(0, TIMES_BYTES), number;
+    take_table();
+    size_t event = TABLE_AT + 16 + 8 * number_at(TABLE_AT + 12, 4);
+    prepare(&prepared);
+    for (; event + EVENT_BYTES < length; event += EVENT_BYTES) {
+        repeat(event, 1);
+        prepared = work;
+    }
+    if (words > 1 && strcmp(word[1], "restore") == 0)
+        number = restore_only(times);
+    else if (event == length)
+        number = open_only(times);
+    else
+        number = repeat(event, times);
+    printf("%lu %lu\n", (unsigned long)times, (unsigned long)number);
+    return 0;
+}

@@ -1,0 +1,4 @@
+#pragma once
+#include <stdint.h>
+#define PRIu32 "u"
+#define PRIu64 "lu"

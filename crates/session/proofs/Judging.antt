@@ -1,0 +1,109 @@
+-- What every call does first, loop by loop: a census of the used streams, then a look at the unused ones, and then the census decides.
+use mathlib.Core.Bool.{Bool, true, false, _&&_, _||_, and-false, false≢true}
+use mathlib.Core.Path.{_≡_, refl, sym, ap, subst, _∙_}
+use Prim.Native.Nat.{ℕ, _+_, _-_, _≤_, _<_}
+use native.Mathlib.Numerals.{add-one}
+use native.Mathlib.Omega.{arith}
+use lib.Dec.{leb, ltb, eqb}
+use lib.ListN.{length}
+use borrow.Author.Tests.{ltb-true, ltb-false, lt-ltb, le-ltb, eq-eqb}
+use Rattle.table.specs.Fold.{allTo}
+use Rattle.table.proofs.Tests.{both}
+use Rattle.table.proofs.Folds.{all-of}
+use Rattle.table.proofs.Judged.{numbers-of}
+use Rattle.session.specs.Time.{moment}
+use Rattle.session.specs.Stream.{unusedStream}
+use Rattle.session.specs.Session.{streamAt, horizon, tableOf, soundRest, sound}
+use Rattle.session.specs.Search.{begun, counted, Countable, says, Judgeable}
+use Rattle.session.specs.declared.stream.Stream.{Stream}
+use Rattle.session.specs.declared.census.Census.{Census}
+use Rattle.session.specs.declared.Session.{Session}
+use Rattle.session.proofs.Counted.{CountedTo, counted-none, counted-more, countable, horizon-is, judgeable, decides}
+
+module _ (s : Session) where
+  -- the first loop: the streams below i are counted
+  pub record Counting (c : Census) (i : ℕ) : Type 0 where
+    pub inside : i ≤ s .count
+    pub eight : length (s .streams) ≡ 8
+    pub counts : CountedTo s c i
+
+  pub counting-none : length (s .streams) ≡ 8 → Counting (begun (s .worst) (s .span) (s .padding) (s .count) (streamAt s 0)) 0
+  counting-none eight = record { inside = omega arith; eight = eight; counts = counted-none s }
+
+  -- it goes on while all is in order, over used streams
+  module _ (c : Census) (i : ℕ) (m : Counting c i) (going : (c .sound && ltb i (s .count)) ≡ true) where
+    ok : c .sound ≡ true
+    ok = both (c .sound) (ltb i (s .count)) going .0
+
+    pub used : i < s .count
+    used = ltb-true _ _ (both (c .sound) (ltb i (s .count)) going .1)
+
+    pub below : i < 8
+    below = omega (arith, used, numbers-of _ (m .counts .passed ok .numbers) .count-high)
+
+    pub can-count : Countable c
+    can-count = countable s c i (m .inside) ok (m .counts)
+
+    pub counting-more : Counting (counted c (streamAt s i)) (i + 1)
+    counting-more = record { inside = omega (arith, used); eight = m .eight; counts = counted-more s c i used ok (m .counts) }
+
+  abbrev unusedTo : ℕ → Bool
+  unusedTo = allTo (λ n. ltb n (s .count) || unusedStream (streamAt s n))
+
+  -- the second loop: of the streams below j the unused ones are all zeros
+  pub record Resting (c : Census) (rest : Bool) (j : ℕ) : Type 0 where
+    pub past : s .count ≤ j
+    pub within : s .count ≤ 8 → j ≤ 8
+    pub zeros : rest ≡ unusedTo j
+    pub eight : length (s .streams) ≡ 8
+    pub all : c .sound ≡ true → CountedTo s c (s .count)
+    pub failed : c .sound ≡ false → sound s ≡ false
+
+  pub resting-none : (c : Census) (i : ℕ) → Counting c i → (c .sound && ltb i (s .count)) ≡ false → Resting c true (s .count)
+  resting-none c i m over =
+      record {
+        past = omega arith;
+        within = λ le. le;
+        zeros = sym (all-of (λ n. ltb n (s .count) || unusedStream (streamAt s n)) (s .count) (λ n l. rw (lt-ltb n (s .count) l)));
+        eight = m .eight;
+        all = λ fine.
+            let past : ltb i (s .count) ≡ false = rw fine at over in
+            let e : i ≡ s .count = omega (arith, ltb-false i (s .count) past, m .inside) in
+            subst (CountedTo s c) e (m .counts);
+        failed = m .counts .failed;
+      }
+
+  pub resting-more : (c : Census) (rest : Bool) (j : ℕ) → Resting c rest j → j < 8 → Resting c (rest && unusedStream (streamAt s j)) (j + 1)
+  unfolding allTo
+  resting-more c rest j m l =
+      record {
+        past = omega (arith, m .past);
+        within = λ le. omega (arith, l);
+        zeros = rw (add-one, m .zeros, le-ltb _ _ (m .past));
+        eight = m .eight;
+        all = m .all;
+        failed = m .failed;
+      }
+
+  -- then the census decides, with the stream at the disk, if there is one
+  module _ (c : Census) (rest : Bool) (j : ℕ) (m : Resting c rest j) (at : ℕ) (number : (s .served ≡ 0 → ⊥) → s .served ≤ 8 → at ≡ s .served - 1) where
+    at-disk : (s .served ≡ 0 → ⊥) → s .served ≤ 8 → streamAt s at ≡ streamAt s (s .served - 1)
+    at-disk some high = ap (streamAt s) (number some high)
+
+    pub can-judge : c .sound ≡ true → Judgeable c (s .served) (streamAt s at)
+    can-judge fine = judgeable s c (m .all fine) fine _ at-disk
+
+    abbrev verdict : Bool
+    verdict = rest && says c (s .clock) (s .served) (s .place) (streamAt s at)
+
+    pub judged : 8 ≤ j → (verdict ≡ sound s) × (verdict ≡ true → c .horizon ≡ moment (horizon s))
+    unfolding says soundRest
+    judged low = go (c .sound) refl
+      where
+        go : (b : Bool) → c .sound ≡ b → (verdict ≡ sound s) × (verdict ≡ true → c .horizon ≡ moment (horizon s))
+        go true fine =
+            let k = m .all fine in
+            let e : j ≡ 8 = omega (arith, low, m .within (numbers-of (tableOf s) (k .passed fine .numbers) .count-high)) in
+            let rest-is : rest ≡ soundRest (s .streams) (s .count) = rw (m .zeros, e, eq-eqb _ _ (m .eight)) in
+            (decides s c k fine _ at-disk rest rest-is, λ t. horizon-is s c k fine)
+        go false bad = rw (bad, and-false, m .failed bad) (refl, λ t. absurd (false≢true t))

@@ -1,0 +1,37 @@
+"""Events and session files as docs/FORMAT.md lays them out, for the project's scripts."""
+import struct
+
+TURN = (2, 0, 0)
+
+
+def arrival(stream, place):
+    return (1, stream, place)
+
+
+def own_turn(stream, index):
+    return (3, stream, index)
+
+
+def done(duration):
+    return (4, 0, duration)
+
+
+def clock(time):
+    return (5, 0, time)
+
+
+def session_file(worst, span, padding, streams, events):
+    """The bytes of a table, whose streams are pairs of e and p, and a trace."""
+    table = struct.pack("<IIII", worst, span, padding, len(streams))
+    table += b"".join(struct.pack("<II", reserved, period) for reserved, period in streams)
+    trace = b"".join(struct.pack("<BB6xQ", *event) for event in events)
+    contents = struct.pack("<HIIIIII", 2, 1, 26, len(table), 2, 26 + len(table), len(trace))
+    return contents + table + trace
+
+
+def parts(data):
+    """The table's numbers W, H and k, its pairs of e and p, and the events of a file that a reader accepts."""
+    worst, span, padding, count = struct.unpack_from("<4I", data, 26)
+    streams = [struct.unpack_from("<2I", data, 42 + 8 * i) for i in range(count)]
+    events = [struct.unpack_from("<BB6xQ", data, at) for at in range(42 + 8 * count, len(data), 16)]
+    return (worst, span, padding), streams, events

@@ -1,16 +1,21 @@
 -- The parts of a file, stored from place to place.
 use mathlib.Core.Path.{_≡_, refl, sym, ap, _∙_}
 use mathlib.Core.List.{List, _++_}
-use Prim.Native.Nat.{ℕ, suc, _+_, _*_, _≤_}
+use Prim.Native.Nat.{ℕ, suc, _+_, _*_, _≤_, _<_}
+use borrow.Author.Tests.{lt-ltb, le-ltb}
 use native.Mathlib.Omega.{arith}
 use lib.ListN.{length, drop, length-append}
 use lib.Seq.{sets}
+use Rattle.table.specs.Fold.{if}
 use Rattle.table.specs.Admission.{reservedAt, periodAt}
 use Rattle.table.specs.declared.Table.{Table}
 use Rattle.cells.specs.Cells.{cell}
 use Rattle.cells.proofs.Numbers.{length-cell}
 use Rattle.cells.proofs.Runs.{sets-next, sets-start, Wrote, wrote-more}
-use Rattle.file.specs.File.{entry, contents, table-start, streamCells, tableBody, fileOf}
+use Rattle.file.specs.File.{entry, contents, table-start, streamCells, tableBody, event-size, eventCells, bytesOf, fileOf}
+use Rattle.file.specs.Reading.{eventsIn}
+use Rattle.file.specs.Writing.{withEvent}
+use Rattle.file.specs.declared.event.Event.{Event}
 use Rattle.file.proofs.Lengths.{length-contents, length-streams, length-four}
 
 -- three cells of four bytes, and four
@@ -56,6 +61,31 @@ stream-stored out at t i =
     let p = cell 4 (periodAt t i) in
     sets-next e p (sets out at (streamCells t i)) (at + 8 * i) 4 (length-cell 4 (reservedAt t i))
     ∙ sets-next (streamCells t i) (e ++ p) out at (8 * i) (length-streams t i)
+
+-- the cells of an event
+pub event-stored : (out : List ℕ) (at kind stream value : ℕ)
+    → sets (sets (sets (sets out at (cell 1 kind)) (at + 1) (cell 1 stream)) (at + 2) (cell 6 0)) (at + 8) (cell 8 value)
+    ≡ sets out at (eventCells kind stream value)
+unfolding eventCells
+event-stored out at kind stream value =
+    let a = cell 1 kind ++ cell 1 stream in
+    let two : length a ≡ 2 = simp (length-append, length-cell) in
+    let eight : length (a ++ cell 6 0) ≡ 8 = simp (length-append, length-cell) in
+    rw (
+      sets-next (cell 1 kind) (cell 1 stream) out at 1 (length-cell 1 kind),
+      sets-next a (cell 6 0) out at 2 two,
+    )
+    (sets-next (a ++ cell 6 0) (cell 8 value) out at 8 eight)
+
+-- an event is stored below the number of whole ones, and past it nothing
+pub stored-past : (trace : List ℕ) (i : ℕ) (e : Event) → eventsIn trace ≤ i → trace ≡ withEvent trace i e
+unfolding withEvent if
+stored-past trace i e h = rw (le-ltb i (eventsIn trace) h)
+
+pub stored-there : (trace : List ℕ) (i : ℕ) {e known : Event} → e ≡ known → i < eventsIn trace
+    → sets trace (event-size * i) (bytesOf known) ≡ withEvent trace i e
+unfolding withEvent if
+stored-there trace i is h = rw (is, lt-ltb i (eventsIn trace) h)
 
 pub file-parts : (t : Table) (trace : List ℕ) → fileOf t trace ≡ contents (length (tableBody t)) (length trace) ++ tableBody t ++ trace
 unfolding fileOf

@@ -6,24 +6,25 @@ use Prim.Native.Nat.{ℕ, zero, suc, _+_, _*_, _%_, _≤_, _<_}
 use native.Mathlib.Omega.{arith}
 use native.Mathlib.Nat.{not-suc-le-zero, add-zero}
 use borrow.Author.Tests.{eq-eqb, le-leb}
-use lib.ListN.{length, getD, take, length-append}
-use lib.Seq.{take-add, take-all}
+use lib.ListN.{length, getD, take, drop, length-append}
+use lib.Seq.{take-add, take-all, length-take-le, sets-eq, length-sets}
 use Rattle.table.specs.Fold.{listTo}
 use Rattle.table.proofs.Folds.{all-of}
 use Rattle.table.proofs.Lists.{relisted}
 use Rattle.cells.specs.Cells.{cell, Bytes}
 use Rattle.file.specs.File.{event-size, eventCells, bytesOf, traceOf}
 use Rattle.file.specs.Reading.{eventsIn, eventAt, formed, isTrace}
-use Rattle.file.specs.Laws.{Coded, AllCoded, TraceReadsBack, TraceWritesBack}
+use Rattle.file.specs.Laws.{Coded, StoredReadsBack, AllCoded, TraceReadsBack, TraceWritesBack}
 use Rattle.file.specs.declared.event.Event.{Event}
 use Rattle.file.specs.declared.event.Event.the-variants.{Arrival, Turn, OwnTurn, Done, Clock, Malformed}
 use Rattle.file.proofs.Columns.{list-agree}
 use Rattle.file.proofs.Trace.{trace-of}
 use Rattle.file.proofs.Events.{event-reads-back, event-writes-back}
+use Rattle.file.proofs.Stores.{stored-there}
 
 -- ---- from events to a trace and back
 
-length-event : (e : Event) → Coded e → length (bytesOf e) ≡ event-size
+pub length-event : (e : Event) → Coded e → length (bytesOf e) ≡ event-size
 unfolding bytesOf eventCells cell
 length-event (Arrival stream place) c = refl
 length-event Turn c = refl
@@ -31,6 +32,15 @@ length-event (OwnTurn stream index) c = refl
 length-event (Done duration) c = refl
 length-event (Clock time) c = refl
 length-event Malformed c = absurd c
+
+pub stored-reads-back : StoredReadsBack
+stored-reads-back trace i e c h =
+    let at = event-size * i in
+    let size = length-event e c in
+    let front : length (take at trace) ≡ at = length-take-le at trace (omega arith) in
+    let parts = sets-eq (bytesOf e) trace at (omega (arith, size)) ∙ append-assoc (take at trace) (bytesOf e) (drop (at + length (bytesOf e)) trace) in
+    rw (← stored-there trace i refl h)
+    (ap (λ l. eventAt l i) parts ∙ event-reads-back e (take at trace) (drop (at + length (bytesOf e)) trace) i c front, length-sets trace at (bytesOf e))
 
 coded-formed : (e : Event) → Coded e → formed e ≡ true
 coded-formed (Arrival stream place) c = refl

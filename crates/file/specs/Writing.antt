@@ -1,17 +1,19 @@
--- Writing a session file into a buffer that is lent.
+-- Writing a session file, and an event of a trace, into a buffer that is lent.
 use mathlib.Core.Bool.{Bool, not, _&&_}
 use mathlib.Core.List.{List, _++_}
-use Prim.Native.Nat.{ℕ}
+use Prim.Native.Nat.{ℕ, _*_}
 use lib.Dec.{leb, ltb, eqb}
 use lib.ListN.{length, drop}
+use lib.Seq.{sets}
 use Rattle.table.specs.Fold.{if}
 use Rattle.table.specs.Refusal.{given, _or-next_}
 use Rattle.table.specs.Ranges.{streams-max}
 use Rattle.table.specs.declared.Table.{Table}
-use Rattle.file.specs.File.{fileOf}
-use Rattle.file.specs.Reading.{isTrace}
+use Rattle.file.specs.File.{fileOf, event-size, bytesOf}
+use Rattle.file.specs.Reading.{eventsIn, isTrace}
 use Rattle.file.specs.declared.Writing.{Writing}
 use Rattle.file.specs.declared.Writing.the-variants.{Written, Refused}
+use Rattle.file.specs.declared.event.Event.{Event}
 
 -- "it writes count up to 8 and up to 4,000 events of the above form"
 unfoldable pub isWritable : Table → List ℕ → Bool
@@ -32,3 +34,7 @@ writeOf t trace out =
 unfoldable pub writtenOn : Table → List ℕ → List ℕ → List ℕ
 writtenOn t trace out =
     if (eqb (writeRefusal t trace (length out)) 0) (fileOf t trace ++ drop (length (fileOf t trace)) out) out
+
+-- a trace with an event stored at i, counted from 0; past the last whole one it stays as it is
+unfoldable pub withEvent : List ℕ → ℕ → Event → List ℕ
+withEvent trace i e = if (ltb i (eventsIn trace)) (sets trace (event-size * i) (bytesOf e)) trace

@@ -1,8 +1,13 @@
 // The events of a trace.
 use cells::number_at;
+use cells::put_number;
 ghost use mathlib.Core.Path.{_≡_};
+ghost use Prim.Native.Nat.{_+_, _≤_, _^_};
+ghost use lib.Seq.{sets};
 ghost use Rattle.table.specs.Fold.{allTo};
+ghost use Rattle.file.specs.File.{eventCells};
 ghost use Rattle.file.specs.Reading.{eventOf, eventAt, formed, isTrace};
+ghost use Rattle.file.specs.Writing.{withEvent};
 
 // What an event asks for. Streams are counted from 1, a queue's places from 0.
 pub enum Event {
@@ -64,6 +69,35 @@ fn event_of(kind: u64, stream: u64, value: u64) -> Event
         return Event::Clock { time: value };
     }
     Event::Malformed
+}
+
+// Stores an event at i of a trace; past the last one, nothing.
+pub fn put_event(trace: &mut [u8], i: usize, event: Event)
+    ensures { λ _. ⌜ now (trace .exit) ≡ withEvent (now (trace .entry)) i event ⌝ }
+{
+    if trace.len() / Event::SIZE <= i {
+        return;
+    }
+    let at = Event::SIZE * i;
+    match event {
+        Event::Arrival { stream, place } => put_cells(trace, at, 1, stream, place),
+        Event::Turn => put_cells(trace, at, 2, 0, 0),
+        Event::OwnTurn { stream, index } => put_cells(trace, at, 3, stream, index),
+        Event::Done { duration } => put_cells(trace, at, 4, 0, duration),
+        Event::Clock { time } => put_cells(trace, at, 5, 0, time),
+        Event::Malformed => {}
+    }
+}
+
+// Stores the cells of an event from an index on.
+fn put_cells(trace: &mut [u8], at: usize, kind: u64, stream: u64, value: u64)
+    requires { ⌜ at + 16 ≤ 2 ^ 63 ⌝ }
+    ensures { λ _. ⌜ now (trace .exit) ≡ sets (now (trace .entry)) at (eventCells kind stream value) ⌝ }
+{
+    put_number(trace, at, 1, kind);
+    put_number(trace, at + 1, 1, stream);
+    put_number(trace, at + 2, 6, 0);
+    put_number(trace, at + 8, 8, value);
 }
 
 fn is_formed(event: Event) -> bool

@@ -14,6 +14,7 @@ use contents::put_contents;
 pub use event::Event;
 pub use event::event_at;
 use event::is_trace;
+pub use event::put_event;
 use table::Table;
 ghost use mathlib.Core.Path.{_≡_};
 ghost use Prim.Native.Nat.{_+_, _*_, _≤_};

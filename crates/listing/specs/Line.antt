@@ -54,12 +54,16 @@ headerFields = map ascii ("event" ∷ "answer" ∷ "stream" ∷ "value" ∷ "clo
 unfoldable pub eventFields : ℕ → ℕ → ℕ → ℕ → ℕ → List (List ℕ)
 eventFields number answer stream value clock = map decimal (number ∷ answer ∷ stream ∷ value ∷ clock ∷ [])
 
+-- a word, and numbers behind it: the first 20 bytes of the word and the first five numbers, since a text has room for no more
+unfoldable pub wordedFields : List ℕ → List ℕ → List (List ℕ)
+wordedFields word numbers = take 20 word ∷ map decimal (take 5 numbers)
+
 -- "If reading or opening refuses it prints `refused N`, nothing more."
 abbrev pub refusedWord : List ℕ
 refusedWord = ascii "refused"
 
 unfoldable pub refusedFields : ℕ → List (List ℕ)
-refusedFields number = refusedWord ∷ map decimal (number ∷ [])
+refusedFields number = wordedFields refusedWord (number ∷ [])
 
 -- the line of some fields as the code hands it over: at the start of a fixed number of bytes, zeros after it
 abbrev pub text-size : ℕ

@@ -1,10 +1,10 @@
 // The lines that the program prints, as bytes. Any numbers have a line.
 ghost use mathlib.Core.Path.{_≡_};
 ghost use mathlib.Core.List.{map};
-ghost use Prim.Native.Nat.{_+_, _≤_};
+ghost use Prim.Native.Nat.{_+_, _≤_, min};
 ghost use lib.ListN.{length};
 ghost use lib.Seq.{sets};
-ghost use Rattle.listing.specs.Line.{decimal, onward, headerFields, eventFields, refusedFields, textOf, Within};
+ghost use Rattle.listing.specs.Line.{decimal, onward, headerFields, eventFields, wordedFields, refusedFields, textOf, Within};
 
 // A printed line: the first `len` bytes. Those after them are 0.
 pub struct Text {
@@ -15,6 +15,11 @@ pub struct Text {
 impl Text {
     // Room for six numbers of 64 bits.
     pub const SIZE: usize = 128;
+
+    // How much of a word, and how many numbers behind it, a text has room for.
+    pub const WORD_MOST: usize = 20;
+
+    pub const NUMBERS_MOST: usize = 5;
 }
 
 // The header of the lines of events.
@@ -48,12 +53,27 @@ pub fn refused(number: u64) -> Text
     ensures { λ r. ⌜ r ≡ textOf (refusedFields number) ⌝ }
     ensures { λ r. ⌜ Within r ⌝ }
 {
-    let word = b"refused";
+    let numbers = [number];
+    worded(b"refused", &numbers)
+}
+
+// The line of a word and numbers behind it; of a word or numbers too long for a text, the first ones.
+pub fn worded(word: &[u8], numbers: &[u64]) -> Text
+    ensures { λ r. ⌜ r ≡ textOf (wordedFields (now (word .entry)) (now (numbers .entry))) ⌝ }
+    ensures { λ r. ⌜ Within r ⌝ }
+{
+    let end = smaller(Text::WORD_MOST, word.len());
+    let few = smaller(Text::NUMBERS_MOST, numbers.len());
     let mut bytes = [0u8; Text::SIZE];
-    cells::put_bytes(&mut bytes, 0, word);
-    let others = [number];
-    let len = put_onward(&mut bytes, word.len(), &others);
+    cells::put_bytes(&mut bytes, 0, &word[..end]);
+    let len = put_onward(&mut bytes, end, &numbers[..few]);
     Text { bytes, len }
+}
+
+fn smaller(a: usize, b: usize) -> usize
+    ensures { λ r. ⌜ r ≡ min a b ⌝ }
+{
+    if a < b { a } else { b }
 }
 
 // Puts numbers from index `at` on, each behind a space, and a newline after them, and answers the index after that.

@@ -6,7 +6,13 @@ use table::Admission;
 ghost use Rattle.listing.specs.Line.{Within};
 
 // The buffer holds more than the longest file, so that a longer one is refused without being read to its end.
+// Of an input that cannot be read it says so, and prints nothing: to read no byte fails then.
 fn main() {
+    let mut none = [0u8; 0];
+    if libc::read(0, &mut none) < 0 {
+        io::write_all(2, b"replay: cannot read standard input\n");
+        return;
+    }
     let mut buffer = io::large_buffer();
     let len = io::read_full(0, &mut buffer);
     replay(&buffer[..len]);

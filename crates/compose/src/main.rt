@@ -1,0 +1,118 @@
+// Reads notes from standard input, and writes their session file. Of notes that are wrong it says on standard error what was expected where, and writes nothing.
+use libc::STDERR_FILENO;
+use libc::STDIN_FILENO;
+use libc::STDOUT_FILENO;
+use notes::Composed;
+use notes::Expected;
+use notes::Notes;
+ghost use Prim.Native.Nat.{_≤_};
+
+// The notes so far, and whether there may be more of them.
+struct Input {
+    notes: Notes,
+    more: bool,
+    failed: bool,
+}
+
+// Each buffer holds more than the longest trace and the longest file.
+fn main() {
+    let mut trace = io::large_buffer();
+    let input = read_notes(&mut trace);
+    if input.failed {
+        say(b"compose: cannot read standard input\n");
+        return;
+    }
+    let mut out = io::large_buffer();
+    let notes = input.notes;
+    let composed = notes::finish(notes, &mut trace, &mut out);
+    answer(composed, &out);
+}
+
+// Writes the file, or says what is wrong.
+fn answer(composed: Composed, out: &[u8]) {
+    match composed {
+        Composed::Written(len) => {
+            // the file ends within the buffer
+            let end = smaller(len, out.len());
+            io::write_all(STDOUT_FILENO, &out[..end]);
+        }
+        Composed::Wrong { line, expected } => {
+            say(b"line ");
+            io::print_decimal(STDERR_FILENO, line);
+            say_expected(expected);
+        }
+        Composed::Unfinished(expected) => {
+            say(b"end");
+            say_expected(expected);
+        }
+        Composed::Refused(number) => {
+            say(b"refused ");
+            io::print_decimal(STDERR_FILENO, number);
+            say(b"\n");
+        }
+    }
+}
+
+fn say_expected(expected: Expected) {
+    match expected {
+        Expected::Worst => say(b": expected \"worst N\", a number below 4294967296\n"),
+        Expected::Span => say(b": expected \"span N\", a number below 4294967296\n"),
+        Expected::Padding => say(b": expected \"padding N\", a number below 4294967296\n"),
+        Expected::StreamOrEvent => say(b": expected \"stream E P\" or an event\n"),
+        Expected::Event => say(b": expected an event\n"),
+        Expected::NoMore => say(b": expected no more than 4000 events\n"),
+    }
+}
+
+// A proved loop has to end, and nothing says that an input does. So the loop counts its turns down, from a number that no run uses up.
+fn read_notes(trace: &mut [u8]) -> Input {
+    let mut input = Input {
+        notes: Notes::start(),
+        more: true,
+        failed: false,
+    };
+    let mut turns = u64::MAX;
+    while turns > 0 && input.more {
+        let notes = input.notes;
+        input = read_piece(notes, trace);
+        turns -= 1;
+    }
+    input
+}
+
+// Reads a piece of the notes.
+fn read_piece(notes: Notes, trace: &mut [u8]) -> Input {
+    let mut piece = io::buffer();
+    let got = libc::read(STDIN_FILENO, &mut piece);
+    if got < 0 {
+        return Input {
+            notes,
+            more: false,
+            failed: true,
+        };
+    }
+    let n = io::count(got, &piece);
+    if n == 0 {
+        return Input {
+            notes,
+            more: false,
+            failed: false,
+        };
+    }
+    let next = notes::feed(notes, &piece[..n], trace);
+    Input {
+        notes: next,
+        more: true,
+        failed: false,
+    }
+}
+
+fn say(words: &[u8]) {
+    io::write_all(STDERR_FILENO, words);
+}
+
+fn smaller(a: usize, b: usize) -> usize
+    ensures { λ r. ⌜ r ≤ b ⌝ }
+{
+    if a < b { a } else { b }
+}

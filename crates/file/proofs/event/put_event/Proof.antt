@@ -1,0 +1,128 @@
+-- `put_event` stores the cells that an event has; past the last one it stores nothing.
+use borrow.Author.Needs.{needs}
+use mathlib.Core.Path.{_∙_}
+use Rattle.file.specs.File.{bytesOf}
+use Rattle.file.proofs.Stores.{stored-past, stored-there}
+use Rattle.file.proofs.event.put_event.Statement.{statement}
+use Rattle.file.proofs.event.put_event.Tie as tie
+
+returns : tie.Need-returns
+returns c =
+    let a = c .before .before .args in
+    stored-past (a .trace .now) (a .i) (a .event) (c .if1 .taken)
+
+mul-at : tie.Need-mul-at
+mul-at c = search needs
+
+enum-known-event : tie.Need-enum-known-event
+enum-known-event c = search needs
+
+put-cells-requires : tie.Need-put-cells-requires
+put-cells-requires c κs = search needs
+
+enum-told : tie.Need-enum-told
+enum-told c = search needs
+
+put-cells-requires-2 : tie.Need-put-cells-requires-2
+put-cells-requires-2 c κs = search needs
+
+enum-known-event-2 : tie.Need-enum-known-event-2
+enum-known-event-2 c = search needs
+
+put-cells-requires-3 : tie.Need-put-cells-requires-3
+put-cells-requires-3 c κs = search needs
+
+enum-known-event-3 : tie.Need-enum-known-event-3
+enum-known-event-3 c = search needs
+
+put-cells-requires-4 : tie.Need-put-cells-requires-4
+put-cells-requires-4 c κs = search needs
+
+enum-known-event-4 : tie.Need-enum-known-event-4
+enum-known-event-4 c = search needs
+
+put-cells-requires-5 : tie.Need-put-cells-requires-5
+put-cells-requires-5 c κs = search needs
+
+enum-told-2 : tie.Need-enum-told-2
+enum-told-2 c = search needs
+
+same-length : tie.Need-same-length
+same-length c = search needs
+
+returns-2 : tie.Need-returns-2
+unfolding bytesOf
+returns-2 c =
+    let a = c .before .before .before .before .before .before .before .before .before .args in
+    c .before .before .put-cells .ensures ∙ stored-there (a .trace .now) (a .i) (c .before .before .before .before .before .event .given .1) (c .before .before .before .before .before .before .before .if1 .left)
+
+same-length-2 : tie.Need-same-length-2
+same-length-2 c = search needs
+
+returns-3 : tie.Need-returns-3
+unfolding bytesOf
+returns-3 c =
+    let a = c .before .before .before .before .before .before .before .before .args in
+    c .before .before .put-cells2 .ensures ∙ stored-there (a .trace .now) (a .i) (c .before .before .before .before .enum-told .given .1) (c .before .before .before .before .before .before .if1 .left)
+
+same-length-3 : tie.Need-same-length-3
+same-length-3 c = search needs
+
+returns-4 : tie.Need-returns-4
+unfolding bytesOf
+returns-4 c =
+    let a = c .before .before .before .before .before .before .before .before .before .args in
+    c .before .before .put-cells3 .ensures ∙ stored-there (a .trace .now) (a .i) (c .before .before .before .before .before .event2 .given .1) (c .before .before .before .before .before .before .before .if1 .left)
+
+same-length-4 : tie.Need-same-length-4
+same-length-4 c = search needs
+
+returns-5 : tie.Need-returns-5
+unfolding bytesOf
+returns-5 c =
+    let a = c .before .before .before .before .before .before .before .before .before .args in
+    c .before .before .put-cells4 .ensures ∙ stored-there (a .trace .now) (a .i) (c .before .before .before .before .before .event3 .given .1) (c .before .before .before .before .before .before .before .if1 .left)
+
+same-length-5 : tie.Need-same-length-5
+same-length-5 c = search needs
+
+returns-6 : tie.Need-returns-6
+unfolding bytesOf
+returns-6 c =
+    let a = c .before .before .before .before .before .before .before .before .before .args in
+    c .before .before .put-cells5 .ensures ∙ stored-there (a .trace .now) (a .i) (c .before .before .before .before .before .event4 .given .1) (c .before .before .before .before .before .before .before .if1 .left)
+
+returns-7 : tie.Need-returns-7
+unfolding bytesOf
+returns-7 c =
+    let a = c .before .before .before .before .args in
+    stored-there (a .trace .now) (a .i) (c .enum-told2 .given .1) (c .before .before .if1 .left)
+
+pub put-event-spec : {M : Type 1} → statement M
+put-event-spec =
+    tie.close
+    (tie.spec
+    returns
+    mul-at
+    enum-known-event
+    put-cells-requires
+    enum-told
+    put-cells-requires-2
+    enum-known-event-2
+    put-cells-requires-3
+    enum-known-event-3
+    put-cells-requires-4
+    enum-known-event-4
+    put-cells-requires-5
+    enum-told-2
+    same-length
+    returns-2
+    same-length-2
+    returns-3
+    same-length-3
+    returns-4
+    same-length-4
+    returns-5
+    same-length-5
+    returns-6
+    returns-7)

@@ -1,0 +1,50 @@
+-- A word and numbers behind it: how much of them is taken, and the room for it.
+use mathlib.Core.Path.{_≡_, refl, ap}
+use mathlib.Core.List.{List, [], _∷_, map}
+use Prim.Native.Nat.{ℕ, zero, suc, _+_, _^_, min, _≤_, _<_}
+use native.Mathlib.Omega.{arith}
+use lib.ListN.{length, getD, take, length-take}
+use lib.Seq.{take-nil}
+use Rattle.listing.specs.Line.{decimal, onward, rendered, wordedFields, text-size}
+use Rattle.listing.specs.Laws.{Each, Short}
+use Rattle.listing.proofs.Each.{each-map}
+use Rattle.listing.proofs.Decimal.{decimal-is-short}
+use Rattle.listing.proofs.Texts.{rendered-length, fields-have-room}
+
+-- the first n of a list, or all of a shorter one
+pub taken : (n : ℕ) (l : List ℕ) {end : ℕ} → end ≡ min n (length l) → take end l ≡ take n l
+taken zero l {end} e =
+    let none : end ≡ 0 = omega (arith, e) in
+    rw none refl
+taken (suc n) [] {end} e = take-nil end
+taken (suc n) (x ∷ l) {end} e =
+    let more : end ≡ suc (min n (length l)) = omega (arith, e) in
+    rw more (ap (λ rest. x ∷ rest) (taken n l refl))
+
+pub taken-length : (n : ℕ) (l : List ℕ) {end : ℕ} → end ≡ min n (length l) → end ≡ length (take end l)
+taken-length n l {end} e = omega (arith, e, length-take end l)
+
+-- the first n numbers of 64 bits
+first-fit : (n : ℕ) (l : List ℕ) → ((i : ℕ) → getD l i 0 < 2 ^ 64) → Each (λ k. k < 2 ^ 64) (take n l)
+unfolding Each
+first-fit zero l fits = tt
+first-fit (suc n) [] fits = tt
+first-fit (suc n) (x ∷ l) fits = (fits 0, first-fit n l (λ i. fits (suc i)))
+
+pub worded-room : (word numbers : List ℕ) → ((i : ℕ) → getD numbers i 0 < 2 ^ 64) → length (rendered (wordedFields word numbers)) ≤ text-size
+unfolding Each wordedFields
+worded-room word numbers fits =
+    fields-have-room (take 20 word ∷ map decimal (take 5 numbers))
+    (omega (arith, length-take 20 word), each-map (λ n. n < 2 ^ 64) Short decimal decimal-is-short (take 5 numbers) (first-fit 5 numbers fits))
+    (omega (arith, length-take 5 numbers, map-length (take 5 numbers)))
+  where
+    map-length : (l : List ℕ) → length (map decimal l) ≡ length l
+    map-length [] = refl
+    map-length (x ∷ l) = ap suc (map-length l)
+
+-- the room behind the word
+pub numbers-room : (word numbers : List ℕ) → ((i : ℕ) → getD numbers i 0 < 2 ^ 64)
+    → length (take 20 word) + length (onward (map decimal (take 5 numbers))) ≤ text-size
+unfolding wordedFields
+numbers-room word numbers fits =
+    omega (arith, worded-room word numbers fits, rendered-length (take 20 word) (map decimal (take 5 numbers)))

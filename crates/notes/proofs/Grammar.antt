@@ -1,0 +1,401 @@
+-- Reading a line byte by byte is reading its words: word by word, each against its kind.
+use mathlib.Core.Bool.{Bool, true, false, _&&_, false≢true}
+use mathlib.Core.Path.{_≡_, refl, sym, ap, _∙_}
+use mathlib.Core.List.{List, [], _∷_, _++_, append-assoc, append-nil}
+use mathlib.Core.Logic.{_⊎_, inl, inr}
+use Prim.Native.Nat.{ℕ, suc, _+_, _-_, _*_, _^_, _≤_, _<_}
+use native.Mathlib.Omega.{arith}
+use lib.Dec.{leb, ltb, eqb}
+use borrow.Author.Tests.{eqb-true, ltb-true, lt-ltb, ltb-false, le-ltb, leb-true}
+use Rattle.table.specs.Fold.{if}
+use Rattle.table.proofs.Tests.{both, same-test, by-if}
+use Rattle.listing.specs.Line.{space, zero-digit}
+use Rattle.listing.specs.Laws.{speltAfter}
+use Rattle.notes.specs.declared.line.Line.{Line}
+use Rattle.notes.specs.declared.line.Line.the-variants.{Blank, Wrong}
+use Rattle.notes.specs.declared.draft.Place.{Place}
+use Rattle.notes.specs.declared.draft.Place.the-variants.{Between, Within, Comment, Amiss}
+use Rattle.notes.specs.declared.draft.Draft.{Draft}
+use Rattle.notes.specs.Draft.{drafted, blank, amiss, placed, hash, isLetter, lettered, isDigit, longer, lengthens, firstLonger, secondLonger, inField, begun, afterGap, afterField, withByte}
+use Rattle.notes.specs.Line.{heldAfter, wordLine, numberLine, pairLine, fieldsLine, lineOf}
+use Rattle.notes.specs.Words.{uncommented, ended-word, wordsAfter, wordsOf, allOf, isName, isNumber, lineOfWords}
+use Rattle.notes.specs.Laws.{drawn, LineByWords}
+use Rattle.notes.proofs.Words.{held-append, held-grows}
+
+-- ---- tests
+
+test : (b : Bool) → (b ≡ true) ⊎ (b ≡ false)
+test true = inl refl
+test false = inr refl
+
+and-false : (b : Bool) → (b && false) ≡ false
+and-false true = refl
+and-false false = refl
+
+and-assoc : (a b c : Bool) → ((a && b) && c) ≡ (a && (b && c))
+and-assoc true b c = refl
+and-assoc false b c = refl
+
+all-append : (f : ℕ → Bool) (a b : List ℕ) → allOf f (a ++ b) ≡ (allOf f a && allOf f b)
+unfolding allOf
+all-append f [] b = refl
+all-append f (x ∷ a) b = ap (λ (k : Bool). f x && k) (all-append f a b) ∙ sym (and-assoc (f x) (allOf f a) (allOf f b))
+
+and-true : (b : Bool) → (b && true) ≡ b
+and-true true = refl
+and-true false = refl
+
+-- ---- a word that is being read
+
+-- one that starts wrong is wrong
+module _ (f : ℕ → Bool) (value : List ℕ → ℕ) (grows : (a b : List ℕ) → value a ≤ value (a ++ b)) where
+  abbrev fine : List ℕ → Bool
+  fine w = allOf f w && ltb (value w) (2 ^ 64)
+
+  spoilt : (a b : List ℕ) → fine a ≡ false → fine (a ++ b) ≡ false
+  spoilt a b h = go (test (allOf f a))
+    where
+      go : (allOf f a ≡ true) ⊎ (allOf f a ≡ false) → fine (a ++ b) ≡ false
+      go (inl all) =
+          let high : ltb (value a) (2 ^ 64) ≡ false = rw all at h in
+          rw (le-ltb (value (a ++ b)) (2 ^ 64) (omega (arith, ltb-false (value a) (2 ^ 64) high, grows a b))) (and-false (allOf f (a ++ b)))
+      go (inr some) = rw (all-append f a b, some)
+
+  -- a byte more, behind a start that is right
+  fine-more : (a : List ℕ) (byte : ℕ) → fine a ≡ true → fine (a ++ (byte ∷ [])) ≡ (f byte && ltb (value (a ++ (byte ∷ []))) (2 ^ 64))
+  unfolding allOf
+  fine-more a byte h = rw (all-append f a (byte ∷ []), both (allOf f a) (ltb (value a) (2 ^ 64)) h .0, and-true (f byte))
+
+spelt-append : (a b : List ℕ) (n : ℕ) → speltAfter n (a ++ b) ≡ speltAfter (speltAfter n a) b
+unfolding speltAfter
+spelt-append [] b n = refl
+spelt-append (x ∷ a) b n = spelt-append a b (n * 10 + (x - zero-digit))
+
+spelt-high : (a : List ℕ) (n : ℕ) → n ≤ speltAfter n a
+unfolding speltAfter
+spelt-high [] n = omega arith
+spelt-high (x ∷ a) n = omega (arith, spelt-high a (n * 10 + (x - zero-digit)))
+
+held-onward : (a b : List ℕ) → heldAfter 0 a ≤ heldAfter 0 (a ++ b)
+held-onward a b = rw (held-append a b 0) (held-grows b (heldAfter 0 a))
+
+spelt-onward : (a b : List ℕ) → speltAfter 0 a ≤ speltAfter 0 (a ++ b)
+spelt-onward a b = rw (spelt-append a b 0) (spelt-high b (speltAfter 0 a))
+
+name-spoilt : (a b : List ℕ) → isName a ≡ false → isName (a ++ b) ≡ false
+unfolding isName
+name-spoilt = spoilt isLetter (heldAfter 0) held-onward
+
+number-spoilt : (a b : List ℕ) → isNumber a ≡ false → isNumber (a ++ b) ≡ false
+unfolding isNumber
+number-spoilt = spoilt isDigit (speltAfter 0) spelt-onward
+
+-- a letter more is what the code's test says
+letter-more : (a : List ℕ) (byte : ℕ) → isName a ≡ true → isName (a ++ (byte ∷ [])) ≡ (isLetter byte && ltb (heldAfter 0 a) (256 ^ 7))
+unfolding isName heldAfter
+letter-more a byte h =
+    fine-more isLetter (heldAfter 0) held-onward a byte h ∙ rw (held-append a (byte ∷ []) 0) (go (test (isLetter byte)))
+  where
+    go : (isLetter byte ≡ true) ⊎ (isLetter byte ≡ false)
+        → (isLetter byte && ltb (heldAfter 0 a * 256 + byte) (2 ^ 64)) ≡ (isLetter byte && ltb (heldAfter 0 a) (256 ^ 7))
+    go (inl letter) =
+        let low = leb-true byte 122 (both (leb 97 byte) (leb byte 122) letter .1) in
+        ap (λ (k : Bool). isLetter byte && k)
+        (same-test (ltb (heldAfter 0 a * 256 + byte) (2 ^ 64)) (ltb (heldAfter 0 a) (256 ^ 7))
+        (λ l. lt-ltb (heldAfter 0 a) (256 ^ 7) (omega (arith, ltb-true (heldAfter 0 a * 256 + byte) (2 ^ 64) l)))
+        (λ l. lt-ltb (heldAfter 0 a * 256 + byte) (2 ^ 64) (omega (arith, low, ltb-true (heldAfter 0 a) (256 ^ 7) l))))
+    go (inr no-letter) = rw no-letter
+
+digit-more : (a : List ℕ) (byte : ℕ) → isNumber a ≡ true → isNumber (a ++ (byte ∷ [])) ≡ lengthens (speltAfter 0 a) byte
+unfolding isNumber lengthens speltAfter
+digit-more a byte h = fine-more isDigit (speltAfter 0) spelt-onward a byte h ∙ rw (spelt-append a (byte ∷ []) 0)
+
+-- ---- what does not depend on the word that is being read
+
+amiss-stays : (rest : List ℕ) → drawn amiss rest ≡ amiss
+unfolding drawn
+amiss-stays [] = refl
+amiss-stays (byte ∷ rest) = amiss-stays rest
+
+comment-stays : (d : Draft) (rest : List ℕ) → drawn (placed d Comment) rest ≡ placed d Comment
+unfolding drawn
+comment-stays d [] = refl
+comment-stays d (byte ∷ rest) = comment-stays d rest
+
+module _ (byte : ℕ) (rest : List ℕ) where
+  comment-starts : eqb byte hash ≡ true → uncommented (byte ∷ rest) ≡ []
+  unfolding uncommented if
+  comment-starts h = rw h
+
+  no-comment : eqb byte hash ≡ false → uncommented (byte ∷ rest) ≡ byte ∷ uncommented rest
+  unfolding uncommented if
+  no-comment h = rw h
+
+  word-ends : (word : List ℕ) → eqb byte space ≡ true → wordsAfter word (byte ∷ rest) ≡ ended-word word (wordsAfter [] rest)
+  unfolding wordsAfter if
+  word-ends word h = rw h
+
+  word-goes-on : (word : List ℕ) → eqb byte space ≡ false → wordsAfter word (byte ∷ rest) ≡ wordsAfter (word ++ (byte ∷ [])) rest
+  unfolding wordsAfter if
+  word-goes-on word h = rw h
+
+-- a space begins no comment
+space-no-hash : (byte : ℕ) → eqb byte space ≡ true → eqb byte hash ≡ false
+space-no-hash byte h = rw (eqb-true byte space h)
+
+-- the words after the start of one: the first begins so
+record Started (word : List ℕ) (words : List (List ℕ)) : Type 0 where
+  more : List ℕ
+  others : List (List ℕ)
+  are : words ≡ (word ++ more) ∷ others
+
+word-started : (x : ℕ) (w rest : List ℕ) → Started (x ∷ w) (wordsAfter (x ∷ w) rest)
+unfolding wordsAfter
+word-started x w [] = record { more = []; others = []; are = rw (append-nil (x ∷ w)) }
+word-started x w (byte ∷ rest) = go (word-started x (w ++ (byte ∷ [])) rest) (test (eqb byte space))
+  where
+    go : Started (x ∷ (w ++ (byte ∷ []))) (wordsAfter (x ∷ (w ++ (byte ∷ []))) rest) → (eqb byte space ≡ true) ⊎ (eqb byte space ≡ false)
+        → Started (x ∷ w) (wordsAfter (x ∷ w) (byte ∷ rest))
+    go q (inl h) = record { more = []; others = wordsAfter [] rest; are = word-ends byte rest (x ∷ w) h ∙ rw (append-nil (x ∷ w)) }
+    go q (inr h) =
+        record {
+          more = byte ∷ q .more;
+          others = q .others;
+          are = word-goes-on byte rest (x ∷ w) h ∙ q .are ∙ ap (λ (v : List ℕ). v ∷ q .others) (append-assoc (x ∷ w) (byte ∷ []) (q .more));
+        }
+
+-- a byte behind one of a field, and a byte after a gap
+module _ (k h a b byte : ℕ) where
+  field-space : eqb byte space ≡ true → withByte (drafted Within k h a b) byte ≡ drafted Between k h a b
+  unfolding afterField if
+  field-space s = rw s
+
+  field-hash : eqb byte space ≡ false → eqb byte hash ≡ true → withByte (drafted Within k h a b) byte ≡ drafted Comment k h a b
+  unfolding afterField if
+  field-hash s c = rw (s, c)
+
+  field-on : eqb byte space ≡ false → eqb byte hash ≡ false → withByte (drafted Within k h a b) byte ≡ inField (drafted Within k h a b) byte
+  unfolding afterField if
+  field-on s c = rw (s, c)
+
+  gap-space : eqb byte space ≡ true → withByte (drafted Between k h a b) byte ≡ drafted Between k h a b
+  unfolding afterGap if
+  gap-space s = rw s
+
+  gap-hash : eqb byte space ≡ false → eqb byte hash ≡ true → withByte (drafted Between k h a b) byte ≡ drafted Comment k h a b
+  unfolding afterGap if
+  gap-hash s c = rw (s, c)
+
+  gap-on : eqb byte space ≡ false → eqb byte hash ≡ false → withByte (drafted Between k h a b) byte ≡ begun (drafted Between k h a b) byte
+  unfolding afterGap if
+  gap-on s c = rw (s, c)
+
+-- ---- a word: `done` are those before it, `ok` is what it has to be, and the line holds it as `h`, `a`, `b` say
+
+module _ (done : List (List ℕ)) (k h a b : ℕ) (h2 a2 b2 : List ℕ → ℕ) (ok : List ℕ → Bool) where
+  abbrev gap : Draft
+  gap = drafted Between k h a b
+
+  abbrev in-word : List ℕ → Draft
+  in-word w = drafted Within (suc k) (h2 w) (a2 w) (b2 w)
+
+  abbrev words-and : List (List ℕ) → Line
+  words-and others = lineOfWords (done ++ others)
+
+  record Kind : Type 0 where
+    from : (byte : ℕ) → begun gap byte ≡ if (ok (byte ∷ [])) (in-word (byte ∷ [])) amiss
+    on : (w : List ℕ) (byte : ℕ) → ok w ≡ true → inField (in-word w) byte ≡ if (ok (w ++ (byte ∷ []))) (in-word (w ++ (byte ∷ []))) amiss
+    none : fieldsLine gap ≡ words-and []
+    one : (w : List ℕ) → ok w ≡ true → fieldsLine (in-word w) ≡ words-and (w ∷ [])
+    hopeless : (w more : List ℕ) (others : List (List ℕ)) → ok w ≡ false → words-and ((w ++ more) ∷ others) ≡ Wrong
+    next : (w rest : List ℕ) → ok w ≡ true
+        → lineOf (drawn (placed (in-word w) Between) rest) ≡ lineOfWords ((done ++ (w ∷ [])) ++ wordsAfter [] (uncommented rest))
+
+  module _ (kind : Kind) where
+    -- a byte that does not fit leaves no hope
+    lost : (x : ℕ) (w rest : List ℕ) → ok (x ∷ w) ≡ false → lineOf (drawn amiss rest) ≡ words-and (wordsAfter (x ∷ w) (uncommented rest))
+    lost x w rest bad =
+        let q = word-started x w (uncommented rest) in
+        ap (λ (d : Draft). lineOf d) (amiss-stays rest)
+        ∙ sym (ap words-and (q .are) ∙ kind .hopeless (x ∷ w) (q .more) (q .others) bad)
+
+    -- the word so far, with a byte more
+    abbrev Reads : List ℕ → List ℕ → Type 0
+    Reads w rest = lineOf (drawn (in-word w) rest) ≡ words-and (wordsAfter w (uncommented rest))
+
+    -- where the byte belongs to the word, the longer word decides
+    longer-reads : (x : ℕ) (w rest : List ℕ) → (ok (x ∷ w) ≡ true → Reads (x ∷ w) rest)
+        → lineOf (drawn (if (ok (x ∷ w)) (in-word (x ∷ w)) amiss) rest) ≡ words-and (wordsAfter (x ∷ w) (uncommented rest))
+    longer-reads x w rest onward =
+        by-if (λ (d : Draft). lineOf (drawn d rest) ≡ words-and (wordsAfter (x ∷ w) (uncommented rest))) (ok (x ∷ w)) (in-word (x ∷ w)) amiss onward (lost x w rest)
+
+    word-byte : (x : ℕ) (w : List ℕ) (byte : ℕ) (rest : List ℕ) → ok (x ∷ w) ≡ true
+        → (ok (x ∷ (w ++ (byte ∷ []))) ≡ true → Reads (x ∷ (w ++ (byte ∷ []))) rest)
+        → (eqb byte space ≡ true) ⊎ (eqb byte space ≡ false) → (eqb byte hash ≡ true) ⊎ (eqb byte hash ≡ false) → Reads (x ∷ w) (byte ∷ rest)
+    unfolding drawn wordsAfter fieldsLine
+    word-byte x w byte rest fine onward (inl s) c =
+        ap (λ (d : Draft). lineOf (drawn d rest)) (field-space (suc k) (h2 (x ∷ w)) (a2 (x ∷ w)) (b2 (x ∷ w)) byte s)
+        ∙ kind .next (x ∷ w) rest fine
+        ∙ ap lineOfWords (append-assoc done ((x ∷ w) ∷ []) (wordsAfter [] (uncommented rest)))
+        ∙ sym (ap (λ (u : List ℕ). words-and (wordsAfter (x ∷ w) u)) (no-comment byte rest (space-no-hash byte s)) ∙ ap words-and (word-ends byte (uncommented rest) (x ∷ w) s))
+    word-byte x w byte rest fine onward (inr s) (inl c) =
+        ap (λ (d : Draft). lineOf (drawn d rest)) (field-hash (suc k) (h2 (x ∷ w)) (a2 (x ∷ w)) (b2 (x ∷ w)) byte s c)
+        ∙ ap (λ (d : Draft). lineOf d) (comment-stays (in-word (x ∷ w)) rest)
+        ∙ kind .one (x ∷ w) fine
+        ∙ sym (ap (λ (u : List ℕ). words-and (wordsAfter (x ∷ w) u)) (comment-starts byte rest c))
+    word-byte x w byte rest fine onward (inr s) (inr c) =
+        ap (λ (d : Draft). lineOf (drawn d rest)) (field-on (suc k) (h2 (x ∷ w)) (a2 (x ∷ w)) (b2 (x ∷ w)) byte s c ∙ kind .on (x ∷ w) byte fine)
+        ∙ longer-reads x (w ++ (byte ∷ [])) rest onward
+        ∙ sym (ap (λ (u : List ℕ). words-and (wordsAfter (x ∷ w) u)) (no-comment byte rest c) ∙ ap words-and (word-goes-on byte (uncommented rest) (x ∷ w) s))
+
+    word-reads : (x : ℕ) (w rest : List ℕ) → ok (x ∷ w) ≡ true → Reads (x ∷ w) rest
+    unfolding drawn uncommented wordsAfter
+    word-reads x w [] fine = kind .one (x ∷ w) fine
+    word-reads x w (byte ∷ rest) fine =
+        word-byte x w byte rest fine (λ longer. word-reads x (w ++ (byte ∷ [])) rest longer) (test (eqb byte space)) (test (eqb byte hash))
+
+    gap-byte : (byte : ℕ) (rest : List ℕ) → lineOf (drawn gap rest) ≡ words-and (wordsAfter [] (uncommented rest))
+        → (eqb byte space ≡ true) ⊎ (eqb byte space ≡ false) → (eqb byte hash ≡ true) ⊎ (eqb byte hash ≡ false)
+        → lineOf (drawn gap (byte ∷ rest)) ≡ words-and (wordsAfter [] (uncommented (byte ∷ rest)))
+    unfolding drawn wordsAfter fieldsLine
+    gap-byte byte rest later (inl s) c =
+        ap (λ (d : Draft). lineOf (drawn d rest)) (gap-space k h a b byte s)
+        ∙ later
+        ∙ sym (ap (λ (u : List ℕ). words-and (wordsAfter [] u)) (no-comment byte rest (space-no-hash byte s)) ∙ ap words-and (word-ends byte (uncommented rest) [] s))
+    gap-byte byte rest later (inr s) (inl c) =
+        ap (λ (d : Draft). lineOf (drawn d rest)) (gap-hash k h a b byte s c)
+        ∙ ap (λ (d : Draft). lineOf d) (comment-stays gap rest)
+        ∙ kind .none
+        ∙ sym (ap (λ (u : List ℕ). words-and (wordsAfter [] u)) (comment-starts byte rest c))
+    gap-byte byte rest later (inr s) (inr c) =
+        ap (λ (d : Draft). lineOf (drawn d rest)) (gap-on k h a b byte s c ∙ kind .from byte)
+        ∙ longer-reads byte [] rest (word-reads byte [] rest)
+        ∙ sym (ap (λ (u : List ℕ). words-and (wordsAfter [] u)) (no-comment byte rest c) ∙ ap words-and (word-goes-on byte (uncommented rest) [] s))
+
+    gap-reads : (rest : List ℕ) → lineOf (drawn gap rest) ≡ words-and (wordsAfter [] (uncommented rest))
+    unfolding drawn uncommented wordsAfter
+    gap-reads [] = kind .none
+    gap-reads (byte ∷ rest) = gap-byte byte rest (gap-reads rest) (test (eqb byte space)) (test (eqb byte hash))
+
+-- ---- what a line with so many right words is
+
+module _ (name : List ℕ) (n : isName name ≡ true) where
+  one-word : (place : Place) → fieldsLine (drafted place 1 (heldAfter 0 name) 0 0) ≡ lineOfWords (name ∷ [])
+  unfolding fieldsLine if
+  one-word place = rw n
+
+  module _ (first : List ℕ) (f : isNumber first ≡ true) where
+    two-words : (place : Place) → fieldsLine (drafted place 2 (heldAfter 0 name) (speltAfter 0 first) 0) ≡ lineOfWords (name ∷ first ∷ [])
+    unfolding fieldsLine if
+    two-words place = rw (n, f)
+
+    three-words : (place : Place) (second : List ℕ) → isNumber second ≡ true
+        → fieldsLine (drafted place 3 (heldAfter 0 name) (speltAfter 0 first) (speltAfter 0 second)) ≡ lineOfWords (name ∷ first ∷ second ∷ [])
+    unfolding fieldsLine if
+    three-words place second s = rw (n, f, s)
+
+-- ---- a byte more in a number, and in a name
+
+no-digits : isNumber [] ≡ true
+unfolding isNumber allOf speltAfter
+no-digits = refl
+
+no-letters : isName [] ≡ true
+unfolding isName allOf heldAfter
+no-letters = refl
+
+module _ (number : ℕ → Draft) (w : List ℕ) (byte : ℕ) (fine : isNumber w ≡ true) where
+  digit-on : if (lengthens (speltAfter 0 w) byte) (number (longer (speltAfter 0 w) byte)) amiss
+      ≡ if (isNumber (w ++ (byte ∷ []))) (number (speltAfter 0 (w ++ (byte ∷ [])))) amiss
+  unfolding speltAfter
+  digit-on =
+      ap (λ (v : ℕ). if (lengthens (speltAfter 0 w) byte) (number v) amiss) (sym (spelt-append w (byte ∷ []) 0))
+      ∙ ap (λ (t : Bool). if t (number (speltAfter 0 (w ++ (byte ∷ [])))) amiss) (sym (digit-more w byte fine))
+
+module _ (w : List ℕ) (byte : ℕ) (fine : isName w ≡ true) where
+  letter-on : if (isLetter byte && ltb (heldAfter 0 w) (256 ^ 7)) (drafted Within 1 (heldAfter 0 w * 256 + byte) 0 0) amiss
+      ≡ if (isName (w ++ (byte ∷ []))) (drafted Within 1 (heldAfter 0 (w ++ (byte ∷ []))) 0 0) amiss
+  unfolding heldAfter
+  letter-on =
+      ap (λ (v : ℕ). if (isLetter byte && ltb (heldAfter 0 w) (256 ^ 7)) (drafted Within 1 v 0 0) amiss) (sym (held-append w (byte ∷ []) 0))
+      ∙ ap (λ (t : Bool). if t (drafted Within 1 (heldAfter 0 (w ++ (byte ∷ []))) 0 0) amiss) (sym (letter-more w byte fine))
+
+-- ---- the words, the last first
+
+module _ (name : List ℕ) (n : isName name ≡ true) where
+  module _ (first : List ℕ) (f : isNumber first ≡ true) where
+    -- a fourth word is too many
+    fourth : (second : List ℕ) → isNumber second ≡ true → (rest : List ℕ)
+        → lineOf (drawn (drafted Between 3 (heldAfter 0 name) (speltAfter 0 first) (speltAfter 0 second)) rest)
+        ≡ lineOfWords ((name ∷ first ∷ second ∷ []) ++ wordsAfter [] (uncommented rest))
+    unfolding begun if
+    fourth second s rest =
+        gap-reads (name ∷ first ∷ second ∷ []) 3 (heldAfter 0 name) (speltAfter 0 first) (speltAfter 0 second) (λ _. 0) (λ _. 0) (λ _. 0) (λ _. false)
+        (record {
+          from = λ byte. refl;
+          on = λ w byte o. absurd (false≢true o);
+          none = three-words name n first f Between second s;
+          one = λ w o. absurd (false≢true o);
+          hopeless = λ w more others o. refl;
+          next = λ w rest2 o. absurd (false≢true o);
+        })
+        rest
+
+    second-hopeless : (w more : List ℕ) (others : List (List ℕ)) → isNumber w ≡ false → lineOfWords (name ∷ first ∷ (w ++ more) ∷ others) ≡ Wrong
+    unfolding if
+    second-hopeless w more [] o = rw (number-spoilt w more o, and-false (isName name && isNumber first))
+    second-hopeless w more (x ∷ others) o = refl
+
+    third : (rest : List ℕ)
+        → lineOf (drawn (drafted Between 2 (heldAfter 0 name) (speltAfter 0 first) 0) rest)
+        ≡ lineOfWords ((name ∷ first ∷ []) ++ wordsAfter [] (uncommented rest))
+    unfolding begun inField secondLonger if speltAfter
+    third =
+        gap-reads (name ∷ first ∷ []) 2 (heldAfter 0 name) (speltAfter 0 first) 0 (λ _. heldAfter 0 name) (λ _. speltAfter 0 first) (speltAfter 0) isNumber
+        (record {
+          from = λ byte. digit-on (drafted Within 3 (heldAfter 0 name) (speltAfter 0 first)) [] byte no-digits;
+          on = λ w byte o. digit-on (drafted Within 3 (heldAfter 0 name) (speltAfter 0 first)) w byte o;
+          none = two-words name n first f Between;
+          one = λ w o. three-words name n first f Within w o;
+          hopeless = second-hopeless;
+          next = λ w rest2 o. fourth w o rest2;
+        })
+
+  first-hopeless : (w more : List ℕ) (others : List (List ℕ)) → isNumber w ≡ false → lineOfWords (name ∷ (w ++ more) ∷ others) ≡ Wrong
+  unfolding if
+  first-hopeless w more [] o = rw (number-spoilt w more o, and-false (isName name))
+  first-hopeless w more (x ∷ []) o = rw (number-spoilt w more o, and-false (isName name))
+  first-hopeless w more (x ∷ y ∷ others) o = refl
+
+  second : (rest : List ℕ) → lineOf (drawn (drafted Between 1 (heldAfter 0 name) 0 0) rest) ≡ lineOfWords ((name ∷ []) ++ wordsAfter [] (uncommented rest))
+  unfolding begun inField firstLonger if speltAfter
+  second =
+      gap-reads (name ∷ []) 1 (heldAfter 0 name) 0 0 (λ _. heldAfter 0 name) (speltAfter 0) (λ _. 0) isNumber
+      (record {
+        from = λ byte. digit-on (λ v. drafted Within 2 (heldAfter 0 name) v 0) [] byte no-digits;
+        on = λ w byte o. digit-on (λ v. drafted Within 2 (heldAfter 0 name) v 0) w byte o;
+        none = one-word name n Between;
+        one = λ w o. two-words name n w o Within;
+        hopeless = first-hopeless;
+        next = λ w rest2 o. third w o rest2;
+      })
+
+name-hopeless : (w more : List ℕ) (others : List (List ℕ)) → isName w ≡ false → lineOfWords ((w ++ more) ∷ others) ≡ Wrong
+unfolding if
+name-hopeless w more [] o = rw (name-spoilt w more o)
+name-hopeless w more (x ∷ []) o = rw (name-spoilt w more o)
+name-hopeless w more (x ∷ y ∷ []) o = rw (name-spoilt w more o)
+name-hopeless w more (x ∷ y ∷ z ∷ others) o = refl
+
+pub line-by-words : LineByWords
+unfolding begun inField lettered fieldsLine if heldAfter
+line-by-words =
+    gap-reads [] 0 0 0 0 (heldAfter 0) (λ _. 0) (λ _. 0) isName
+    (record {
+      from = λ byte. letter-on [] byte no-letters;
+      on = λ w byte o. letter-on w byte o;
+      none = refl;
+      one = λ w o. one-word w o Within;
+      hopeless = name-hopeless;
+      next = λ w rest o. second w o rest;
+    })

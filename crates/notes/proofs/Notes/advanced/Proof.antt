@@ -1,0 +1,16 @@
+-- `advanced` begins the next line.
+use borrow.Author.Needs.{needs}
+use Rattle.notes.proofs.Notes.advanced.Statement.{statement}
+use Rattle.notes.proofs.Notes.advanced.Tie as tie
+
+next-line-requires : tie.Need-next-line-requires
+next-line-requires c κs = search needs
+
+blank-requires : tie.Need-blank-requires
+blank-requires c κs = search needs
+
+returns : tie.Need-returns
+returns c = rw (c .blank .ensures, c .before .next-line .ensures)
+
+pub advanced-spec : {M : Type 1} → statement M
+advanced-spec = tie.close (tie.spec next-line-requires blank-requires returns)

@@ -1,0 +1,13 @@
+-- `lengthened` hands the byte to the line that is being read.
+use borrow.Author.Needs.{needs}
+use Rattle.notes.proofs.Notes.lengthened.Statement.{statement}
+use Rattle.notes.proofs.Notes.lengthened.Tie as tie
+
+with-requires : tie.Need-with-requires
+with-requires c κs = search needs
+
+returns : tie.Need-returns
+returns c = rw (c .with .ensures)
+
+pub lengthened-spec : {M : Type 1} → statement M
+lengthened-spec = tie.close (tie.spec with-requires returns)

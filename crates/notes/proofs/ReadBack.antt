@@ -1,0 +1,307 @@
+-- A line of notes is taken as what its words say; and a line that is shown is read as that line.
+use mathlib.Core.Bool.{Bool, true, false, _&&_, false≢true}
+use mathlib.Core.Path.{_≡_, refl, sym, ap, _∙_}
+use mathlib.Core.List.{List, [], _∷_, _++_}
+use Prim.Native.Nat.{ℕ, suc, _+_, _-_, _*_, _^_, _≤_, _<_}
+use native.Mathlib.Omega.{arith}
+use native.Mathlib.Nat.{not-suc-le-zero}
+use lib.Dec.{leb, ltb, eqb}
+use lib.ListN.{length}
+use borrow.Author.Tests.{ne-eqb, lt-ltb, le-leb}
+use Rattle.table.specs.Fold.{if}
+use Rattle.table.specs.declared.Table.{Table}
+use Rattle.file.specs.declared.event.Event.{Event}
+use Rattle.file.specs.declared.event.Event.the-variants.{Arrival, Turn, OwnTurn, Done, Clock, Malformed}
+use Rattle.listing.specs.Line.{ascii, space, newline, zero-digit, decimal, onward, rendered, wordedFields}
+use Rattle.listing.specs.Laws.{Each, Digit, speltAfter}
+use Rattle.listing.proofs.Decimal.{decimal-reads-back, decimal-is-digits, decimal-some}
+use Rattle.notes.specs.declared.Notes.{Notes}
+use Rattle.notes.specs.declared.line.Line.{Line}
+use Rattle.notes.specs.declared.line.Line.the-variants.{Blank, Worst, Span, Padding, Stream, Call, Wrong}
+use Rattle.notes.specs.declared.draft.Place.the-variants.{Between, Within}
+use Rattle.notes.specs.declared.draft.Draft.{Draft}
+use Rattle.notes.specs.Draft.{drafted, blank, hash, isLetter, lettered, isDigit, longer, lengthens, firstLonger, secondLonger, inField, begun, afterGap, afterField, withByte}
+use Rattle.notes.specs.Line.{heldAfter, held, wordLine, tableLine, numberLine, streamLine, pairLine, fieldsLine, lineOf, lineShown}
+use Rattle.notes.specs.Notes.{noted, stopped, afterNumber, afterStream, afterEvent, after, expectedBy, Read, read, traceAfter, lineEnded, lengthened, byteRead, bytesRead}
+use Rattle.notes.specs.Laws.{Fits, LineReadsBack, drawn, LineIsJudged}
+use Rattle.notes.specs.Words.{wordsOf, lineOfWords}
+use Rattle.notes.proofs.Choices.{byte-lengthens}
+use Rattle.notes.proofs.Grammar.{line-by-words}
+
+-- ---- digits
+
+spelt-grows : (ds : List ℕ) (n : ℕ) → n ≤ speltAfter n ds
+unfolding speltAfter
+spelt-grows [] n = omega arith
+spelt-grows (d ∷ ds) n = omega (arith, spelt-grows ds (n * 10 + (d - zero-digit)))
+
+-- a digit that a number has room for lengthens it
+digit-lengthens : (n byte : ℕ) → Digit byte → longer n byte < 2 ^ 64 → lengthens n byte ≡ true
+unfolding lengthens
+digit-lengthens n byte d h =
+    rw (le-leb zero-digit byte (d .0), le-leb byte (zero-digit + 9) (d .1), lt-ltb (longer n byte) (2 ^ 64) h)
+
+-- a digit is no space and begins no comment
+no-space : (byte : ℕ) → Digit byte → eqb byte space ≡ false
+no-space byte d = ne-eqb byte space (λ e. omega (arith, d .0, e))
+
+no-hash : (byte : ℕ) → Digit byte → eqb byte hash ≡ false
+no-hash byte d = ne-eqb byte hash (λ e. omega (arith, d .0, e))
+
+module _ (w n byte : ℕ) (d : Digit byte) (h : longer n byte < 2 ^ 64) where
+  first-on : withByte (drafted Within 2 w n 0) byte ≡ drafted Within 2 w (longer n byte) 0
+  unfolding afterField inField firstLonger if
+  first-on = rw (no-space byte d, no-hash byte d, digit-lengthens n byte d h)
+
+  second-on : (a : ℕ) → withByte (drafted Within 3 w a n) byte ≡ drafted Within 3 w a (longer n byte)
+  unfolding afterField inField secondLonger if
+  second-on a = rw (no-space byte d, no-hash byte d, digit-lengthens n byte d h)
+
+module _ (w byte : ℕ) (d : Digit byte) (h : longer 0 byte < 2 ^ 64) where
+  first-from : withByte (drafted Between 1 w 0 0) byte ≡ drafted Within 2 w (longer 0 byte) 0
+  unfolding afterGap begun inField firstLonger if
+  first-from = rw (no-space byte d, no-hash byte d, digit-lengthens 0 byte d h)
+
+  second-from : (a : ℕ) → withByte (drafted Between 2 w a 0) byte ≡ drafted Within 3 w a (longer 0 byte)
+  unfolding afterGap begun inField secondLonger if
+  second-from a = rw (no-space byte d, no-hash byte d, digit-lengthens 0 byte d h)
+
+-- ---- a line, read byte by byte
+
+module _ (line numbers : ℕ) (table : Table) (events : ℕ) (trace : List ℕ) where
+  -- the notes with a line so far
+  abbrev so-far : Draft → Notes
+  so-far d = record { line = line; numbers = numbers; table = table; events = events; draft = d; wrong = false }
+
+  abbrev at-draft : Draft → Read
+  at-draft d = read (so-far d) trace
+
+  byte-on : (d : Draft) (byte : ℕ) → Digit byte → byteRead (at-draft d) byte ≡ at-draft (withByte d byte)
+  byte-on d byte p = byte-lengthens (so-far d) trace byte refl (λ e. omega (arith, p .0, e))
+
+  -- a number, digit by digit: `gap` is the line before it, `held n` the line where it is n so far
+  module _ (gap : Draft) (number : ℕ → Draft)
+      (from : (byte : ℕ) → Digit byte → longer 0 byte < 2 ^ 64 → withByte gap byte ≡ number (longer 0 byte))
+      (on : (n byte : ℕ) → Digit byte → longer n byte < 2 ^ 64 → withByte (number n) byte ≡ number (longer n byte)) where
+    digits-on : (ds : List ℕ) (n : ℕ) → Each Digit ds → speltAfter n ds < 2 ^ 64
+        → (rest : List ℕ) → bytesRead (at-draft (number n)) (ds ++ rest) ≡ bytesRead (at-draft (number (speltAfter n ds))) rest
+    unfolding bytesRead speltAfter Each
+    digits-on [] n p h rest = refl
+    digits-on (d ∷ ds) n p h rest =
+        let room : longer n d < 2 ^ 64 = omega (arith, spelt-grows ds (longer n d), h) in
+        ap (λ (r : Read). bytesRead r (ds ++ rest)) (byte-on (number n) d (p .0) ∙ ap (λ (e : Draft). at-draft e) (on n d (p .0) room))
+        ∙ digits-on ds (longer n d) (p .1) h rest
+
+    digits-from : (ds : List ℕ) → 1 ≤ length ds → Each Digit ds → speltAfter 0 ds < 2 ^ 64
+        → (rest : List ℕ) → bytesRead (at-draft gap) (ds ++ rest) ≡ bytesRead (at-draft (number (speltAfter 0 ds))) rest
+    unfolding bytesRead speltAfter Each
+    digits-from [] some p h rest = absurd (not-suc-le-zero some)
+    digits-from (d ∷ ds) some p h rest =
+        let room : longer 0 d < 2 ^ 64 = omega (arith, spelt-grows ds (longer 0 d), h) in
+        ap (λ (r : Read). bytesRead r (ds ++ rest)) (byte-on gap d (p .0) ∙ ap (λ (e : Draft). at-draft e) (from d (p .0) room))
+        ∙ digits-on ds (longer 0 d) (p .1) h rest
+
+    number-read : (n : ℕ) → n < 2 ^ 64 → (rest : List ℕ) → bytesRead (at-draft gap) (decimal n ++ rest) ≡ bytesRead (at-draft (number n)) rest
+    number-read n h rest =
+        let back = decimal-reads-back n in
+        digits-from (decimal n) (decimal-some n) (decimal-is-digits n) (rw back h) rest
+        ∙ ap (λ (m : ℕ). bytesRead (at-draft (number m)) rest) back
+
+  -- a word has been read, and the space after it
+  abbrev Word : List ℕ → ℕ → Type 0
+  Word text w = (rest : List ℕ) → bytesRead (at-draft blank) (text ++ (space ∷ rest)) ≡ bytesRead (at-draft (drafted Between 1 w 0 0)) rest
+
+  one-number : (text : List ℕ) (w n : ℕ) → Word text w → n < 2 ^ 64
+      → bytesRead (at-draft blank) (text ++ onward (decimal n ∷ [])) ≡ lineEnded (so-far (drafted Within 2 w n 0)) trace
+  unfolding onward bytesRead byteRead if
+  one-number text w n word h =
+      word (decimal n ++ (newline ∷ []))
+      ∙ number-read (drafted Between 1 w 0 0) (λ m. drafted Within 2 w m 0) (first-from w) (first-on w) n h (newline ∷ [])
+
+  two-numbers : (text : List ℕ) (w a b : ℕ) → Word text w → a < 2 ^ 64 → b < 2 ^ 64
+      → bytesRead (at-draft blank) (text ++ onward (decimal a ∷ decimal b ∷ [])) ≡ lineEnded (so-far (drafted Within 3 w a b)) trace
+  unfolding onward bytesRead byteRead if afterField
+  two-numbers text w a b word ha hb =
+      word (decimal a ++ (space ∷ (decimal b ++ (newline ∷ []))))
+      ∙ number-read (drafted Between 1 w 0 0) (λ m. drafted Within 2 w m 0) (first-from w) (first-on w) a ha (space ∷ (decimal b ++ (newline ∷ [])))
+      ∙ number-read (drafted Between 2 w a 0) (λ m. drafted Within 3 w a m) (λ byte d h. second-from w byte d h a) (λ m byte d h. second-on w m byte d h a) b hb (newline ∷ [])
+
+  -- each word, letter by letter
+  words : Word (ascii "worst") (held "worst")
+      × Word (ascii "span") (held "span")
+      × Word (ascii "padding") (held "padding")
+      × Word (ascii "stream") (held "stream")
+      × Word (ascii "arrival") (held "arrival")
+      × Word (ascii "own") (held "own")
+      × Word (ascii "done") (held "done")
+      × Word (ascii "clock") (held "clock")
+  unfolding ascii heldAfter bytesRead byteRead if afterGap afterField begun inField lettered
+  words = (λ rest. refl, λ rest. refl, λ rest. refl, λ rest. refl, λ rest. refl, λ rest. refl, λ rest. refl, λ rest. refl)
+
+  turn-read : bytesRead (at-draft blank) (ascii "turn" ++ onward []) ≡ lineEnded (so-far (drafted Within 1 (held "turn") 0 0)) trace
+  unfolding ascii heldAfter onward bytesRead byteRead if afterGap afterField begun inField lettered
+  turn-read = refl
+
+  blank-read : bytesRead (at-draft blank) (onward []) ≡ lineEnded (so-far blank) trace
+  unfolding onward bytesRead byteRead if
+  blank-read = refl
+
+  -- ---- the line that has ended is taken as what it was read as
+
+  same-choice : (b : Bool) (x y z : Notes) → if b x y .wrong ≡ false → y .wrong ≡ true → if b x z ≡ if b x y
+  unfolding if
+  same-choice true x y z h w = refl
+  same-choice false x y z h w = absurd (false≢true (sym h ∙ w))
+
+  abbrev before : Notes
+  before = noted line numbers table events
+
+  after-same : (d : Draft) (l : Line) → after before l .wrong ≡ false → after (so-far d) l ≡ after before l
+  unfolding afterNumber afterStream afterEvent
+  after-same d Blank h = refl
+  after-same d (Worst x) h = same-choice _ _ (stopped before) (stopped (so-far d)) h refl
+  after-same d (Span x) h = same-choice _ _ (stopped before) (stopped (so-far d)) h refl
+  after-same d (Padding x) h = same-choice _ _ (stopped before) (stopped (so-far d)) h refl
+  after-same d (Stream e p) h = same-choice _ _ (stopped before) (stopped (so-far d)) h refl
+  after-same d (Call event) h = same-choice _ _ (stopped before) (stopped (so-far d)) h refl
+  after-same d Wrong h = absurd (false≢true (sym h))
+
+  abbrev ending : Line → Notes → Read
+  ending l next = read next (if (next .wrong) trace (traceAfter trace events l))
+
+  taken-as : (d : Draft) (l : Line) → lineOf d ≡ l → after before l .wrong ≡ false
+      → lineEnded (so-far d) trace ≡ read (after before l) (traceAfter trace events l)
+  unfolding lineEnded if
+  taken-as d l is h =
+      ap (λ (k : Line). ending k (after (so-far d) k)) is
+      ∙ ap (λ (next : Notes). ending l next) (after-same d l h)
+      ∙ ap (λ (b : Bool). read (after before l) (if b trace (traceAfter trace events l))) h
+
+  -- and a line that may not stand there stops the reading
+  stops-choice : (b : Bool) (x y z : Notes) → if b x y .wrong ≡ true → x .wrong ≡ false → if b x z ≡ z
+  unfolding if
+  stops-choice true x y z h w = absurd (false≢true (sym w ∙ h))
+  stops-choice false x y z h w = refl
+
+  after-stops : (d : Draft) (l : Line) → after before l .wrong ≡ true → after (so-far d) l ≡ stopped (so-far d)
+  unfolding afterNumber afterStream afterEvent
+  after-stops d Blank h = absurd (false≢true h)
+  after-stops d (Worst x) h = stops-choice _ _ (stopped before) (stopped (so-far d)) h refl
+  after-stops d (Span x) h = stops-choice _ _ (stopped before) (stopped (so-far d)) h refl
+  after-stops d (Padding x) h = stops-choice _ _ (stopped before) (stopped (so-far d)) h refl
+  after-stops d (Stream e p) h = stops-choice _ _ (stopped before) (stopped (so-far d)) h refl
+  after-stops d (Call event) h = stops-choice _ _ (stopped before) (stopped (so-far d)) h refl
+  after-stops d Wrong h = refl
+
+  not-taken : (d : Draft) (l : Line) → lineOf d ≡ l → after before l .wrong ≡ true → lineEnded (so-far d) trace ≡ read (stopped (so-far d)) trace
+  unfolding lineEnded if
+  not-taken d l is h =
+      ap (λ (k : Line). ending k (after (so-far d) k)) is
+      ∙ ap (λ (next : Notes). ending l next) (after-stops d l h)
+
+  -- ---- any line
+
+  bytes-drawn : (bytes : List ℕ) (d : Draft) → Each (λ byte. byte ≡ newline → ⊥) bytes
+      → (rest : List ℕ) → bytesRead (at-draft d) (bytes ++ rest) ≡ bytesRead (at-draft (drawn d bytes)) rest
+  unfolding bytesRead drawn Each
+  bytes-drawn [] d p rest = refl
+  bytes-drawn (byte ∷ bytes) d p rest =
+      ap (λ (r : Read). bytesRead r (bytes ++ rest)) (byte-lengthens (so-far d) trace byte refl (p .0))
+      ∙ bytes-drawn bytes (withByte d byte) (p .1) rest
+
+  line-drawn : (bytes : List ℕ) → Each (λ byte. byte ≡ newline → ⊥) bytes
+      → bytesRead (at-draft blank) (bytes ++ (newline ∷ [])) ≡ lineEnded (so-far (drawn blank bytes)) trace
+  unfolding bytesRead byteRead if
+  line-drawn bytes p = bytes-drawn bytes blank p (newline ∷ [])
+
+pub line-is-judged : LineIsJudged
+unfolding expectedBy
+line-is-judged i k t e trace bytes p =
+    let d = drawn blank bytes in
+    let r = line-drawn i k t e trace bytes p in
+    let is = line-by-words bytes in (
+      λ right. r ∙ taken-as i k t e trace d (lineOfWords (wordsOf bytes)) is right,
+      λ wrong.
+          let q = r ∙ not-taken i k t e trace d (lineOfWords (wordsOf bytes)) is wrong in (
+            ap (λ (x : Read). x .notes .wrong) q,
+            ap (λ (x : Read). x .notes .line) q,
+            ap (λ (x : Read). expectedBy (x .notes)) q,
+            ap (λ (x : Read). x .trace) q,
+          ),
+    )
+
+-- ---- what each line is read as
+
+module _ (n : ℕ) where
+  worst-line : n < 2 ^ 32 → lineOf (drafted Within 2 (held "worst") n 0) ≡ Worst n
+  unfolding ascii heldAfter fieldsLine numberLine tableLine if
+  worst-line h = rw (lt-ltb n (2 ^ 32) h)
+
+  span-line : n < 2 ^ 32 → lineOf (drafted Within 2 (held "span") n 0) ≡ Span n
+  unfolding ascii heldAfter fieldsLine numberLine tableLine if
+  span-line h = rw (lt-ltb n (2 ^ 32) h)
+
+  padding-line : n < 2 ^ 32 → lineOf (drafted Within 2 (held "padding") n 0) ≡ Padding n
+  unfolding ascii heldAfter fieldsLine numberLine tableLine if
+  padding-line h = rw (lt-ltb n (2 ^ 32) h)
+
+  done-line : lineOf (drafted Within 2 (held "done") n 0) ≡ Call (Done n)
+  unfolding ascii heldAfter fieldsLine numberLine if
+  done-line = refl
+
+  clock-line : lineOf (drafted Within 2 (held "clock") n 0) ≡ Call (Clock n)
+  unfolding ascii heldAfter fieldsLine numberLine if
+  clock-line = refl
+
+module _ (a b : ℕ) where
+  stream-line : a < 2 ^ 32 → b < 2 ^ 32 → lineOf (drafted Within 3 (held "stream") a b) ≡ Stream a b
+  unfolding ascii heldAfter fieldsLine pairLine streamLine if
+  stream-line h k = rw (lt-ltb a (2 ^ 32) h, lt-ltb b (2 ^ 32) k)
+
+  arrival-line : a < 2 ^ 8 → lineOf (drafted Within 3 (held "arrival") a b) ≡ Call (Arrival a b)
+  unfolding ascii heldAfter fieldsLine pairLine if
+  arrival-line h = rw (lt-ltb a (2 ^ 8) h)
+
+  own-line : a < 2 ^ 8 → lineOf (drafted Within 3 (held "own") a b) ≡ Call (OwnTurn a b)
+  unfolding ascii heldAfter fieldsLine pairLine if
+  own-line h = rw (lt-ltb a (2 ^ 8) h)
+
+turn-line : lineOf (drafted Within 1 (held "turn") 0 0) ≡ Call Turn
+unfolding ascii heldAfter fieldsLine wordLine if
+turn-line = refl
+
+blank-line : lineOf blank ≡ Blank
+unfolding fieldsLine if
+blank-line = refl
+
+pub line-reads-back : LineReadsBack
+unfolding rendered wordedFields ascii
+line-reads-back i k t e trace Blank f h = blank-read i k t e trace ∙ taken-as i k t e trace blank Blank blank-line h
+line-reads-back i k t e trace (Worst n) f h =
+    one-number i k t e trace (ascii "worst") (held "worst") n (words i k t e trace .0) (omega (arith, f))
+    ∙ taken-as i k t e trace (drafted Within 2 (held "worst") n 0) (Worst n) (worst-line n f) h
+line-reads-back i k t e trace (Span n) f h =
+    one-number i k t e trace (ascii "span") (held "span") n (words i k t e trace .1) (omega (arith, f))
+    ∙ taken-as i k t e trace (drafted Within 2 (held "span") n 0) (Span n) (span-line n f) h
+line-reads-back i k t e trace (Padding n) f h =
+    one-number i k t e trace (ascii "padding") (held "padding") n (words i k t e trace .2) (omega (arith, f))
+    ∙ taken-as i k t e trace (drafted Within 2 (held "padding") n 0) (Padding n) (padding-line n f) h
+line-reads-back i k t e trace (Stream a b) f h =
+    two-numbers i k t e trace (ascii "stream") (held "stream") a b (words i k t e trace .3) (omega (arith, f .0)) (omega (arith, f .1))
+    ∙ taken-as i k t e trace (drafted Within 3 (held "stream") a b) (Stream a b) (stream-line a b (f .0) (f .1)) h
+line-reads-back i k t e trace (Call (Arrival a b)) f h =
+    two-numbers i k t e trace (ascii "arrival") (held "arrival") a b (words i k t e trace .4) (omega (arith, f .0)) (f .1)
+    ∙ taken-as i k t e trace (drafted Within 3 (held "arrival") a b) (Call (Arrival a b)) (arrival-line a b (f .0)) h
+line-reads-back i k t e trace (Call Turn) f h =
+    turn-read i k t e trace ∙ taken-as i k t e trace (drafted Within 1 (held "turn") 0 0) (Call Turn) turn-line h
+line-reads-back i k t e trace (Call (OwnTurn a b)) f h =
+    two-numbers i k t e trace (ascii "own") (held "own") a b (words i k t e trace .5) (omega (arith, f .0)) (f .1)
+    ∙ taken-as i k t e trace (drafted Within 3 (held "own") a b) (Call (OwnTurn a b)) (own-line a b (f .0)) h
+line-reads-back i k t e trace (Call (Done n)) f h =
+    one-number i k t e trace (ascii "done") (held "done") n (words i k t e trace .6) f
+    ∙ taken-as i k t e trace (drafted Within 2 (held "done") n 0) (Call (Done n)) (done-line n) h
+line-reads-back i k t e trace (Call (Clock n)) f h =
+    one-number i k t e trace (ascii "clock") (held "clock") n (words i k t e trace .7) f
+    ∙ taken-as i k t e trace (drafted Within 2 (held "clock") n 0) (Call (Clock n)) (clock-line n) h
+line-reads-back i k t e trace (Call Malformed) f h = absurd f
+line-reads-back i k t e trace Wrong f h = absurd f

@@ -1,0 +1,28 @@
+-- `first_longer` takes a digit that there is room for.
+use borrow.Author.Needs.{needs}
+use Rattle.table.specs.Fold.{if}
+use mathlib.Core.Path.{sym, _∙_}
+use Rattle.notes.specs.Draft.{firstLonger}
+use Rattle.notes.proofs.draft.Draft.first_longer.Statement.{statement}
+use Rattle.notes.proofs.draft.Draft.first_longer.Tie as tie
+
+lengthens-requires : tie.Need-lengthens-requires
+lengthens-requires c κs = search needs
+
+longer-requires : tie.Need-longer-requires
+longer-requires c κs = sym (c .before .lengthens .ensures) ∙ c .if1 .taken
+
+returns : tie.Need-returns
+unfolding firstLonger if
+returns c = rw (sym (c .before .before .lengthens .ensures) ∙ c .before .if1 .taken, c .longer .ensures)
+
+amiss-requires : tie.Need-amiss-requires
+amiss-requires c κs = search needs
+
+returns-2 : tie.Need-returns-2
+unfolding firstLonger if
+returns-2 c = rw (sym (c .before .before .lengthens .ensures) ∙ c .before .if1 .left) (c .amiss .ensures)
+
+pub first-longer-spec : {M : Type 1} → statement M
+first-longer-spec =
+    tie.close (tie.spec lengthens-requires longer-requires returns amiss-requires returns-2)

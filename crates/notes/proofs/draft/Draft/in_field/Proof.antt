@@ -1,0 +1,39 @@
+-- `in_field` goes by the field that is being read.
+use borrow.Author.Needs.{needs}
+use borrow.Author.Tests.{eq-eqb, ne-eqb, lt-ltb, le-ltb}
+use Rattle.table.specs.Fold.{if}
+use Rattle.notes.specs.Draft.{inField}
+use Rattle.notes.proofs.draft.Draft.in_field.Statement.{statement}
+use Rattle.notes.proofs.draft.Draft.in_field.Tie as tie
+
+lettered-requires : tie.Need-lettered-requires
+lettered-requires c κs = search needs
+
+returns : tie.Need-returns
+unfolding inField if
+returns c = rw (eq-eqb _ 1 (c .before .if1 .taken)) (c .lettered .ensures)
+
+first-longer-requires : tie.Need-first-longer-requires
+first-longer-requires c κs = search needs
+
+returns-2 : tie.Need-returns-2
+unfolding inField if
+returns-2 c = rw (ne-eqb _ 1 (c .before .before .before .if1 .left), eq-eqb _ 2 (c .before .if2 .taken)) (c .first-longer .ensures)
+
+second-longer-requires : tie.Need-second-longer-requires
+second-longer-requires c κs = search needs
+
+returns-3 : tie.Need-returns-3
+unfolding inField if
+returns-3 c = rw (ne-eqb _ 1 (c .before .before .before .if1 .left), ne-eqb _ 2 (c .before .if2 .left)) (c .second-longer .ensures)
+
+pub in-field-spec : {M : Type 1} → statement M
+in-field-spec =
+    tie.close
+    (tie.spec
+    lettered-requires
+    returns
+    first-longer-requires
+    returns-2
+    second-longer-requires
+    returns-3)

@@ -1,0 +1,36 @@
+-- Notes on either side of each line of docs/NOTES.md, and what composing answers. The statement that covers the list is `CasesHold` of `Laws`.
+use mathlib.Core.List.{List, [], _∷_}
+use Prim.Native.Nat.{ℕ}
+use Prim.Native.String.{String}
+use Rattle.notes.specs.declared.Composed.{Composed}
+use Rattle.notes.specs.declared.Composed.the-variants.{Written, Wrong, Unfinished}
+use Rattle.notes.specs.declared.Expected.the-variants.{Worst, Span, Padding, StreamOrEvent, Event}
+
+pub record Case : Type 0 where
+  pub notes : String
+  pub answer : Composed
+
+abbrev pub gives : String → Composed → Case
+gives notes answer = record { notes = notes; answer = answer }
+
+unfoldable pub cases : List Case
+cases =
+    gives "" (Unfinished Worst)
+    ∷ gives "worst 1\nspan 1" (Unfinished Padding)
+    ∷ gives "worst 1\nspan 1\npadding 1" (Written 42)
+    ∷ gives "\n# span comes second\nspan 1\nworst 1\npadding 1\n" (Wrong 3 Worst)
+    ∷ gives "worst 1\nworst 1\n" (Wrong 2 Span)
+    ∷ gives "worst 4294967295\nspan 1\npadding 1\n" (Written 42)
+    ∷ gives "worst 4294967296\nspan 1\npadding 1\n" (Wrong 1 Worst)
+    ∷ gives "worst 1\nspan 1\nstream 1 1\n" (Wrong 3 Padding)
+    ∷ gives "worst 1\nspan 1\npadding 1\nstream 1\n" (Wrong 4 StreamOrEvent)
+    ∷ gives "worst 1\nspan 1\npadding 1\nstream 1 1\nturn\nstream 1 1\n" (Wrong 6 Event)
+    ∷ gives "worst 1\nspan 1\npadding 1\nstream 1 1\nstream 1 1\nstream 1 1\nstream 1 1\nstream 1 1\nstream 1 1\nstream 1 1\nstream 1 1\n" (Written 106)
+    ∷ gives "worst 1\nspan 1\npadding 1\nstream 1 1\nstream 1 1\nstream 1 1\nstream 1 1\nstream 1 1\nstream 1 1\nstream 1 1\nstream 1 1\nstream 1 1\n" (Wrong 12 Event)
+    ∷ gives "worst 1\nspan 1\npadding 1\narrival 255 18446744073709551615\n" (Written 58)
+    ∷ gives "worst 1\nspan 1\npadding 1\narrival 256 1\n" (Wrong 4 StreamOrEvent)
+    ∷ gives "worst 1\nspan 1\npadding 1\narrival 1 18446744073709551616\n" (Wrong 4 StreamOrEvent)
+    ∷ gives "worst 1\nspan 1\npadding 1\nown 1 0 0\n" (Wrong 4 StreamOrEvent)
+    ∷ gives "worst 1\nspan 1\npadding 1\ndone\t1\n" (Wrong 4 StreamOrEvent)
+    ∷ gives "worst 1\nspan 1\npadding 1\nturn\nTurn\n" (Wrong 5 Event)
+    ∷ []

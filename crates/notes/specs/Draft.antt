@@ -1,0 +1,80 @@
+-- A line of notes, read byte by byte: up to three fields, parted by spaces, and a comment. The first field is a word of up to eight letters, the others are numbers.
+use mathlib.Core.Bool.{Bool, _&&_}
+use Prim.Native.Nat.{ℕ, _+_, _-_, _*_, _^_}
+use Prim.Native.Char.{code}
+use lib.Dec.{leb, ltb, eqb}
+use Rattle.table.specs.Fold.{if}
+use Rattle.listing.specs.Line.{space, zero-digit}
+use Rattle.notes.specs.declared.draft.Place.{Place}
+use Rattle.notes.specs.declared.draft.Place.the-variants.{Between, Within, Comment, Amiss}
+use Rattle.notes.specs.declared.draft.Draft.{Draft}
+
+-- a line so far: the place of its last byte, how many fields have begun, and what they hold
+abbrev pub drafted : Place → ℕ → ℕ → ℕ → ℕ → Draft
+drafted place fields word first second =
+    record { place = place; fields = fields; word = word; first = first; second = second }
+
+-- a line before its first byte, and a line of which no right one can come
+abbrev pub blank : Draft
+blank = drafted Between 0 0 0 0
+
+abbrev pub amiss : Draft
+amiss = drafted Amiss 0 0 0 0
+
+-- the same line, at another place
+abbrev pub placed : Draft → Place → Draft
+placed d place = drafted place (d .fields) (d .word) (d .first) (d .second)
+
+-- a letter more in a word, which is held as a number: its letters are digits to the base 256. Eight are the most.
+abbrev pub isLetter : ℕ → Bool
+isLetter byte = leb (code "a") byte && leb byte (code "z")
+
+unfoldable pub lettered : Draft → ℕ → Draft
+lettered d byte =
+    if (isLetter byte && ltb (d .word) (256 ^ 7)) (drafted Within 1 (d .word * 256 + byte) (d .first) (d .second)) amiss
+
+-- a digit more in a number, which has room in 64 bits
+abbrev pub isDigit : ℕ → Bool
+isDigit byte = leb zero-digit byte && leb byte (zero-digit + 9)
+
+abbrev pub longer : ℕ → ℕ → ℕ
+longer n byte = n * 10 + (byte - zero-digit)
+
+unfoldable pub lengthens : ℕ → ℕ → Bool
+lengthens n byte = isDigit byte && ltb (longer n byte) (2 ^ 64)
+
+unfoldable pub firstLonger : Draft → ℕ → Draft
+firstLonger d byte = if (lengthens (d .first) byte) (drafted Within 2 (d .word) (longer (d .first) byte) (d .second)) amiss
+
+unfoldable pub secondLonger : Draft → ℕ → Draft
+secondLonger d byte = if (lengthens (d .second) byte) (drafted Within 3 (d .word) (d .first) (longer (d .second) byte)) amiss
+
+-- a byte more in the field that is being read: a letter in the first, a digit in the second and the third
+unfoldable pub inField : Draft → ℕ → Draft
+inField d byte = if (eqb (d .fields) 1) (lettered d byte) (if (eqb (d .fields) 2) (firstLonger d byte) (secondLonger d byte))
+
+-- the first byte of a field; a fourth one is too many
+unfoldable pub begun : Draft → ℕ → Draft
+begun d byte =
+    if (ltb (d .fields) 3) (inField (drafted Within (d .fields + 1) (d .word) (d .first) (d .second)) byte) amiss
+
+-- "anything after # is a comment"
+abbrev pub hash : ℕ
+hash = code "#"
+
+-- a byte after a space or at the start, and a byte after one of a field
+unfoldable pub afterGap : Draft → ℕ → Draft
+afterGap d byte = if (eqb byte space) d (if (eqb byte hash) (placed d Comment) (begun d byte))
+
+unfoldable pub afterField : Draft → ℕ → Draft
+afterField d byte = if (eqb byte space) (placed d Between) (if (eqb byte hash) (placed d Comment) (inField d byte))
+
+-- a line with a byte more, which is not its newline
+abbrev pub continued : Place → Draft → ℕ → Draft
+continued Between d byte = afterGap d byte
+continued Within d byte = afterField d byte
+continued Comment d byte = d
+continued Amiss d byte = d
+
+abbrev pub withByte : Draft → ℕ → Draft
+withByte d byte = continued (d .place) d byte

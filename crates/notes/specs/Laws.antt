@@ -1,0 +1,104 @@
+-- What is proved of notes.
+use mathlib.Core.Bool.{true, false}
+use mathlib.Core.Path.{_≡_}
+use mathlib.Core.List.{List, [], _∷_, _++_, map}
+use Prim.Native.Nat.{ℕ, _*_, _^_, _≤_, _<_}
+use Prim.Native.Char.{code}
+use lib.ListN.{length, drop, replicate}
+use Rattle.table.specs.declared.Table.{Table}
+use Rattle.cells.specs.Cells.{Bytes}
+use Rattle.file.specs.Reading.{eventsIn, tableIn, traceIn, isLaidOut}
+use Rattle.file.specs.Laws.{Coded}
+use Rattle.file.specs.File.{event-size}
+use Rattle.file.specs.Listing.{listing-file}
+use Rattle.listing.specs.Line.{newline, ascii, rendered}
+use Rattle.listing.specs.Laws.{Each}
+use Rattle.notes.specs.declared.Notes.{Notes}
+use Rattle.notes.specs.declared.Composed.the-variants.{Written}
+use Rattle.notes.specs.declared.line.Line.{Line}
+use Rattle.notes.specs.declared.draft.Draft.{Draft}
+use Rattle.notes.specs.declared.line.Line.the-variants.{Blank, Worst, Span, Padding, Stream, Call, Wrong}
+use Rattle.notes.specs.Draft.{blank, withByte}
+use Rattle.notes.specs.Line.{heldAfter, lineOf, lineShown, notesOf}
+use Rattle.notes.specs.Words.{wordsOf, lineOfWords}
+use Rattle.notes.specs.Notes.{noted, started, after, expectedBy, Read, read, traceAfter, bytesRead, ended, Filed, filed, filedBy}
+use Rattle.notes.specs.Cases.{Case, cases}
+
+-- a line whose numbers have room in their fields
+abbrev pub Fits : Line → Type 0
+Fits Blank = Unit
+Fits (Worst n) = n < 2 ^ 32
+Fits (Span n) = n < 2 ^ 32
+Fits (Padding n) = n < 2 ^ 32
+Fits (Stream reserved period) = (reserved < 2 ^ 32) × (period < 2 ^ 32)
+Fits (Call event) = Coded event
+Fits Wrong = ⊥
+
+-- A line that is shown is read as that line, wherever it may stand.
+abbrev pub LineReadsBack : Type 0
+LineReadsBack =
+    (line numbers : ℕ) (table : Table) (events : ℕ) (trace : List ℕ) (l : Line) → Fits l
+    → let n = noted line numbers table events in
+    after n l .wrong ≡ false → bytesRead (read n trace) (rendered (lineShown l)) ≡ read (after n l) (traceAfter trace events l)
+
+-- A line that is read byte by byte is the line of its words, whatever bytes they are.
+unfoldable pub drawn : Draft → List ℕ → Draft
+drawn d [] = d
+drawn d (byte ∷ rest) = drawn (withByte d byte) rest
+
+abbrev pub LineByWords : Type 0
+LineByWords = (line : List ℕ) → lineOf (drawn blank line) ≡ lineOfWords (wordsOf line)
+
+-- So a line of notes is taken as what its words say, where that may stand; where it may not, the line is told with what was expected, and the trace stays.
+abbrev pub LineIsJudged : Type 0
+LineIsJudged =
+    (line numbers : ℕ) (table : Table) (events : ℕ) (trace bytes : List ℕ) → Each (λ byte. byte ≡ newline → ⊥) bytes
+    → let n = noted line numbers table events in
+    let l = lineOfWords (wordsOf bytes) in
+    let r = bytesRead (read n trace) (bytes ++ (newline ∷ [])) in
+    (after n l .wrong ≡ false → r ≡ read (after n l) (traceAfter trace events l))
+    × (after n l .wrong ≡ true
+    → (r .notes .wrong ≡ true) × (r .notes .line ≡ line) × (expectedBy (r .notes) ≡ expectedBy n) × (r .trace ≡ trace))
+
+-- Words are told apart by the numbers as which they are held, however many letters they have.
+abbrev pub Letter : ℕ → Type 0
+Letter byte = (code "a" ≤ byte) × (byte ≤ code "z")
+
+abbrev pub WordsTell : Type 0
+WordsTell = (a b : List ℕ) → Each Letter a → Each Letter b → heldAfter 0 a ≡ heldAfter 0 b → a ≡ b
+
+-- Notes may be read in pieces: it makes no difference where they are cut.
+abbrev pub PiecesJoin : Type 0
+PiecesJoin = (r : Read) (a b : List ℕ) → bytesRead r (a ++ b) ≡ bytesRead (bytesRead r a) b
+
+-- What is shown of a file is composed to that file, byte for byte, whatever stood in the buffers that are lent for the trace and the file, if they have the room.
+abbrev pub ShownComposes : Type 0
+ShownComposes =
+    (file buffer out : List ℕ) → Bytes file → isLaidOut file ≡ true → eventsIn (traceIn file) ≤ eventsIn buffer → length file ≤ length out
+    → let all = bytesRead (read started buffer) (notesOf (tableIn file) (traceIn file)) in
+    let last = ended (all .notes) (all .trace) in
+    filedBy (last .notes) (last .trace) out ≡ filed (Written (length file)) (file ++ drop (length file) out)
+
+-- Where no file is written, no byte of its buffer changes.
+abbrev pub NothingElseWritten : Type 0
+NothingElseWritten =
+    (n : Notes) (trace out : List ℕ) → ((len : ℕ) → filedBy n trace out .reply ≡ Written len → ⊥) → filedBy n trace out .out ≡ out
+
+-- what composing makes of some notes, in buffers of zeros for so many events and a file of so many bytes
+abbrev pub composedIn : ℕ → ℕ → List ℕ → Filed
+composedIn events size notes =
+    let all = bytesRead (read started (replicate (event-size * events) 0)) notes in
+    let last = ended (all .notes) (all .trace) in
+    filedBy (last .notes) (last .trace) (replicate size 0)
+
+-- Notes of listing (P), as they might be written by hand, are composed to the 234 bytes of its file.
+abbrev pub hand-written : List ℕ
+hand-written =
+    ascii "# listing (P)\nworst 25000\n  span  1000000\npadding 1 # the default\n\nstream 25000 250000\nstream 175000 500000\narrival 1 100\nturn\ndone 5000\nturn#\nclock 0105000\nturn\narrival 2 900\nturn\nclock 106000\ndone 25000 \nclock 160000"
+
+abbrev pub ListingComposes : Type 0
+ListingComposes = composedIn 11 234 hand-written ≡ filed (Written 234) listing-file
+
+-- Each case of `Cases` comes out as it stands there.
+abbrev pub CasesHold : Type 0
+CasesHold = map (λ (k : Case). composedIn 2 106 (ascii (k .notes)) .reply) cases ≡ map (λ (k : Case). k .answer) cases

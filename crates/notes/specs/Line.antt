@@ -1,0 +1,124 @@
+-- The lines of notes: which there are, what is read as each, and how each is shown.
+use mathlib.Core.Bool.{Bool}
+use mathlib.Core.List.{List, [], _∷_, _++_}
+use Prim.Native.Nat.{ℕ, zero, suc, _+_, _-_, _*_, _^_}
+use Prim.Native.String.{String}
+use lib.Dec.{ltb, eqb}
+use Rattle.table.specs.Fold.{if}
+use Rattle.table.specs.Ranges.{streams-max}
+use Rattle.table.specs.Admission.{reservedAt, periodAt}
+use Rattle.table.specs.declared.Table.{Table}
+use Rattle.file.specs.Reading.{eventsIn, eventAt}
+use Rattle.file.specs.declared.event.Event.{Event}
+use Rattle.file.specs.declared.event.Event.the-variants.{Arrival, Turn, OwnTurn, Done, Clock, Malformed}
+use Rattle.listing.specs.Line.{ascii, rendered, wordedFields}
+use Rattle.notes.specs.declared.line.Line.{Line}
+use Rattle.notes.specs.declared.line.Line.the-variants.{Blank, Worst, Span, Padding, Stream, Call, Wrong}
+use Rattle.notes.specs.declared.draft.Place.{Place}
+use Rattle.notes.specs.declared.draft.Place.the-variants.{Between, Within, Comment, Amiss}
+use Rattle.notes.specs.declared.draft.Draft.{Draft}
+
+-- a word as it is held: its letters are digits to the base 256
+unfoldable pub heldAfter : ℕ → List ℕ → ℕ
+heldAfter n [] = n
+heldAfter n (letter ∷ rest) = heldAfter (n * 256 + letter) rest
+
+abbrev pub held : String → ℕ
+held word = heldAfter 0 (ascii word)
+
+-- a number of the table has 32 bits, the stream of an event eight
+abbrev pub inWord : ℕ → Bool
+inWord n = ltb n (2 ^ 32)
+
+abbrev pub inByte : ℕ → Bool
+inByte n = ltb n (2 ^ 8)
+
+-- the line of a word alone
+unfoldable pub wordLine : ℕ → Line
+wordLine word = if (eqb word (held "turn")) (Call Turn) Wrong
+
+-- the line of a word and a number
+unfoldable pub tableLine : ℕ → ℕ → Line
+tableLine word n =
+    if (eqb word (held "worst")) (Worst n)
+    (if (eqb word (held "span")) (Span n)
+    (if (eqb word (held "padding")) (Padding n)
+    Wrong))
+
+unfoldable pub numberLine : ℕ → ℕ → Line
+numberLine word n =
+    if (eqb word (held "done")) (Call (Done n))
+    (if (eqb word (held "clock")) (Call (Clock n))
+    (if (inWord n) (tableLine word n)
+    Wrong))
+
+-- the line of a word and two numbers
+unfoldable pub streamLine : ℕ → ℕ → Line
+streamLine a b = if (inWord a) (if (inWord b) (Stream a b) Wrong) Wrong
+
+unfoldable pub pairLine : ℕ → ℕ → ℕ → Line
+pairLine word a b =
+    if (eqb word (held "stream")) (streamLine a b)
+    (if (inByte a)
+    (if (eqb word (held "arrival")) (Call (Arrival a b))
+    (if (eqb word (held "own")) (Call (OwnTurn a b))
+    Wrong))
+    Wrong)
+
+-- the line that has been read, by how many fields it has
+unfoldable pub fieldsLine : Draft → Line
+fieldsLine d =
+    if (eqb (d .fields) 0) Blank
+    (if (eqb (d .fields) 1) (wordLine (d .word))
+    (if (eqb (d .fields) 2) (numberLine (d .word) (d .first))
+    (pairLine (d .word) (d .first) (d .second))))
+
+abbrev pub placeLine : Place → Draft → Line
+placeLine Between d = fieldsLine d
+placeLine Within d = fieldsLine d
+placeLine Comment d = fieldsLine d
+placeLine Amiss d = Wrong
+
+abbrev pub lineOf : Draft → Line
+lineOf d = placeLine (d .place) d
+
+-- the fields of a line that is shown. What is no line of notes is shown as an empty one.
+abbrev pub eventShown : Event → List (List ℕ)
+eventShown (Arrival stream place) = wordedFields (ascii "arrival") (stream ∷ place ∷ [])
+eventShown Turn = wordedFields (ascii "turn") []
+eventShown (OwnTurn stream index) = wordedFields (ascii "own") (stream ∷ index ∷ [])
+eventShown (Done duration) = wordedFields (ascii "done") (duration ∷ [])
+eventShown (Clock time) = wordedFields (ascii "clock") (time ∷ [])
+eventShown Malformed = wordedFields [] []
+
+abbrev pub lineShown : Line → List (List ℕ)
+lineShown (Worst n) = wordedFields (ascii "worst") (n ∷ [])
+lineShown (Span n) = wordedFields (ascii "span") (n ∷ [])
+lineShown (Padding n) = wordedFields (ascii "padding") (n ∷ [])
+lineShown (Stream reserved period) = wordedFields (ascii "stream") (reserved ∷ period ∷ [])
+lineShown (Call event) = eventShown event
+lineShown Blank = wordedFields [] []
+lineShown Wrong = wordedFields [] []
+
+-- the lines of a table and a trace, in order and counted from 0: its three numbers, its streams, and the events. A table has eight places for streams.
+unfoldable pub streamAt : Table → ℕ → Line
+streamAt t i = if (ltb i streams-max) (Stream (reservedAt t i) (periodAt t i)) Wrong
+
+unfoldable pub afterNumbers : Table → List ℕ → ℕ → Line
+afterNumbers t trace i = if (ltb i (t .count)) (streamAt t i) (Call (eventAt trace (i - t .count)))
+
+unfoldable pub lineAt : Table → List ℕ → ℕ → Line
+lineAt t trace i =
+    if (eqb i 0) (Worst (t .worst))
+    (if (eqb i 1) (Span (t .span))
+    (if (eqb i 2) (Padding (t .padding))
+    (afterNumbers t trace (i - 3))))
+
+-- the first n lines of the notes of a table and a trace, as they are printed
+unfoldable pub shownTo : Table → List ℕ → ℕ → List ℕ
+shownTo t trace zero = []
+shownTo t trace (suc n) = shownTo t trace n ++ rendered (lineShown (lineAt t trace n))
+
+-- all of them
+abbrev pub notesOf : Table → List ℕ → List ℕ
+notesOf t trace = shownTo t trace (3 + t .count + eventsIn trace)

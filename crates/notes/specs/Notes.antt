@@ -1,0 +1,171 @@
+-- Notes, read line by line into a table and a trace: the three table numbers in order, then streams, then events.
+use mathlib.Core.Bool.{Bool, true, false, _&&_, _||_}
+use mathlib.Core.List.{List, [], _∷_}
+use Prim.Native.Nat.{ℕ, _+_, _-_, _*_, _^_}
+use lib.Dec.{leb, ltb, eqb}
+use lib.ListN.{length, take, replicate, set}
+use Rattle.table.specs.Fold.{if}
+use Rattle.table.specs.Ranges.{streams-max}
+use Rattle.table.specs.declared.Table.{Table}
+use Rattle.file.specs.File.{events-max, event-size}
+use Rattle.file.specs.Reading.{eventsIn}
+use Rattle.file.specs.Writing.{writeOf, writtenOn, withEvent}
+use Rattle.file.specs.declared.Writing.{Writing}
+use Rattle.listing.specs.Line.{newline}
+use Rattle.notes.specs.declared.Notes.{Notes}
+use Rattle.notes.specs.declared.Composed.{Composed}
+use Rattle.notes.specs.declared.Composed.the-variants.{Written, Wrong, Unfinished, Refused}
+use Rattle.notes.specs.declared.Expected.{Expected}
+use Rattle.notes.specs.declared.Expected.the-variants.{Worst, Span, Padding, StreamOrEvent, Event, NoMore}
+use Rattle.notes.specs.declared.line.Line.{Line}
+use Rattle.notes.specs.Draft.{blank, withByte}
+use Rattle.notes.specs.Line.{lineOf}
+
+-- notes at the start of a line: its number, how many table numbers have been read, the table so far, and how many events
+abbrev pub noted : ℕ → ℕ → Table → ℕ → Notes
+noted line numbers table events =
+    record { line = line; numbers = numbers; table = table; events = events; draft = blank; wrong = false }
+
+abbrev pub no-table : Table
+no-table = record { worst = 0; span = 0; padding = 0; count = 0; reserved = replicate 8 0; period = replicate 8 0 }
+
+abbrev pub started : Notes
+started = noted 1 0 no-table 0
+
+-- the same notes, of which the line that is being read is wrong
+abbrev pub stopped : Notes → Notes
+stopped n =
+    record { line = n .line; numbers = n .numbers; table = n .table; events = n .events; draft = n .draft; wrong = true }
+
+-- the number of the line after this one; a machine's number stays at its highest
+unfoldable pub nextLine : ℕ → ℕ
+nextLine line = if (ltb line (2 ^ 64 - 1)) (line + 1) line
+
+-- the notes after a right line, which has given them this many table numbers, this table and this many events
+abbrev pub advanced : Notes → ℕ → Table → ℕ → Notes
+advanced n numbers table events = noted (nextLine (n .line)) numbers table events
+
+-- a table with one number set, and with a stream more
+abbrev pub withWorst : Table → ℕ → Table
+withWorst t x =
+    record { worst = x; span = t .span; padding = t .padding; count = t .count; reserved = t .reserved; period = t .period }
+
+abbrev pub withSpan : Table → ℕ → Table
+withSpan t x =
+    record { worst = t .worst; span = x; padding = t .padding; count = t .count; reserved = t .reserved; period = t .period }
+
+abbrev pub withPadding : Table → ℕ → Table
+withPadding t x =
+    record { worst = t .worst; span = t .span; padding = x; count = t .count; reserved = t .reserved; period = t .period }
+
+abbrev pub withStream : Table → ℕ → ℕ → Table
+withStream t e p =
+    record {
+      worst = t .worst;
+      span = t .span;
+      padding = t .padding;
+      count = t .count + 1;
+      reserved = set (t .reserved) (t .count) e;
+      period = set (t .period) (t .count) p;
+    }
+
+-- "worst, span, padding in this order, once each; then up to eight streams; then up to 4,000 events": the notes after a line
+unfoldable pub afterNumber : Notes → ℕ → Table → Notes
+afterNumber n place table = if (eqb (n .numbers) place) (advanced n (place + 1) table (n .events)) (stopped n)
+
+unfoldable pub afterStream : Notes → ℕ → ℕ → Notes
+afterStream n e p =
+    if (eqb (n .numbers) 3 && eqb (n .events) 0 && ltb (n .table .count) streams-max)
+    (advanced n 3 (withStream (n .table) e p) 0)
+    (stopped n)
+
+unfoldable pub afterEvent : Notes → Notes
+afterEvent n = if (eqb (n .numbers) 3 && ltb (n .events) events-max) (advanced n 3 (n .table) (n .events + 1)) (stopped n)
+
+abbrev pub after : Notes → Line → Notes
+after n Line.Blank = advanced n (n .numbers) (n .table) (n .events)
+after n (Line.Worst x) = afterNumber n 0 (withWorst (n .table) x)
+after n (Line.Span x) = afterNumber n 1 (withSpan (n .table) x)
+after n (Line.Padding x) = afterNumber n 2 (withPadding (n .table) x)
+after n (Line.Stream e p) = afterStream n e p
+after n (Line.Call event) = afterEvent n
+after n Line.Wrong = stopped n
+
+-- what is expected where a line is wrong, or where the notes end too early
+unfoldable pub expectedBy : Notes → Expected
+expectedBy n =
+    if (eqb (n .numbers) 0) Worst
+    (if (eqb (n .numbers) 1) Span
+    (if (eqb (n .numbers) 2) Padding
+    (if (eqb (n .events) 0 && ltb (n .table .count) streams-max) StreamOrEvent
+    (if (ltb (n .events) events-max) Event
+    NoMore))))
+
+-- what has been read, and the trace with the events so far at its start
+pub record Read : Type 0 where
+  pub notes : Notes
+  pub trace : List ℕ
+
+abbrev pub read : Notes → List ℕ → Read
+read n trace = record { notes = n; trace = trace }
+
+-- an event goes to the trace, behind those before it
+abbrev pub traceAfter : List ℕ → ℕ → Line → List ℕ
+traceAfter trace i Line.Blank = trace
+traceAfter trace i (Line.Worst x) = trace
+traceAfter trace i (Line.Span x) = trace
+traceAfter trace i (Line.Padding x) = trace
+traceAfter trace i (Line.Stream e p) = trace
+traceAfter trace i (Line.Call event) = withEvent trace i event
+traceAfter trace i Line.Wrong = trace
+
+-- a line has ended: a wrong one leaves the trace as it was
+unfoldable pub lineEnded : Notes → List ℕ → Read
+lineEnded n trace =
+    let line = lineOf (n .draft) in
+    let next = after n line in
+    read next (if (next .wrong) trace (traceAfter trace (n .events) line))
+
+-- the line that is being read has a byte more
+abbrev pub lengthened : Notes → ℕ → Notes
+lengthened n byte =
+    record { line = n .line; numbers = n .numbers; table = n .table; events = n .events; draft = withByte (n .draft) byte; wrong = n .wrong }
+
+-- a byte more, and any number of them. After a wrong line nothing changes.
+unfoldable pub byteRead : Read → ℕ → Read
+byteRead r byte =
+    if (r .notes .wrong) r
+    (if (eqb byte newline) (lineEnded (r .notes) (r .trace))
+    (read (lengthened (r .notes) byte) (r .trace)))
+
+unfoldable pub bytesRead : Read → List ℕ → Read
+bytesRead r [] = r
+bytesRead r (byte ∷ rest) = bytesRead (byteRead r byte) rest
+
+-- what composing answers, and the buffer afterwards
+pub record Filed : Type 0 where
+  pub reply : Composed
+  pub out : List ℕ
+
+abbrev pub filed : Composed → List ℕ → Filed
+filed reply out = record { reply = reply; out = out }
+
+abbrev pub told : Writing → Composed
+told (Writing.Written len) = Written len
+told (Writing.Refused number) = Refused number
+
+-- the events at the start of a trace
+abbrev pub traceOfNotes : Notes → List ℕ → List ℕ
+traceOfNotes n trace = take (event-size * n .events) trace
+
+-- Notes that are right and whole are written as a session file; of others nothing is. 17 is for a trace that is shorter than its events, which no notes have that were read into it.
+unfoldable pub filedBy : Notes → List ℕ → List ℕ → Filed
+filedBy n trace out =
+    if (n .wrong) (filed (Wrong (n .line) (expectedBy n)) out)
+    (if (ltb (n .numbers) 3) (filed (Unfinished (expectedBy n)) out)
+    (if (ltb (eventsIn trace) (n .events)) (filed (Refused 17) out)
+    (filed (told (writeOf (n .table) (traceOfNotes n trace) out)) (writtenOn (n .table) (traceOfNotes n trace) out))))
+
+-- the end of the notes ends their last line
+abbrev pub ended : Notes → List ℕ → Read
+ended n trace = byteRead (read n trace) newline

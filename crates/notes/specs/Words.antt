@@ -1,0 +1,50 @@
+-- The notation, said of a whole line at once: its words, and the line that they make. `Laws` has that reading byte by byte comes to the same.
+use mathlib.Core.Bool.{Bool, true, _&&_}
+use mathlib.Core.List.{List, [], _∷_, _++_}
+use Prim.Native.Nat.{ℕ, _^_}
+use lib.Dec.{ltb, eqb}
+use Rattle.table.specs.Fold.{if}
+use Rattle.listing.specs.Line.{space}
+use Rattle.listing.specs.Laws.{speltAfter}
+use Rattle.notes.specs.declared.line.Line.{Line}
+use Rattle.notes.specs.declared.line.Line.the-variants.{Blank, Wrong}
+use Rattle.notes.specs.Draft.{hash, isLetter, isDigit}
+use Rattle.notes.specs.Line.{heldAfter, wordLine, numberLine, pairLine}
+
+-- "anything after # is a comment": what stands before it
+unfoldable pub uncommented : List ℕ → List ℕ
+uncommented [] = []
+uncommented (byte ∷ rest) = if (eqb byte hash) [] (byte ∷ uncommented rest)
+
+-- "Words are parted by spaces (runs of spaces allowed)": the words of some bytes, after the start of one; an empty one is none
+abbrev pub ended-word : List ℕ → List (List ℕ) → List (List ℕ)
+ended-word [] words = words
+ended-word (byte ∷ word) words = (byte ∷ word) ∷ words
+
+unfoldable pub wordsAfter : List ℕ → List ℕ → List (List ℕ)
+wordsAfter word [] = ended-word word []
+wordsAfter word (byte ∷ rest) =
+    if (eqb byte space) (ended-word word (wordsAfter [] rest)) (wordsAfter (word ++ (byte ∷ [])) rest)
+
+abbrev pub wordsOf : List ℕ → List (List ℕ)
+wordsOf line = wordsAfter [] (uncommented line)
+
+-- a name is letters, held in 64 bits, and so up to eight of them; a number is digits that spell one of 64 bits
+unfoldable pub allOf : (ℕ → Bool) → List ℕ → Bool
+allOf test [] = true
+allOf test (byte ∷ rest) = test byte && allOf test rest
+
+unfoldable pub isName : List ℕ → Bool
+isName word = allOf isLetter word && ltb (heldAfter 0 word) (2 ^ 64)
+
+unfoldable pub isNumber : List ℕ → Bool
+isNumber word = allOf isDigit word && ltb (speltAfter 0 word) (2 ^ 64)
+
+-- the line of some words: a name, and up to two numbers
+abbrev pub lineOfWords : List (List ℕ) → Line
+lineOfWords [] = Blank
+lineOfWords (name ∷ []) = if (isName name) (wordLine (heldAfter 0 name)) Wrong
+lineOfWords (name ∷ a ∷ []) = if (isName name && isNumber a) (numberLine (heldAfter 0 name) (speltAfter 0 a)) Wrong
+lineOfWords (name ∷ a ∷ b ∷ []) =
+    if (isName name && isNumber a && isNumber b) (pairLine (heldAfter 0 name) (speltAfter 0 a) (speltAfter 0 b)) Wrong
+lineOfWords (name ∷ a ∷ b ∷ c ∷ more) = Wrong

@@ -1,0 +1,210 @@
+// A line that is being read, byte by byte.
+ghost use mathlib.Core.Path.{_≡_};
+ghost use mathlib.Core.Bool.{true};
+ghost use Rattle.notes.specs.Draft.{blank, amiss, placed, isLetter, lettered, isDigit, longer, lengthens, firstLonger, secondLonger, inField, begun, afterGap, afterField, withByte};
+
+// Where in a line its last byte stands: between fields, within one, in a comment, or where no right line can follow.
+pub enum Place {
+    Between,
+    Within,
+    Comment,
+    Amiss,
+}
+
+// A line so far: how many fields have begun, the letters of the first as digits to the base 256, and the numbers of the next two.
+pub struct Draft {
+    pub place: Place,
+    pub fields: u64,
+    pub word: u64,
+    pub first: u64,
+    pub second: u64,
+}
+
+impl Draft {
+    // Every word of seven letters is below this, and none of eight.
+    const SEVEN_LETTERS: u64 = 72_057_594_037_927_936;
+
+    // A line before its first byte.
+    pub fn blank() -> Draft
+        ensures { λ r. ⌜ r ≡ blank ⌝ }
+    {
+        Draft {
+            place: Place::Between,
+            fields: 0,
+            word: 0,
+            first: 0,
+            second: 0,
+        }
+    }
+
+    // A line of which no right one can come.
+    fn amiss() -> Draft
+        ensures { λ r. ⌜ r ≡ amiss ⌝ }
+    {
+        Draft {
+            place: Place::Amiss,
+            fields: 0,
+            word: 0,
+            first: 0,
+            second: 0,
+        }
+    }
+
+    // The line with a byte more, which is not its newline.
+    pub fn with(self, byte: u8) -> Draft
+        ensures { λ r. ⌜ r ≡ withByte self byte ⌝ }
+    {
+        let place = self.place;
+        match place {
+            Place::Between => self.after_gap(byte),
+            Place::Within => self.after_field(byte),
+            Place::Comment => self,
+            Place::Amiss => self,
+        }
+    }
+
+    // A byte after a space, or at the start.
+    fn after_gap(self, byte: u8) -> Draft
+        ensures { λ r. ⌜ r ≡ afterGap self byte ⌝ }
+    {
+        if byte == b' ' {
+            return self;
+        }
+        if byte == b'#' {
+            return self.at(Place::Comment);
+        }
+        self.begun(byte)
+    }
+
+    // A byte after one of a field.
+    fn after_field(self, byte: u8) -> Draft
+        ensures { λ r. ⌜ r ≡ afterField self byte ⌝ }
+    {
+        if byte == b' ' {
+            return self.at(Place::Between);
+        }
+        if byte == b'#' {
+            return self.at(Place::Comment);
+        }
+        self.in_field(byte)
+    }
+
+    fn at(self, place: Place) -> Draft
+        ensures { λ r. ⌜ r ≡ placed self place ⌝ }
+    {
+        Draft {
+            place,
+            fields: self.fields,
+            word: self.word,
+            first: self.first,
+            second: self.second,
+        }
+    }
+
+    // The first byte of a field; a fourth one is too many.
+    fn begun(self, byte: u8) -> Draft
+        ensures { λ r. ⌜ r ≡ begun self byte ⌝ }
+    {
+        if self.fields < 3 {
+            let next = Draft {
+                place: Place::Within,
+                fields: self.fields + 1,
+                word: self.word,
+                first: self.first,
+                second: self.second,
+            };
+            return next.in_field(byte);
+        }
+        Draft::amiss()
+    }
+
+    // A byte of the field that is being read: a letter in the first, a digit in the second and the third.
+    fn in_field(self, byte: u8) -> Draft
+        ensures { λ r. ⌜ r ≡ inField self byte ⌝ }
+    {
+        if self.fields == 1 {
+            return self.lettered(byte);
+        }
+        if self.fields == 2 {
+            return self.first_longer(byte);
+        }
+        self.second_longer(byte)
+    }
+
+    // A letter more in the word.
+    fn lettered(self, byte: u8) -> Draft
+        ensures { λ r. ⌜ r ≡ lettered self byte ⌝ }
+    {
+        if is_letter(byte) & (self.word < Draft::SEVEN_LETTERS) {
+            return Draft {
+                place: Place::Within,
+                fields: 1,
+                word: self.word * 256 + byte as u64,
+                first: self.first,
+                second: self.second,
+            };
+        }
+        Draft::amiss()
+    }
+
+    // A digit more in the first number.
+    fn first_longer(self, byte: u8) -> Draft
+        ensures { λ r. ⌜ r ≡ firstLonger self byte ⌝ }
+    {
+        if lengthens(self.first, byte) {
+            return Draft {
+                place: Place::Within,
+                fields: 2,
+                word: self.word,
+                first: longer(self.first, byte),
+                second: self.second,
+            };
+        }
+        Draft::amiss()
+    }
+
+    // A digit more in the second number.
+    fn second_longer(self, byte: u8) -> Draft
+        ensures { λ r. ⌜ r ≡ secondLonger self byte ⌝ }
+    {
+        if lengthens(self.second, byte) {
+            return Draft {
+                place: Place::Within,
+                fields: 3,
+                word: self.word,
+                first: self.first,
+                second: longer(self.second, byte),
+            };
+        }
+        Draft::amiss()
+    }
+}
+
+fn is_letter(byte: u8) -> bool
+    ensures { λ r. ⌜ r ≡ isLetter byte ⌝ }
+{
+    (b'a' <= byte) & (byte <= b'z')
+}
+
+fn is_digit(byte: u8) -> bool
+    ensures { λ r. ⌜ r ≡ isDigit byte ⌝ }
+{
+    (b'0' <= byte) & (byte <= b'9')
+}
+
+// Whether a byte is a digit that a number of 64 bits has room for behind n.
+fn lengthens(n: u64, byte: u8) -> bool
+    ensures { λ r. ⌜ r ≡ lengthens n byte ⌝ }
+{
+    if is_digit(byte) {
+        return n <= (u64::MAX - (byte - b'0') as u64) / 10;
+    }
+    false
+}
+
+fn longer(n: u64, byte: u8) -> u64
+    requires { ⌜ lengthens n byte ≡ true ⌝ }
+    ensures { λ r. ⌜ r ≡ longer n byte ⌝ }
+{
+    n * 10 + (byte - b'0') as u64
+}

@@ -1,0 +1,334 @@
+// Notes: a session written by hand, a line for each table number, stream and event.
+// They are read byte by byte into a table and a trace; and a line of them is shown.
+mod draft;
+mod line;
+
+pub use draft::Draft;
+pub use draft::Place;
+use file::Event;
+use file::Writing;
+pub use line::Line;
+pub use line::line_at;
+use line::line_of;
+pub use line::shown;
+use table::Table;
+ghost use mathlib.Core.Path.{_≡_};
+ghost use Prim.Native.Nat.{_<_};
+ghost use Rattle.notes.specs.Notes.{started, stopped, nextLine, advanced, withWorst, withSpan, withPadding, withStream, afterNumber, afterStream, afterEvent, after, expectedBy, lengthened, told, read, traceAfter, lineEnded, byteRead, bytesRead, filedBy, ended};
+
+// What has been read of some notes: the number of the line that is being read, how many of the three table numbers there are, the table so far,
+// how many events there are, the line so far, and whether it is wrong. Then nothing more is read.
+pub struct Notes {
+    pub line: u64,
+    pub numbers: u64,
+    pub table: Table,
+    pub events: usize,
+    pub draft: Draft,
+    pub wrong: bool,
+}
+
+// What may stand in the next line.
+pub enum Expected {
+    Worst,
+    Span,
+    Padding,
+    StreamOrEvent,
+    Event,
+    NoMore,
+}
+
+// What composing says: how long the file is, which line is wrong, that the notes end too early, or the refusal of the writer.
+pub enum Composed {
+    Written(usize),
+    Wrong { line: u64, expected: Expected },
+    Unfinished(Expected),
+    Refused(u64),
+}
+
+// Reads some bytes more of some notes, whose events are at the start of a trace.
+pub fn feed(notes: Notes, bytes: &[u8], trace: &mut [u8]) -> Notes
+    ensures { λ r. ⌜ r ≡ bytesRead (read notes (now (trace .entry))) (now (bytes .entry)) .notes ⌝ }
+    ensures { λ _. ⌜ now (trace .exit) ≡ bytesRead (read notes (now (trace .entry))) (now (bytes .entry)) .trace ⌝ }
+{
+    let mut so_far = notes;
+    let mut i = 0;
+    while i < bytes.len() {
+        so_far = with_byte(so_far, bytes[i], trace);
+        i += 1;
+    }
+    so_far
+}
+
+// Ends some notes, and writes their session file at the start of a buffer; of notes that are wrong or not whole it writes nothing.
+pub fn finish(notes: Notes, trace: &mut [u8], out: &mut [u8]) -> Composed
+    ensures { λ r. ⌜ r ≡ filedBy (ended notes (now (trace .entry)) .notes) (ended notes (now (trace .entry)) .trace) (now (out .entry)) .reply ⌝ }
+    ensures { λ _. ⌜ now (trace .exit) ≡ ended notes (now (trace .entry)) .trace ⌝ }
+    ensures { λ _. ⌜ now (out .exit) ≡ filedBy (ended notes (now (trace .entry)) .notes) (ended notes (now (trace .entry)) .trace) (now (out .entry)) .out ⌝ }
+{
+    let last = with_byte(notes, b'\n', trace);
+    last.filed(trace, out)
+}
+
+// One byte more.
+fn with_byte(notes: Notes, byte: u8, trace: &mut [u8]) -> Notes
+    ensures { λ r. ⌜ r ≡ byteRead (read notes (now (trace .entry))) byte .notes ⌝ }
+    ensures { λ _. ⌜ now (trace .exit) ≡ byteRead (read notes (now (trace .entry))) byte .trace ⌝ }
+{
+    if notes.wrong {
+        return notes;
+    }
+    if byte == b'\n' {
+        return end_line(notes, trace);
+    }
+    notes.lengthened(byte)
+}
+
+// The line has ended: an event goes to the trace, behind those before it.
+fn end_line(notes: Notes, trace: &mut [u8]) -> Notes
+    ensures { λ r. ⌜ r ≡ lineEnded notes (now (trace .entry)) .notes ⌝ }
+    ensures { λ _. ⌜ now (trace .exit) ≡ lineEnded notes (now (trace .entry)) .trace ⌝ }
+{
+    let draft = notes.draft;
+    let line = line_of(draft);
+    let next = notes.after(line);
+    if next.wrong {
+        return next;
+    }
+    put_line(trace, notes.events, line);
+    next
+}
+
+// Stores the event of a line at i of a trace; of another line nothing.
+fn put_line(trace: &mut [u8], i: usize, line: Line)
+    ensures { λ _. ⌜ now (trace .exit) ≡ traceAfter (now (trace .entry)) i line ⌝ }
+{
+    match line {
+        Line::Blank => {}
+        Line::Worst(_) => {}
+        Line::Span(_) => {}
+        Line::Padding(_) => {}
+        Line::Stream {
+            reserved: _,
+            period: _,
+        } => {}
+        Line::Call(event) => file::put_event(trace, i, event),
+        Line::Wrong => {}
+    }
+}
+
+impl Notes {
+    // How many numbers of the table come before its streams.
+    const TABLE_NUMBERS: u64 = 3;
+
+    // No notes yet.
+    pub fn start() -> Notes
+        ensures { λ r. ⌜ r ≡ started ⌝ }
+    {
+        let table = Table {
+            worst: 0,
+            span: 0,
+            padding: 0,
+            count: 0,
+            reserved: [0; 8],
+            period: [0; 8],
+        };
+        Notes {
+            line: 1,
+            numbers: 0,
+            table,
+            events: 0,
+            draft: Draft::blank(),
+            wrong: false,
+        }
+    }
+
+    // The notes after a line: the table numbers in order, then streams, then events.
+    fn after(self, line: Line) -> Notes
+        ensures { λ r. ⌜ r ≡ after self line ⌝ }
+    {
+        match line {
+            Line::Blank => self.after_blank(),
+            Line::Worst(n) => self.after_worst(n),
+            Line::Span(n) => self.after_span(n),
+            Line::Padding(n) => self.after_padding(n),
+            Line::Stream { reserved, period } => self.after_stream(reserved, period),
+            Line::Call(_) => self.after_event(),
+            Line::Wrong => self.stopped(),
+        }
+    }
+
+    fn after_blank(self) -> Notes
+        ensures { λ r. ⌜ r ≡ advanced self (self .numbers) (self .table) (self .events) ⌝ }
+    {
+        let table = self.table;
+        self.advanced(self.numbers, table, self.events)
+    }
+
+    fn after_worst(self, n: u32) -> Notes
+        ensures { λ r. ⌜ r ≡ afterNumber self 0 (withWorst (self .table) n) ⌝ }
+    {
+        let mut table = self.table;
+        table.worst = n;
+        self.after_number(0, table)
+    }
+
+    fn after_span(self, n: u32) -> Notes
+        ensures { λ r. ⌜ r ≡ afterNumber self 1 (withSpan (self .table) n) ⌝ }
+    {
+        let mut table = self.table;
+        table.span = n;
+        self.after_number(1, table)
+    }
+
+    fn after_padding(self, n: u32) -> Notes
+        ensures { λ r. ⌜ r ≡ afterNumber self 2 (withPadding (self .table) n) ⌝ }
+    {
+        let mut table = self.table;
+        table.padding = n;
+        self.after_number(2, table)
+    }
+
+    // The table with its number at this place, or a wrong line where another number has its turn.
+    fn after_number(self, place: u64, table: Table) -> Notes
+        requires { ⌜ place < 3 ⌝ }
+        ensures { λ r. ⌜ r ≡ afterNumber self place table ⌝ }
+    {
+        if self.numbers == place {
+            return self.advanced(place + 1, table, self.events);
+        }
+        self.stopped()
+    }
+
+    // One stream more: up to eight, before any event.
+    fn after_stream(self, reserved: u32, period: u32) -> Notes
+        ensures { λ r. ⌜ r ≡ afterStream self reserved period ⌝ }
+    {
+        if self.numbers != Notes::TABLE_NUMBERS {
+            return self.stopped();
+        }
+        if self.events != 0 {
+            return self.stopped();
+        }
+        let mut table = self.table;
+        let count = table.count;
+        if Table::STREAMS_MAX <= count {
+            return self.stopped();
+        }
+        table.reserved[count] = reserved;
+        table.period[count] = period;
+        table.count = count + 1;
+        self.advanced(Notes::TABLE_NUMBERS, table, 0)
+    }
+
+    // One event more, up to 4,000.
+    fn after_event(self) -> Notes
+        ensures { λ r. ⌜ r ≡ afterEvent self ⌝ }
+    {
+        if self.numbers != Notes::TABLE_NUMBERS {
+            return self.stopped();
+        }
+        if Event::MOST <= self.events {
+            return self.stopped();
+        }
+        let table = self.table;
+        self.advanced(Notes::TABLE_NUMBERS, table, self.events + 1)
+    }
+
+    // The notes after a right line, with what it has given them.
+    fn advanced(self, numbers: u64, table: Table, events: usize) -> Notes
+        ensures { λ r. ⌜ r ≡ advanced self numbers table events ⌝ }
+    {
+        Notes {
+            line: next_line(self.line),
+            numbers,
+            table,
+            events,
+            draft: Draft::blank(),
+            wrong: false,
+        }
+    }
+
+    // The notes, of which the line that is being read is wrong.
+    fn stopped(self) -> Notes
+        ensures { λ r. ⌜ r ≡ stopped self ⌝ }
+    {
+        let mut next = self;
+        next.wrong = true;
+        next
+    }
+
+    // The line that is being read has a byte more.
+    fn lengthened(self, byte: u8) -> Notes
+        ensures { λ r. ⌜ r ≡ lengthened self byte ⌝ }
+    {
+        let draft = self.draft.with(byte);
+        let mut next = self;
+        next.draft = draft;
+        next
+    }
+
+    // What is expected where a line is wrong, or where the notes end too early.
+    fn expected(self) -> Expected
+        ensures { λ r. ⌜ r ≡ expectedBy self ⌝ }
+    {
+        if self.numbers == 0 {
+            return Expected::Worst;
+        }
+        if self.numbers == 1 {
+            return Expected::Span;
+        }
+        if self.numbers == 2 {
+            return Expected::Padding;
+        }
+        if (self.events == 0) & (self.table.count < Table::STREAMS_MAX) {
+            return Expected::StreamOrEvent;
+        }
+        if self.events < Event::MOST {
+            return Expected::Event;
+        }
+        Expected::NoMore
+    }
+
+    // Writes the session file of notes that have ended, where they are right and whole.
+    fn filed(self, trace: &[u8], out: &mut [u8]) -> Composed
+        ensures { λ r. ⌜ r ≡ filedBy self (now (trace .entry)) (now (out .entry)) .reply ⌝ }
+        ensures { λ _. ⌜ now (out .exit) ≡ filedBy self (now (trace .entry)) (now (out .entry)) .out ⌝ }
+    {
+        if self.wrong {
+            let expected = self.expected();
+            return Composed::Wrong {
+                line: self.line,
+                expected,
+            };
+        }
+        if self.numbers < Notes::TABLE_NUMBERS {
+            let expected = self.expected();
+            return Composed::Unfinished(expected);
+        }
+        let events = self.events;
+        if trace.len() / Event::SIZE < events {
+            return Composed::Refused(17);
+        }
+        let end = Event::SIZE * events;
+        let table = self.table;
+        told(file::write(table, &trace[..end], out))
+    }
+}
+
+fn next_line(line: u64) -> u64
+    ensures { λ r. ⌜ r ≡ nextLine line ⌝ }
+{
+    if line < u64::MAX {
+        return line + 1;
+    }
+    line
+}
+
+fn told(writing: Writing) -> Composed
+    ensures { λ r. ⌜ r ≡ told writing ⌝ }
+{
+    match writing {
+        Writing::Written(len) => Composed::Written(len),
+        Writing::Refused(number) => Composed::Refused(number),
+    }
+}

@@ -1,0 +1,68 @@
+-- `show` hands on the trace as a part of the file: an accepted file's trace lies within it, and it has few streams and events.
+use mathlib.Core.Path.{sym, _∙_}
+use native.Mathlib.Omega.{arith}
+use borrow.Author.Needs.{needs}
+use Rattle.file.proofs.Round.{accepted-is-within}
+use Rattle.show.proofs.show.Statement.{statement}
+use Rattle.show.proofs.show.Tie as tie
+
+read-requires : tie.Need-read-requires
+read-requires c κs = search needs
+
+enum-known-count : tie.Need-enum-known-count
+enum-known-count c = search needs
+
+enum-told : tie.Need-enum-told
+enum-told c = search needs
+
+refused-requires : tie.Need-refused-requires
+refused-requires c κs = search needs
+
+print-requires : tie.Need-print-requires
+print-requires c κs = search needs
+
+returns : tie.Need-returns
+returns c = search needs
+
+table-of-requires : tie.Need-table-of-requires
+table-of-requires c κs = search needs
+
+sub-print-lines : tie.Need-sub-print-lines
+sub-print-lines c = omega (arith, accepted-is-within _ _ _ _ _ (sym (c .before .before .before .before .read .ensures) ∙ c .before .before .count .given .1) .whole-events)
+
+part-print-lines-start : tie.Need-part-print-lines-start
+part-print-lines-start c = omega (arith, accepted-is-within _ _ _ _ _ (sym (c .before .before .before .before .read .ensures) ∙ c .before .before .count .given .1) .whole-events)
+
+part-print-lines-end : tie.Need-part-print-lines-end
+part-print-lines-end c = omega (arith, accepted-is-within _ _ _ _ _ (sym (c .before .before .before .before .read .ensures) ∙ c .before .before .count .given .1) .in-file)
+
+add-print-lines : tie.Need-add-print-lines
+add-print-lines c = omega (arith, accepted-is-within _ _ _ _ _ (sym (c .before .before .before .before .before .read .ensures) ∙ c .before .before .before .count .given .1) .count-high)
+
+add-print-lines-2 : tie.Need-add-print-lines-2
+add-print-lines-2 c = omega (arith, accepted-is-within _ _ _ _ _ (sym (c .before .before .before .before .before .read .ensures) ∙ c .before .before .before .count .given .1) .count-high, accepted-is-within _ _ _ _ _ (sym (c .before .before .before .before .before .read .ensures) ∙ c .before .before .before .count .given .1) .events-high)
+
+print-lines-requires : tie.Need-print-lines-requires
+print-lines-requires c κs = search needs
+
+returns-2 : tie.Need-returns-2
+returns-2 c = search needs
+
+pub show-spec : {M : Type 1} → statement M
+show-spec =
+    tie.close
+    (tie.spec
+    read-requires
+    enum-known-count
+    enum-told
+    refused-requires
+    print-requires
+    returns
+    table-of-requires
+    sub-print-lines
+    part-print-lines-start
+    part-print-lines-end
+    add-print-lines
+    add-print-lines-2
+    print-lines-requires
+    returns-2)

@@ -23,7 +23,7 @@ module _ (s : Session) where
   sums-none = refl
 
   pub sums-more : (k : ℕ) → record { charges = diskTime (sumsTo k .charges .0 + streamAt s k .charge .0); parts = sumsTo k .parts + (horizon s - streamAt s k .release .0) * streamAt s k .granted .0 * (s .span / streamAt s k .period) } ≡ sumsTo (k + 1)
-  unfolding sumTo scaledPart
+  unfolding sumTo
   sums-more k = rw (add-one)
 
   module _ (q : Sound s) where

@@ -1,9 +1,11 @@
 // What is answered to an image, by value.
 ghost use mathlib.Core.Path.{_≡_};
+ghost use Prim.Native.Nat.{_<_};
 ghost use Rattle.table.specs.Reservations.{tableOf};
-ghost use Rattle.shelf.specs.Image.{refusalIn, openedAs, toldAs, answeredAs, shownOf, viewedAs, stateAs, closingAs};
+ghost use Rattle.shelf.specs.Image.{refusalIn, openedAs, toldAs, answeredAs, slotOf, changeAs, shownOf, viewedAs, stateAs, closingAs};
 ghost use Rattle.shelf.specs.Filed.{readAs, writtenAs};
 use crate::Answered;
+use crate::Change;
 use crate::Filed;
 use crate::Image;
 use crate::Opening;
@@ -55,26 +57,57 @@ fn told(reply: Reply, call: Call) -> Told
     }
 }
 
+// Where the stream with a number stands among the eight; for a number that none has, the first.
+fn slot_of(number: u64) -> usize
+    ensures { λ r. ⌜ (r ≡ slotOf number) × (r < 8) ⌝ }
+{
+    if number == 0 {
+        return 0;
+    }
+    if 8 < number {
+        return 0;
+    }
+    (number - 1) as usize
+}
+
 // Each call has a function of its own, so that the compiler writes the call out where it is made: one function for all would cost two more copies of the session.
 // An image that stands for no session is refused 31 and handed back.
-pub(crate) fn arrival(image: Image, stream: u64, place: u64) -> Answered
-    ensures { λ r. ⌜ r ≡ answeredAs image (Call.Arrival stream place) ⌝ }
+pub(crate) fn arrival(image: Image, number: u64, place: u64) -> Change
+    ensures { λ r. ⌜ r ≡ changeAs image (Call.Arrival number place) ⌝ }
 {
-    let call = Call::Arrival { stream, place };
+    let call = Call::Arrival {
+        stream: number,
+        place: place,
+    };
+    let at = slot_of(number);
     if image.order != Image::NEAREST {
         let reply = told(Reply::Refused { number: 31 }, call);
-        return Answered {
-            session: image,
+        let stream = image.streams[at];
+        let clock = image.clock;
+        return Change {
+            at: at,
+            stream: stream,
+            clock: clock,
+            head: image.head,
+            served: image.served,
+            place: image.place,
             reply: reply,
         };
     }
     let session = image.session();
-    let answer = session.arrival(stream, place);
-    let after = Image::of(answer.session);
+    let answer = session.arrival(number, place);
+    let after = answer.session;
     let answered = answer.reply;
     let reply = told(answered, call);
-    Answered {
-        session: after,
+    let stream = after.streams[at];
+    let clock = after.clock;
+    Change {
+        at: at,
+        stream: stream,
+        clock: clock,
+        head: after.head,
+        served: after.served,
+        place: after.place,
         reply: reply,
     }
 }
@@ -101,68 +134,116 @@ pub(crate) fn turn(image: Image) -> Answered
     }
 }
 
-pub(crate) fn own_turn(image: Image, stream: u64, index: u64) -> Answered
-    ensures { λ r. ⌜ r ≡ answeredAs image (Call.OwnTurn stream index) ⌝ }
+pub(crate) fn own_turn(image: Image, number: u64, index: u64) -> Change
+    ensures { λ r. ⌜ r ≡ changeAs image (Call.OwnTurn number index) ⌝ }
 {
-    let call = Call::OwnTurn { stream, index };
+    let call = Call::OwnTurn {
+        stream: number,
+        index: index,
+    };
+    let at = slot_of(number);
     if image.order != Image::NEAREST {
         let reply = told(Reply::Refused { number: 31 }, call);
-        return Answered {
-            session: image,
+        let stream = image.streams[at];
+        let clock = image.clock;
+        return Change {
+            at: at,
+            stream: stream,
+            clock: clock,
+            head: image.head,
+            served: image.served,
+            place: image.place,
             reply: reply,
         };
     }
     let session = image.session();
-    let answer = session.own_turn(stream, index);
-    let after = Image::of(answer.session);
+    let answer = session.own_turn(number, index);
+    let after = answer.session;
     let answered = answer.reply;
     let reply = told(answered, call);
-    Answered {
-        session: after,
+    let stream = after.streams[at];
+    let clock = after.clock;
+    Change {
+        at: at,
+        stream: stream,
+        clock: clock,
+        head: after.head,
+        served: after.served,
+        place: after.place,
         reply: reply,
     }
 }
 
-pub(crate) fn done(image: Image, duration: u64) -> Answered
-    ensures { λ r. ⌜ r ≡ answeredAs image (Call.Done duration) ⌝ }
+pub(crate) fn done(image: Image, duration: u64) -> Change
+    ensures { λ r. ⌜ r ≡ changeAs image (Call.Done duration) ⌝ }
 {
     let call = Call::Done { duration };
+    let at = slot_of(image.served as u64);
     if image.order != Image::NEAREST {
         let reply = told(Reply::Refused { number: 31 }, call);
-        return Answered {
-            session: image,
+        let stream = image.streams[at];
+        let clock = image.clock;
+        return Change {
+            at: at,
+            stream: stream,
+            clock: clock,
+            head: image.head,
+            served: image.served,
+            place: image.place,
             reply: reply,
         };
     }
     let session = image.session();
     let answer = session.done(duration);
-    let after = Image::of(answer.session);
+    let after = answer.session;
     let answered = answer.reply;
     let reply = told(answered, call);
-    Answered {
-        session: after,
+    let stream = after.streams[at];
+    let clock = after.clock;
+    Change {
+        at: at,
+        stream: stream,
+        clock: clock,
+        head: after.head,
+        served: after.served,
+        place: after.place,
         reply: reply,
     }
 }
 
-pub(crate) fn clock(image: Image, time: u64) -> Answered
-    ensures { λ r. ⌜ r ≡ answeredAs image (Call.Clock time) ⌝ }
+pub(crate) fn clock(image: Image, time: u64) -> Change
+    ensures { λ r. ⌜ r ≡ changeAs image (Call.Clock time) ⌝ }
 {
     let call = Call::Clock { time };
+    let at: usize = 0;
     if image.order != Image::NEAREST {
         let reply = told(Reply::Refused { number: 31 }, call);
-        return Answered {
-            session: image,
+        let stream = image.streams[at];
+        let clock = image.clock;
+        return Change {
+            at: at,
+            stream: stream,
+            clock: clock,
+            head: image.head,
+            served: image.served,
+            place: image.place,
             reply: reply,
         };
     }
     let session = image.session();
     let answer = session.clock(time);
-    let after = Image::of(answer.session);
+    let after = answer.session;
     let answered = answer.reply;
     let reply = told(answered, call);
-    Answered {
-        session: after,
+    let stream = after.streams[at];
+    let clock = after.clock;
+    Change {
+        at: at,
+        stream: stream,
+        clock: clock,
+        head: after.head,
+        served: after.served,
+        place: after.place,
         reply: reply,
     }
 }

@@ -75,6 +75,24 @@ answeredAs i k =
     (record { session = imageOf (answerTo (sessionOf i) k .session); reply = toldAs k (answerTo (sessionOf i) k .reply) })
     (record { session = i; reply = toldAs k (Reply.Refused 31) })
 
+-- The session that a call other than a turn is made to. Where the order stands for none it has no stream, and so is not sound.
+unfoldable pub countedOf : ℕ → ℕ → ℕ
+countedOf order count = if (eqb order nearest-first) count 0
+
+unfoldable pub calledOf : Image → Session
+calledOf i =
+    record {
+      worst = i .worst;
+      span = i .span;
+      padding = i .padding;
+      count = countedOf (i .order) (i .count);
+      clock = i .clock;
+      head = i .head;
+      served = i .served;
+      place = i .place;
+      streams = i .streams;
+    }
+
 -- where the stream with a number stands among the eight; for a number that none has, the first
 unfoldable pub slotOf : ℕ → ℕ
 slotOf n = if (eqb n 0) 0 (if (ltb 8 n) 0 (n - 1))

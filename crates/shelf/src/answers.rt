@@ -2,7 +2,7 @@
 ghost use mathlib.Core.Path.{_≡_};
 ghost use Prim.Native.Nat.{_<_};
 ghost use Rattle.table.specs.Reservations.{tableOf};
-ghost use Rattle.shelf.specs.Image.{refusalIn, openedAs, toldAs, answeredAs, slotOf, changeAs, shownOf, viewedAs, stateAs, closingAs};
+ghost use Rattle.shelf.specs.Image.{refusalIn, openedAs, toldAs, answeredAs, slotOf, countedOf, calledOf, changeAs, shownOf, viewedAs, stateAs, closingAs};
 ghost use Rattle.shelf.specs.Filed.{readAs, writtenAs};
 use crate::Answered;
 use crate::Change;
@@ -70,6 +70,36 @@ fn slot_of(number: u64) -> usize
     (number - 1) as usize
 }
 
+// The streams that count: none, where the order stands for none.
+fn counted(order: u32, count: usize) -> usize
+    ensures { λ r. ⌜ r ≡ countedOf order count ⌝ }
+{
+    if order == Image::NEAREST {
+        return count;
+    }
+    0
+}
+
+// The session that a call is made to. With no stream every call refuses it with 31 and changes nothing: so an order that stands for none needs no path of its own.
+fn called(image: Image) -> Session
+    ensures { λ r. ⌜ r ≡ calledOf image ⌝ }
+{
+    let clock = image.clock;
+    let streams = image.streams;
+    let count = counted(image.order, image.count);
+    Session {
+        worst: image.worst,
+        span: image.span,
+        padding: image.padding,
+        count: count,
+        clock: clock,
+        head: image.head,
+        served: image.served,
+        place: image.place,
+        streams: streams,
+    }
+}
+
 // Each call has a function of its own, so that the compiler writes the call out where it is made: one function for all would cost two more copies of the session.
 // An image that stands for no session is refused 31 and handed back.
 pub(crate) fn arrival(image: Image, number: u64, place: u64) -> Change
@@ -80,21 +110,7 @@ pub(crate) fn arrival(image: Image, number: u64, place: u64) -> Change
         place: place,
     };
     let at = slot_of(number);
-    if image.order != Image::NEAREST {
-        let reply = told(Reply::Refused { number: 31 }, call);
-        let stream = image.streams[at];
-        let clock = image.clock;
-        return Change {
-            at: at,
-            stream: stream,
-            clock: clock,
-            head: image.head,
-            served: image.served,
-            place: image.place,
-            reply: reply,
-        };
-    }
-    let session = image.session();
+    let session = called(image);
     let answer = session.arrival(number, place);
     let after = answer.session;
     let answered = answer.reply;
@@ -142,21 +158,7 @@ pub(crate) fn own_turn(image: Image, number: u64, index: u64) -> Change
         index: index,
     };
     let at = slot_of(number);
-    if image.order != Image::NEAREST {
-        let reply = told(Reply::Refused { number: 31 }, call);
-        let stream = image.streams[at];
-        let clock = image.clock;
-        return Change {
-            at: at,
-            stream: stream,
-            clock: clock,
-            head: image.head,
-            served: image.served,
-            place: image.place,
-            reply: reply,
-        };
-    }
-    let session = image.session();
+    let session = called(image);
     let answer = session.own_turn(number, index);
     let after = answer.session;
     let answered = answer.reply;
@@ -179,21 +181,7 @@ pub(crate) fn done(image: Image, duration: u64) -> Change
 {
     let call = Call::Done { duration };
     let at = slot_of(image.served as u64);
-    if image.order != Image::NEAREST {
-        let reply = told(Reply::Refused { number: 31 }, call);
-        let stream = image.streams[at];
-        let clock = image.clock;
-        return Change {
-            at: at,
-            stream: stream,
-            clock: clock,
-            head: image.head,
-            served: image.served,
-            place: image.place,
-            reply: reply,
-        };
-    }
-    let session = image.session();
+    let session = called(image);
     let answer = session.done(duration);
     let after = answer.session;
     let answered = answer.reply;
@@ -216,21 +204,7 @@ pub(crate) fn clock(image: Image, time: u64) -> Change
 {
     let call = Call::Clock { time };
     let at: usize = 0;
-    if image.order != Image::NEAREST {
-        let reply = told(Reply::Refused { number: 31 }, call);
-        let stream = image.streams[at];
-        let clock = image.clock;
-        return Change {
-            at: at,
-            stream: stream,
-            clock: clock,
-            head: image.head,
-            served: image.served,
-            place: image.place,
-            reply: reply,
-        };
-    }
-    let session = image.session();
+    let session = called(image);
     let answer = session.clock(time);
     let after = answer.session;
     let answered = answer.reply;

@@ -13,7 +13,8 @@ use Rattle.session.specs.declared.call.Call.{Call}
 use Rattle.session.specs.declared.call.Answer.{Answer}
 use Rattle.session.specs.declared.call.Reply.{Reply}
 use Rattle.session.proofs.Answers.{unsound-answer}
-use Rattle.shelf.specs.Image.{nearest-first, imageOf, sessionOf, toldAs, answeredAs, countedOf, calledOf, changedAt, changeFrom, changeAs}
+use Rattle.shelf.specs.Image.{nearest-first, imageOf, sessionOf, toldAs, answeredAs}
+use Rattle.shelf.specs.InPlace.{countedOf, calledOf, changedAt, changeFrom, changeAs}
 use Rattle.shelf.specs.declared.images.Image.{Image}
 use Rattle.shelf.specs.declared.images.Answered.{Answered}
 

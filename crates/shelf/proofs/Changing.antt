@@ -1,4 +1,5 @@
 -- A change of an image, stored in place, leaves the image that the call is answered with.
+--     settled          an image with a change stored
 --     low              the stream that may change is one of the eight
 --     arrival-left ..  what is left by each call other than a turn
 --     by-change        images and changes as the law of a call that stores in place takes them
@@ -13,15 +14,16 @@ use mir.Val.{Val, Vals, vstruct, ofList}
 use mir.Fields.{getV, setV}
 use denote.Laws.{Is}
 use denote.Struct.Laws as LL
-use borrow.Author.Tests.{eqb-true, eqb-false, ltb-true, ltb-false}
+use borrow.Author.Tests.{eqb-true, ltb-true, ltb-false}
 use Rattle.table.specs.Fold.{if}
 use Rattle.table.proofs.Tests.{by-if}
 use Rattle.session.specs.Session.{noStream}
-use Rattle.session.specs.Calls.{Verdict, refuse, append, send, finish, set-clock, refusal, effect, ruled, verdict, apply, replyTo, answerTo}
+use Rattle.session.specs.Calls.{Verdict, refuse, refusal, effect, ruled, verdict, apply, replyTo, answerTo}
 use Rattle.session.specs.declared.stream.Stream.{Stream}
 use Rattle.session.specs.declared.Session.{Session}
 use Rattle.session.specs.declared.call.Call.{Call}
-use Rattle.shelf.specs.Image.{nearest-first, imageOf, sessionOf, toldAs, answeredAs, slotOf, changeFrom, changeAs, settled}
+use Rattle.shelf.specs.Image.{nearest-first, imageOf, sessionOf, toldAs, answeredAs}
+use Rattle.shelf.specs.InPlace.{slotOf, changeFrom, changeAs}
 use Rattle.shelf.specs.declared.images.Image.{Image}
 use Rattle.shelf.specs.declared.images.Told.{Told}
 use Rattle.shelf.specs.declared.images.Answered.{Answered}
@@ -35,6 +37,22 @@ use Rattle.shelf.proofs.images.Image.Laws as S′
 use Rattle.shelf.proofs.images.Change as C
 use Rattle.shelf.proofs.images.Change.Laws as C′
 use Rattle.shelf.proofs.Answering.{by-image}
+
+-- an image with a change stored
+unfoldable pub settled : Image → Change → Image
+settled i c =
+    record {
+      worst = i .worst;
+      span = i .span;
+      padding = i .padding;
+      order = i .order;
+      count = i .count;
+      clock = c .clock;
+      head = c .head;
+      served = c .served;
+      place = c .place;
+      streams = set (i .streams) (c .at) (c .stream);
+    }
 
 pub low : (n : ℕ) → slotOf n < 8
 unfolding slotOf

@@ -2,7 +2,8 @@
 ghost use mathlib.Core.Path.{_≡_};
 ghost use Prim.Native.Nat.{_<_};
 ghost use Rattle.table.specs.Reservations.{tableOf};
-ghost use Rattle.shelf.specs.Image.{refusalIn, openedAs, toldAs, answeredAs, slotOf, countedOf, calledOf, changeAs, shownOf, viewedAs, stateAs, closingAs};
+ghost use Rattle.shelf.specs.Image.{refusalIn, openedAs, toldAs, answeredAs, shownOf, viewedAs, stateAs, closingAs};
+ghost use Rattle.shelf.specs.InPlace.{countedOf, calledOf, slotOf, changeAs};
 ghost use Rattle.shelf.specs.Filed.{readAs, writtenAs};
 use crate::Answered;
 use crate::Change;
@@ -101,7 +102,6 @@ fn called(image: Image) -> Session
 }
 
 // Each call has a function of its own, so that the compiler writes the call out where it is made: one function for all would cost two more copies of the session.
-// An image that stands for no session is refused 31 and handed back.
 pub(crate) fn arrival(image: Image, number: u64, place: u64) -> Change
     ensures { λ r. ⌜ r ≡ changeAs image (Call.Arrival number place) ⌝ }
 {

@@ -5,7 +5,8 @@ use contract.Running.{givenOf, tables, tablesOf}
 use denote.Triple.Spec.{tripleOf}
 use denote.Triple.Table.{entered, cited}
 use Rattle.session.specs.declared.call.Call.{Call}
-use Rattle.shelf.specs.Image.{answeredAs, changeAs}
+use Rattle.shelf.specs.Image.{answeredAs}
+use Rattle.shelf.specs.InPlace.{changeAs}
 use Rattle.shelf.proofs.Changing.{low, eight, own-turn-left, by-change}
 use Rattle.session.proofs.Lending.{uint}
 use Rattle.session.proofs.Settling.{settle2}

@@ -1,5 +1,5 @@
 -- `called` gives the session that a call is made to.
-use Rattle.shelf.specs.Image.{calledOf}
+use Rattle.shelf.specs.InPlace.{calledOf}
 use borrow.Author.Needs.{needs}
 use Rattle.shelf.proofs.answers.called.Statement.{statement}
 use Rattle.shelf.proofs.answers.called.Tie as tie

@@ -2,8 +2,7 @@
 use mathlib.Core.Path.{refl}
 use borrow.Author.Tests.{eq-eqb, ne-eqb}
 use Rattle.table.specs.Fold.{if}
-use Rattle.shelf.specs.Image.{countedOf}
-use borrow.Author.Needs.{needs}
+use Rattle.shelf.specs.InPlace.{countedOf}
 use Rattle.shelf.proofs.answers.counted.Statement.{statement}
 use Rattle.shelf.proofs.answers.counted.Tie as tie
 

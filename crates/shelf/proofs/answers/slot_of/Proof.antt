@@ -3,7 +3,7 @@ use mathlib.Core.Path.{refl}
 use native.Mathlib.Omega.{arith}
 use borrow.Author.Tests.{eq-eqb, ne-eqb, lt-ltb, le-ltb}
 use Rattle.table.specs.Fold.{if}
-use Rattle.shelf.specs.Image.{slotOf}
+use Rattle.shelf.specs.InPlace.{slotOf}
 use Rattle.shelf.proofs.answers.slot_of.Statement.{statement}
 use Rattle.shelf.proofs.answers.slot_of.Tie as tie
 

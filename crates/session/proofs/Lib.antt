@@ -35,4 +35,6 @@ pub mod Histories
 pub mod Promise
 pub mod PromiseMet
 pub mod Lending
+pub mod Elements
+pub mod Settling
 pub mod Answering

@@ -1,2 +1,4 @@
 pub mod Answering
 pub mod Kept
+pub mod Called
+pub mod Changing

@@ -1,3 +1,4 @@
 pub mod Image
+pub mod InPlace
 pub mod Filed
 pub mod Laws

@@ -1,9 +1,12 @@
 // What is answered to an image, by value.
 ghost use mathlib.Core.Path.{_≡_};
+ghost use Prim.Native.Nat.{_<_};
 ghost use Rattle.table.specs.Reservations.{tableOf};
 ghost use Rattle.shelf.specs.Image.{refusalIn, openedAs, toldAs, answeredAs, shownOf, viewedAs, stateAs, closingAs};
+ghost use Rattle.shelf.specs.InPlace.{countedOf, calledOf, slotOf, changeAs};
 ghost use Rattle.shelf.specs.Filed.{readAs, writtenAs};
 use crate::Answered;
+use crate::Change;
 use crate::Filed;
 use crate::Image;
 use crate::Opening;
@@ -55,26 +58,72 @@ fn told(reply: Reply, call: Call) -> Told
     }
 }
 
-// Each call has a function of its own, so that the compiler writes the call out where it is made: one function for all would cost two more copies of the session.
-// An image that stands for no session is refused 31 and handed back.
-pub(crate) fn arrival(image: Image, stream: u64, place: u64) -> Answered
-    ensures { λ r. ⌜ r ≡ answeredAs image (Call.Arrival stream place) ⌝ }
+// Where the stream with a number stands among the eight; for a number that none has, the first.
+fn slot_of(number: u64) -> usize
+    ensures { λ r. ⌜ (r ≡ slotOf number) × (r < 8) ⌝ }
 {
-    let call = Call::Arrival { stream, place };
-    if image.order != Image::NEAREST {
-        let reply = told(Reply::Refused { number: 31 }, call);
-        return Answered {
-            session: image,
-            reply: reply,
-        };
+    if number == 0 {
+        return 0;
     }
-    let session = image.session();
-    let answer = session.arrival(stream, place);
-    let after = Image::of(answer.session);
+    if 8 < number {
+        return 0;
+    }
+    (number - 1) as usize
+}
+
+// The streams that count: none, where the order stands for none.
+fn counted(order: u32, count: usize) -> usize
+    ensures { λ r. ⌜ r ≡ countedOf order count ⌝ }
+{
+    if order == Image::NEAREST {
+        return count;
+    }
+    0
+}
+
+// The session that a call is made to. With no stream every call refuses it with 31 and changes nothing: so an order that stands for none needs no path of its own.
+fn called(image: Image) -> Session
+    ensures { λ r. ⌜ r ≡ calledOf image ⌝ }
+{
+    let clock = image.clock;
+    let streams = image.streams;
+    let count = counted(image.order, image.count);
+    Session {
+        worst: image.worst,
+        span: image.span,
+        padding: image.padding,
+        count: count,
+        clock: clock,
+        head: image.head,
+        served: image.served,
+        place: image.place,
+        streams: streams,
+    }
+}
+
+// Each call has a function of its own, so that the compiler writes the call out where it is made: one function for all would cost two more copies of the session.
+pub(crate) fn arrival(image: Image, number: u64, place: u64) -> Change
+    ensures { λ r. ⌜ r ≡ changeAs image (Call.Arrival number place) ⌝ }
+{
+    let call = Call::Arrival {
+        stream: number,
+        place: place,
+    };
+    let at = slot_of(number);
+    let session = called(image);
+    let answer = session.arrival(number, place);
+    let after = answer.session;
     let answered = answer.reply;
     let reply = told(answered, call);
-    Answered {
-        session: after,
+    let stream = after.streams[at];
+    let clock = after.clock;
+    Change {
+        at: at,
+        stream: stream,
+        clock: clock,
+        head: after.head,
+        served: after.served,
+        place: after.place,
         reply: reply,
     }
 }
@@ -101,68 +150,74 @@ pub(crate) fn turn(image: Image) -> Answered
     }
 }
 
-pub(crate) fn own_turn(image: Image, stream: u64, index: u64) -> Answered
-    ensures { λ r. ⌜ r ≡ answeredAs image (Call.OwnTurn stream index) ⌝ }
+pub(crate) fn own_turn(image: Image, number: u64, index: u64) -> Change
+    ensures { λ r. ⌜ r ≡ changeAs image (Call.OwnTurn number index) ⌝ }
 {
-    let call = Call::OwnTurn { stream, index };
-    if image.order != Image::NEAREST {
-        let reply = told(Reply::Refused { number: 31 }, call);
-        return Answered {
-            session: image,
-            reply: reply,
-        };
-    }
-    let session = image.session();
-    let answer = session.own_turn(stream, index);
-    let after = Image::of(answer.session);
+    let call = Call::OwnTurn {
+        stream: number,
+        index: index,
+    };
+    let at = slot_of(number);
+    let session = called(image);
+    let answer = session.own_turn(number, index);
+    let after = answer.session;
     let answered = answer.reply;
     let reply = told(answered, call);
-    Answered {
-        session: after,
+    let stream = after.streams[at];
+    let clock = after.clock;
+    Change {
+        at: at,
+        stream: stream,
+        clock: clock,
+        head: after.head,
+        served: after.served,
+        place: after.place,
         reply: reply,
     }
 }
 
-pub(crate) fn done(image: Image, duration: u64) -> Answered
-    ensures { λ r. ⌜ r ≡ answeredAs image (Call.Done duration) ⌝ }
+pub(crate) fn done(image: Image, duration: u64) -> Change
+    ensures { λ r. ⌜ r ≡ changeAs image (Call.Done duration) ⌝ }
 {
     let call = Call::Done { duration };
-    if image.order != Image::NEAREST {
-        let reply = told(Reply::Refused { number: 31 }, call);
-        return Answered {
-            session: image,
-            reply: reply,
-        };
-    }
-    let session = image.session();
+    let at = slot_of(image.served as u64);
+    let session = called(image);
     let answer = session.done(duration);
-    let after = Image::of(answer.session);
+    let after = answer.session;
     let answered = answer.reply;
     let reply = told(answered, call);
-    Answered {
-        session: after,
+    let stream = after.streams[at];
+    let clock = after.clock;
+    Change {
+        at: at,
+        stream: stream,
+        clock: clock,
+        head: after.head,
+        served: after.served,
+        place: after.place,
         reply: reply,
     }
 }
 
-pub(crate) fn clock(image: Image, time: u64) -> Answered
-    ensures { λ r. ⌜ r ≡ answeredAs image (Call.Clock time) ⌝ }
+pub(crate) fn clock(image: Image, time: u64) -> Change
+    ensures { λ r. ⌜ r ≡ changeAs image (Call.Clock time) ⌝ }
 {
     let call = Call::Clock { time };
-    if image.order != Image::NEAREST {
-        let reply = told(Reply::Refused { number: 31 }, call);
-        return Answered {
-            session: image,
-            reply: reply,
-        };
-    }
-    let session = image.session();
+    let at: usize = 0;
+    let session = called(image);
     let answer = session.clock(time);
-    let after = Image::of(answer.session);
+    let after = answer.session;
     let answered = answer.reply;
     let reply = told(answered, call);
-    Answered {
-        session: after,
+    let stream = after.streams[at];
+    let clock = after.clock;
+    Change {
+        at: at,
+        stream: stream,
+        clock: clock,
+        head: after.head,
+        served: after.served,
+        place: after.place,
         reply: reply,
     }
 }

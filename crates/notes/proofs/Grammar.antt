@@ -3,7 +3,7 @@ use mathlib.Core.Bool.{Bool, true, false, _&&_, false≢true}
 use mathlib.Core.Path.{_≡_, refl, sym, ap, _∙_}
 use mathlib.Core.List.{List, [], _∷_, _++_, append-assoc, append-nil}
 use mathlib.Core.Logic.{_⊎_, inl, inr}
-use Prim.Native.Nat.{ℕ, suc, _+_, _-_, _*_, _^_, _≤_, _<_}
+use Prim.Native.Nat.{ℕ, suc, _+_, _-_, _*_, _^_, _≤_}
 use native.Mathlib.Omega.{arith}
 use lib.Dec.{leb, ltb, eqb}
 use borrow.Author.Tests.{eqb-true, ltb-true, lt-ltb, ltb-false, le-ltb, leb-true}
@@ -12,13 +12,13 @@ use Rattle.table.proofs.Tests.{both, same-test, by-if}
 use Rattle.listing.specs.Line.{space, zero-digit}
 use Rattle.listing.specs.Laws.{speltAfter}
 use Rattle.notes.specs.declared.line.Line.{Line}
-use Rattle.notes.specs.declared.line.Line.the-variants.{Blank, Wrong}
+use Rattle.notes.specs.declared.line.Line.the-variants.{Wrong}
 use Rattle.notes.specs.declared.draft.Place.{Place}
-use Rattle.notes.specs.declared.draft.Place.the-variants.{Between, Within, Comment, Amiss}
+use Rattle.notes.specs.declared.draft.Place.the-variants.{Between, Within, Comment}
 use Rattle.notes.specs.declared.draft.Draft.{Draft}
-use Rattle.notes.specs.Draft.{drafted, blank, amiss, placed, hash, isLetter, lettered, isDigit, longer, lengthens, firstLonger, secondLonger, inField, begun, afterGap, afterField, withByte}
-use Rattle.notes.specs.Line.{heldAfter, wordLine, numberLine, pairLine, fieldsLine, lineOf}
-use Rattle.notes.specs.Words.{uncommented, ended-word, wordsAfter, wordsOf, allOf, isName, isNumber, lineOfWords}
+use Rattle.notes.specs.Draft.{drafted, amiss, placed, hash, isLetter, lettered, isDigit, longer, lengthens, firstLonger, secondLonger, inField, begun, afterGap, afterField, withByte}
+use Rattle.notes.specs.Line.{heldAfter, fieldsLine, lineOf}
+use Rattle.notes.specs.Words.{uncommented, ended-word, wordsAfter, allOf, isName, isNumber, lineOfWords}
 use Rattle.notes.specs.Laws.{drawn, LineByWords}
 use Rattle.notes.proofs.Words.{held-append, held-grows}
 

@@ -1,16 +1,15 @@
 -- A line of notes is taken as what its words say; and a line that is shown is read as that line.
-use mathlib.Core.Bool.{Bool, true, false, _&&_, false≢true}
+use mathlib.Core.Bool.{Bool, true, false, false≢true}
 use mathlib.Core.Path.{_≡_, refl, sym, ap, _∙_}
 use mathlib.Core.List.{List, [], _∷_, _++_}
-use Prim.Native.Nat.{ℕ, suc, _+_, _-_, _*_, _^_, _≤_, _<_}
+use Prim.Native.Nat.{ℕ, _+_, _-_, _*_, _^_, _≤_, _<_}
 use native.Mathlib.Omega.{arith}
 use native.Mathlib.Nat.{not-suc-le-zero}
-use lib.Dec.{leb, ltb, eqb}
+use lib.Dec.{eqb}
 use lib.ListN.{length}
 use borrow.Author.Tests.{ne-eqb, lt-ltb, le-leb}
 use Rattle.table.specs.Fold.{if}
 use Rattle.table.specs.declared.Table.{Table}
-use Rattle.file.specs.declared.event.Event.{Event}
 use Rattle.file.specs.declared.event.Event.the-variants.{Arrival, Turn, OwnTurn, Done, Clock, Malformed}
 use Rattle.listing.specs.Line.{ascii, space, newline, zero-digit, decimal, onward, rendered, wordedFields}
 use Rattle.listing.specs.Laws.{Each, Digit, speltAfter}
@@ -20,10 +19,10 @@ use Rattle.notes.specs.declared.line.Line.{Line}
 use Rattle.notes.specs.declared.line.Line.the-variants.{Blank, Worst, Span, Padding, Stream, Call, Wrong}
 use Rattle.notes.specs.declared.draft.Place.the-variants.{Between, Within}
 use Rattle.notes.specs.declared.draft.Draft.{Draft}
-use Rattle.notes.specs.Draft.{drafted, blank, hash, isLetter, lettered, isDigit, longer, lengthens, firstLonger, secondLonger, inField, begun, afterGap, afterField, withByte}
-use Rattle.notes.specs.Line.{heldAfter, held, wordLine, tableLine, numberLine, streamLine, pairLine, fieldsLine, lineOf, lineShown}
-use Rattle.notes.specs.Notes.{noted, stopped, afterNumber, afterStream, afterEvent, after, expectedBy, Read, read, traceAfter, lineEnded, lengthened, byteRead, bytesRead}
-use Rattle.notes.specs.Laws.{Fits, LineReadsBack, drawn, LineIsJudged}
+use Rattle.notes.specs.Draft.{drafted, blank, hash, lettered, longer, lengthens, firstLonger, secondLonger, inField, begun, afterGap, afterField, withByte}
+use Rattle.notes.specs.Line.{heldAfter, held, wordLine, tableLine, numberLine, streamLine, pairLine, fieldsLine, lineOf}
+use Rattle.notes.specs.Notes.{noted, stopped, afterNumber, afterStream, afterEvent, after, expectedBy, Read, read, traceAfter, lineEnded, byteRead, bytesRead}
+use Rattle.notes.specs.Laws.{LineReadsBack, drawn, LineIsJudged}
 use Rattle.notes.specs.Words.{wordsOf, lineOfWords}
 use Rattle.notes.proofs.Choices.{byte-lengthens}
 use Rattle.notes.proofs.Grammar.{line-by-words}

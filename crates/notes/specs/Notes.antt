@@ -1,9 +1,9 @@
 -- Notes, read line by line into a table and a trace: the three table numbers in order, then streams, then events.
-use mathlib.Core.Bool.{Bool, true, false, _&&_, _||_}
+use mathlib.Core.Bool.{true, false, _&&_}
 use mathlib.Core.List.{List, [], _∷_}
 use Prim.Native.Nat.{ℕ, _+_, _-_, _*_, _^_}
-use lib.Dec.{leb, ltb, eqb}
-use lib.ListN.{length, take, replicate, set}
+use lib.Dec.{ltb, eqb}
+use lib.ListN.{take, replicate, set}
 use Rattle.table.specs.Fold.{if}
 use Rattle.table.specs.Ranges.{streams-max}
 use Rattle.table.specs.declared.Table.{Table}

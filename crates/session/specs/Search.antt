@@ -8,12 +8,11 @@ use lib.Dec.{leb, ltb, eqb}
 use Rattle.table.specs.Fold.{if}
 use Rattle.table.specs.Ranges.{worst-max}
 use Rattle.table.specs.Admission.{numbersRefusal, streamRefusal}
-use Rattle.table.specs.declared.Table.{Table}
 use Rattle.session.specs.Time.{session-end, moment}
 use Rattle.session.specs.Stream.{slots, filled, soundCells}
 use Rattle.session.specs.Bounds.{Bounded}
-use Rattle.session.specs.Session.{someFilled, noSlot, latest}
-use Rattle.session.specs.Choice.{distance, nearest, nearestAt, chosen, expiring}
+use Rattle.session.specs.Session.{noSlot}
+use Rattle.session.specs.Choice.{distance, nearest, expiring}
 use Rattle.session.specs.declared.time.Clock.{Clock}
 use Rattle.session.specs.declared.census.Census.{Census}
 use Rattle.session.specs.declared.choice.Near.{Near}

@@ -27,7 +27,7 @@ noted line numbers table events =
     record { line = line; numbers = numbers; table = table; events = events; draft = blank; wrong = false }
 
 abbrev pub no-table : Table
-no-table = record { worst = 0; span = 0; padding = 0; count = 0; reserved = replicate 8 0; period = replicate 8 0 }
+no-table = record { worst = 0; span = 0; padding = 0; count = 0; reserved = replicate streams-max 0; period = replicate streams-max 0 }
 
 abbrev pub started : Notes
 started = noted 1 0 no-table 0

@@ -2,16 +2,18 @@
 use mathlib.Core.Bool.{not}
 use mathlib.Core.Path.{_≡_}
 use mathlib.Core.List.{List}
-use Prim.Native.Nat.{ℕ, _/_, _%_, _≤_, _<_}
-use native.Mathlib.Nat.{mul-le-mul-right, mul-div-le, le-trans}
+use Prim.Native.Nat.{ℕ, _*_, _/_, _%_, _≤_, _<_}
+use native.Mathlib.Nat.{mul-le-mul-right, mul-div-le, le-trans, div-add-mod'}
+use native.Mathlib.Omega.{arith}
 use lib.ListN.{getD}
 use lib.Dec.{ltb, eqb}
 use borrow.Author.Tests.{ltb-false, eqb-true, eqb-false, not-false}
 use Rattle.table.specs.Refusal.{outside}
 use Rattle.table.specs.Admission.{reservedAt, periodAt, grantedOf, shareOf, shareAt, sharesOf, smallestPeriod, numbersRefusal, streamRefusal, streamRefusalAt, streamsRefusal, loadOf, admissionOf}
+use Rattle.table.specs.Laws.{LoadIsExact}
 use Rattle.table.specs.declared.Table.{Table}
 use Rattle.table.proofs.Tests.{within, neither, given-none, or-next-none}
-use Rattle.table.proofs.Folds.{first-none, sum-agree, smallest-agree, first-agree}
+use Rattle.table.proofs.Folds.{first-none, smallest-is, sum-agree, smallest-agree, first-agree}
 
 -- the numbers of the whole table are in their ranges
 pub record Numbers (t : Table) : Type 0 where
@@ -109,3 +111,12 @@ admits-alike t reserved period h es ps =
     (λ i l. rw (es i l, ps i l)) in
     let least = smallest-agree (λ i. getD period i 0) (periodAt t) (t .count) (admits-of t h .numbers .count-low) ps in
     rw (refusals, shares, least) h
+
+-- a period divides the span, and so does the smallest
+pub load-is-exact : LoadIsExact
+unfolding smallestPeriod
+load-is-exact t numbers streams =
+    let whole : (p : ℕ) → t .span % p ≡ 0 → t .span / p * p ≡ t .span = λ p e. omega (arith, div-add-mod' (t .span) p, e) in
+    let divides : (i : ℕ) → i < t .count → t .span % periodAt t i ≡ 0 = λ i l. streams-of t streams i l .divides in
+    let least = smallest-is (λ p. t .span % p ≡ 0) (periodAt t) (t .count) (numbers-of t numbers .count-low) divides in
+    (λ i l. whole (periodAt t i) (divides i l), whole (smallestPeriod t) least)

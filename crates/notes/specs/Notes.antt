@@ -69,7 +69,7 @@ withStream t e p =
       period = set (t .period) (t .count) p;
     }
 
--- "worst, span, padding in this order, once each; then up to eight streams; then up to 4,000 events": the notes after a line
+-- worst, span and padding, in this order and once each; then up to eight streams, then up to 4,000 events: the notes after a line
 unfoldable pub afterNumber : Notes → ℕ → Table → Notes
 afterNumber n place table = if (eqb (n .numbers) place) (advanced n (place + 1) table (n .events)) (stopped n)
 

@@ -6,7 +6,7 @@ use native.Mathlib.Omega.{arith}
 use native.Mathlib.Numerals.{add-one}
 use native.Mathlib.Nat.{pow-suc, pow-le-pow-right, div-lt-iff-lt-mul, zero-lt-suc, lt-of-lt-of-le, add-zero, mod-lt}
 use lib.Arith.{digits-lt, digits-div, digits-mod}
-use lib.ListN.{length, getD, take, drop, List·getD-append, List·getD-eq-default}
+use lib.ListN.{length, getD, take, drop, List·getD-eq-default}
 use lib.Seq.{drop-cons, getD-append-add}
 use Rattle.cells.specs.Cells.{cell, numberAt, Bytes}
 use Rattle.cells.specs.Laws.{CellReadsBack, NumberWritesBack, NumberFits, CellIsBytes}
@@ -25,13 +25,6 @@ number-past zero a b at = refl
 number-past (suc w) a b at =
     let e : suc (length a + at) ≡ length a + suc at = omega arith in
     rw (getD-append-add a b at 0, e, number-past w a b (suc at))
-
--- within a run of bytes
-pub number-within : (w : ℕ) (a b : List ℕ) (at : ℕ) → at + w ≤ length a → numberAt w (a ++ b) at ≡ numberAt w a at
-unfolding numberAt
-number-within zero a b at h = refl
-number-within (suc w) a b at h =
-    rw (number-within w a b (suc at) (omega arith), List·getD-append a b 0 at (omega arith))
 
 -- past the end
 number-out : (w : ℕ) (l : List ℕ) (at : ℕ) → length l ≤ at → numberAt w l at ≡ 0

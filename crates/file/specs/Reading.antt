@@ -64,7 +64,7 @@ countAt file at = numberAt 4 file (at + 12)
 abbrev pub tableLength : ℕ → ℕ
 tableLength count = 16 + 8 * count
 
--- "trace, right after it"
+-- "kind 2 (trace), right after it"
 abbrev pub traceStart : List ℕ → ℕ
 traceStart file = table-start + tableLength (countAt file table-start)
 

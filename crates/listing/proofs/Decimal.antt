@@ -86,10 +86,16 @@ decimal-length =
 pub decimal-is-short : DecimalIsShort
 decimal-is-short n h = decimal-length n 19 (omega arith)
 
-spelt-append : (n : ℕ) (a b : List ℕ) → speltAfter n (a ++ b) ≡ speltAfter (speltAfter n a) b
+-- digits in two runs, and a number never less than what was read before
+pub spelt-append : (n : ℕ) (a b : List ℕ) → speltAfter n (a ++ b) ≡ speltAfter (speltAfter n a) b
 unfolding speltAfter
 spelt-append n [] b = refl
 spelt-append n (x ∷ a) b = spelt-append (n * 10 + (x - zero-digit)) a b
+
+pub spelt-grows : (n : ℕ) (a : List ℕ) → n ≤ speltAfter n a
+unfolding speltAfter
+spelt-grows n [] = omega arith
+spelt-grows n (x ∷ a) = omega (arith, spelt-grows (n * 10 + (x - zero-digit)) a)
 
 pub decimal-reads-back : DecimalReadsBack
 unfolding speltAfter

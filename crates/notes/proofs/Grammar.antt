@@ -3,22 +3,23 @@ use mathlib.Core.Bool.{Bool, true, false, _&&_, false≢true}
 use mathlib.Core.Path.{_≡_, refl, sym, ap, _∙_}
 use mathlib.Core.List.{List, [], _∷_, _++_, append-assoc, append-nil}
 use mathlib.Core.Logic.{_⊎_, inl, inr}
-use Prim.Native.Nat.{ℕ, suc, _+_, _-_, _*_, _^_, _≤_, _<_}
+use Prim.Native.Nat.{ℕ, suc, _+_, _-_, _*_, _^_, _≤_}
 use native.Mathlib.Omega.{arith}
 use lib.Dec.{leb, ltb, eqb}
 use borrow.Author.Tests.{eqb-true, ltb-true, lt-ltb, ltb-false, le-ltb, leb-true}
 use Rattle.table.specs.Fold.{if}
 use Rattle.table.proofs.Tests.{both, same-test, by-if}
-use Rattle.listing.specs.Line.{space, zero-digit}
+use Rattle.listing.specs.Line.{space}
 use Rattle.listing.specs.Laws.{speltAfter}
+use Rattle.listing.proofs.Decimal.{spelt-append, spelt-grows}
 use Rattle.notes.specs.declared.line.Line.{Line}
-use Rattle.notes.specs.declared.line.Line.the-variants.{Blank, Wrong}
+use Rattle.notes.specs.declared.line.Line.the-variants.{Wrong}
 use Rattle.notes.specs.declared.draft.Place.{Place}
-use Rattle.notes.specs.declared.draft.Place.the-variants.{Between, Within, Comment, Amiss}
+use Rattle.notes.specs.declared.draft.Place.the-variants.{Between, Within, Comment}
 use Rattle.notes.specs.declared.draft.Draft.{Draft}
-use Rattle.notes.specs.Draft.{drafted, blank, amiss, placed, hash, isLetter, lettered, isDigit, longer, lengthens, firstLonger, secondLonger, inField, begun, afterGap, afterField, withByte}
-use Rattle.notes.specs.Line.{heldAfter, wordLine, numberLine, pairLine, fieldsLine, lineOf}
-use Rattle.notes.specs.Words.{uncommented, ended-word, wordsAfter, wordsOf, allOf, isName, isNumber, lineOfWords}
+use Rattle.notes.specs.Draft.{drafted, amiss, placed, hash, isLetter, lettered, isDigit, longer, lengthens, firstLonger, secondLonger, inField, begun, afterGap, afterField, withByte}
+use Rattle.notes.specs.Line.{heldAfter, fieldsLine, lineOf}
+use Rattle.notes.specs.Words.{uncommented, ended-word, wordsAfter, allOf, isName, isNumber, lineOfWords}
 use Rattle.notes.specs.Laws.{drawn, LineByWords}
 use Rattle.notes.proofs.Words.{held-append, held-grows}
 
@@ -66,21 +67,11 @@ module _ (f : ℕ → Bool) (value : List ℕ → ℕ) (grows : (a b : List ℕ)
   unfolding allOf
   fine-more a byte h = rw (all-append f a (byte ∷ []), both (allOf f a) (ltb (value a) (2 ^ 64)) h .0, and-true (f byte))
 
-spelt-append : (a b : List ℕ) (n : ℕ) → speltAfter n (a ++ b) ≡ speltAfter (speltAfter n a) b
-unfolding speltAfter
-spelt-append [] b n = refl
-spelt-append (x ∷ a) b n = spelt-append a b (n * 10 + (x - zero-digit))
-
-spelt-high : (a : List ℕ) (n : ℕ) → n ≤ speltAfter n a
-unfolding speltAfter
-spelt-high [] n = omega arith
-spelt-high (x ∷ a) n = omega (arith, spelt-high a (n * 10 + (x - zero-digit)))
-
 held-onward : (a b : List ℕ) → heldAfter 0 a ≤ heldAfter 0 (a ++ b)
 held-onward a b = rw (held-append a b 0) (held-grows b (heldAfter 0 a))
 
 spelt-onward : (a b : List ℕ) → speltAfter 0 a ≤ speltAfter 0 (a ++ b)
-spelt-onward a b = rw (spelt-append a b 0) (spelt-high b (speltAfter 0 a))
+spelt-onward a b = rw (spelt-append 0 a b) (spelt-grows (speltAfter 0 a) b)
 
 name-spoilt : (a b : List ℕ) → isName a ≡ false → isName (a ++ b) ≡ false
 unfolding isName
@@ -108,7 +99,7 @@ letter-more a byte h =
 
 digit-more : (a : List ℕ) (byte : ℕ) → isNumber a ≡ true → isNumber (a ++ (byte ∷ [])) ≡ lengthens (speltAfter 0 a) byte
 unfolding isNumber lengthens speltAfter
-digit-more a byte h = fine-more isDigit (speltAfter 0) spelt-onward a byte h ∙ rw (spelt-append a (byte ∷ []) 0)
+digit-more a byte h = fine-more isDigit (speltAfter 0) spelt-onward a byte h ∙ rw (spelt-append 0 a (byte ∷ []))
 
 -- ---- what does not depend on the word that is being read
 
@@ -309,7 +300,7 @@ module _ (number : ℕ → Draft) (w : List ℕ) (byte : ℕ) (fine : isNumber w
       ≡ if (isNumber (w ++ (byte ∷ []))) (number (speltAfter 0 (w ++ (byte ∷ [])))) amiss
   unfolding speltAfter
   digit-on =
-      ap (λ (v : ℕ). if (lengthens (speltAfter 0 w) byte) (number v) amiss) (sym (spelt-append w (byte ∷ []) 0))
+      ap (λ (v : ℕ). if (lengthens (speltAfter 0 w) byte) (number v) amiss) (sym (spelt-append 0 w (byte ∷ [])))
       ∙ ap (λ (t : Bool). if t (number (speltAfter 0 (w ++ (byte ∷ [])))) amiss) (sym (digit-more w byte fine))
 
 module _ (w : List ℕ) (byte : ℕ) (fine : isName w ≡ true) where

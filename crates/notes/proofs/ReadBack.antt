@@ -1,39 +1,33 @@
 -- A line of notes is taken as what its words say; and a line that is shown is read as that line.
-use mathlib.Core.Bool.{Bool, true, false, _&&_, false≢true}
+use mathlib.Core.Bool.{Bool, true, false, false≢true}
 use mathlib.Core.Path.{_≡_, refl, sym, ap, _∙_}
 use mathlib.Core.List.{List, [], _∷_, _++_}
-use Prim.Native.Nat.{ℕ, suc, _+_, _-_, _*_, _^_, _≤_, _<_}
+use Prim.Native.Nat.{ℕ, _+_, _-_, _^_, _≤_, _<_}
 use native.Mathlib.Omega.{arith}
 use native.Mathlib.Nat.{not-suc-le-zero}
-use lib.Dec.{leb, ltb, eqb}
+use lib.Dec.{eqb}
 use lib.ListN.{length}
 use borrow.Author.Tests.{ne-eqb, lt-ltb, le-leb}
 use Rattle.table.specs.Fold.{if}
 use Rattle.table.specs.declared.Table.{Table}
-use Rattle.file.specs.declared.event.Event.{Event}
 use Rattle.file.specs.declared.event.Event.the-variants.{Arrival, Turn, OwnTurn, Done, Clock, Malformed}
 use Rattle.listing.specs.Line.{ascii, space, newline, zero-digit, decimal, onward, rendered, wordedFields}
 use Rattle.listing.specs.Laws.{Each, Digit, speltAfter}
-use Rattle.listing.proofs.Decimal.{decimal-reads-back, decimal-is-digits, decimal-some}
+use Rattle.listing.proofs.Decimal.{decimal-reads-back, decimal-is-digits, decimal-some, spelt-grows}
 use Rattle.notes.specs.declared.Notes.{Notes}
 use Rattle.notes.specs.declared.line.Line.{Line}
 use Rattle.notes.specs.declared.line.Line.the-variants.{Blank, Worst, Span, Padding, Stream, Call, Wrong}
 use Rattle.notes.specs.declared.draft.Place.the-variants.{Between, Within}
 use Rattle.notes.specs.declared.draft.Draft.{Draft}
-use Rattle.notes.specs.Draft.{drafted, blank, hash, isLetter, lettered, isDigit, longer, lengthens, firstLonger, secondLonger, inField, begun, afterGap, afterField, withByte}
-use Rattle.notes.specs.Line.{heldAfter, held, wordLine, tableLine, numberLine, streamLine, pairLine, fieldsLine, lineOf, lineShown}
-use Rattle.notes.specs.Notes.{noted, stopped, afterNumber, afterStream, afterEvent, after, expectedBy, Read, read, traceAfter, lineEnded, lengthened, byteRead, bytesRead}
-use Rattle.notes.specs.Laws.{Fits, LineReadsBack, drawn, LineIsJudged}
+use Rattle.notes.specs.Draft.{drafted, blank, hash, lettered, longer, lengthens, firstLonger, secondLonger, inField, begun, afterGap, afterField, withByte}
+use Rattle.notes.specs.Line.{heldAfter, held, wordLine, tableLine, numberLine, streamLine, pairLine, fieldsLine, lineOf}
+use Rattle.notes.specs.Notes.{noted, stopped, afterNumber, afterStream, afterEvent, after, expectedBy, Read, read, traceAfter, lineEnded, byteRead, bytesRead}
+use Rattle.notes.specs.Laws.{LineReadsBack, drawn, LineIsJudged}
 use Rattle.notes.specs.Words.{wordsOf, lineOfWords}
 use Rattle.notes.proofs.Choices.{byte-lengthens}
 use Rattle.notes.proofs.Grammar.{line-by-words}
 
 -- ---- digits
-
-spelt-grows : (ds : List ℕ) (n : ℕ) → n ≤ speltAfter n ds
-unfolding speltAfter
-spelt-grows [] n = omega arith
-spelt-grows (d ∷ ds) n = omega (arith, spelt-grows ds (n * 10 + (d - zero-digit)))
 
 -- a digit that a number has room for lengthens it
 digit-lengthens : (n byte : ℕ) → Digit byte → longer n byte < 2 ^ 64 → lengthens n byte ≡ true
@@ -88,7 +82,7 @@ module _ (line numbers : ℕ) (table : Table) (events : ℕ) (trace : List ℕ) 
     unfolding bytesRead speltAfter Each
     digits-on [] n p h rest = refl
     digits-on (d ∷ ds) n p h rest =
-        let room : longer n d < 2 ^ 64 = omega (arith, spelt-grows ds (longer n d), h) in
+        let room : longer n d < 2 ^ 64 = omega (arith, spelt-grows (longer n d) ds, h) in
         ap (λ (r : Read). bytesRead r (ds ++ rest)) (byte-on (number n) d (p .0) ∙ ap (λ (e : Draft). at-draft e) (on n d (p .0) room))
         ∙ digits-on ds (longer n d) (p .1) h rest
 
@@ -97,7 +91,7 @@ module _ (line numbers : ℕ) (table : Table) (events : ℕ) (trace : List ℕ) 
     unfolding bytesRead speltAfter Each
     digits-from [] some p h rest = absurd (not-suc-le-zero some)
     digits-from (d ∷ ds) some p h rest =
-        let room : longer 0 d < 2 ^ 64 = omega (arith, spelt-grows ds (longer 0 d), h) in
+        let room : longer 0 d < 2 ^ 64 = omega (arith, spelt-grows (longer 0 d) ds, h) in
         ap (λ (r : Read). bytesRead r (ds ++ rest)) (byte-on gap d (p .0) ∙ ap (λ (e : Draft). at-draft e) (from d (p .0) room))
         ∙ digits-on ds (longer 0 d) (p .1) h rest
 

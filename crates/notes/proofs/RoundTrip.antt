@@ -1,12 +1,11 @@
 -- What is shown of a file is composed to that file: line by line, first the numbers of the table, then its streams, then the events.
-use mathlib.Core.Bool.{true, false, _&&_}
+use mathlib.Core.Bool.{true, false}
 use mathlib.Core.Path.{_≡_, refl, sym, ap, _∙_}
 use mathlib.Core.List.{List, [], _∷_, _++_}
-use Prim.Native.Nat.{ℕ, zero, suc, _+_, _-_, _*_, _/_, _^_, _≤_, _<_}
+use Prim.Native.Nat.{ℕ, zero, suc, _+_, _-_, _*_, _^_, _≤_, _<_}
 use native.Mathlib.Omega.{arith}
 use native.Mathlib.Numerals.{add-one}
-use lib.Dec.{ltb, eqb}
-use lib.ListN.{length, take, drop, set, getD, length-append, length-take}
+use lib.ListN.{length, take, drop, set, length-append, length-take}
 use lib.Seq.{sets, sets-eq, length-sets, length-take-le, take-at, take-add, take-all, getD-drop}
 use borrow.Author.Tests.{ne-eqb, lt-ltb, le-ltb}
 use Rattle.table.specs.Fold.{if, listTo}
@@ -17,7 +16,7 @@ use Rattle.cells.specs.Cells.{Bytes}
 use Rattle.file.specs.File.{event-size, events-max, bytesOf}
 use Rattle.file.specs.Reading.{eventsIn, eventAt, formed, column, traceStart, traceEnd, traceIn, tableAt, tableIn}
 use Rattle.file.specs.Writing.{withEvent, writeOf, writtenOn}
-use Rattle.file.specs.Laws.{Words, trimmed, Coded}
+use Rattle.file.specs.Laws.{Words, trimmed}
 use Rattle.file.proofs.Accepted.{read-accepted}
 use Rattle.file.proofs.Events.{event-writes-back}
 use Rattle.file.proofs.Round.{table-read-is-trimmed, accepted-is-within, accepted-writes-back}
@@ -28,7 +27,7 @@ use Rattle.notes.specs.declared.Notes.{Notes}
 use Rattle.notes.specs.declared.line.Line.{Line}
 use Rattle.notes.specs.declared.line.Line.the-variants.{Worst, Span, Padding, Stream, Call}
 use Rattle.notes.specs.Line.{fieldsLine, lineShown, streamAt, afterNumbers, lineAt, shownTo}
-use Rattle.notes.specs.Notes.{noted, started, no-table, withWorst, withSpan, withPadding, withStream, nextLine, afterNumber, afterStream, afterEvent, after, Read, read, traceAfter, lineEnded, byteRead, bytesRead, Filed, filed, told, filedBy, ended}
+use Rattle.notes.specs.Notes.{noted, started, no-table, withWorst, withSpan, nextLine, afterNumber, afterStream, afterEvent, after, Read, read, traceAfter, lineEnded, byteRead, bytesRead, Filed, filed, told, filedBy, ended}
 use Rattle.notes.specs.Laws.{Fits, ShownComposes}
 use Rattle.notes.proofs.Bytes.{pieces-join}
 use Rattle.notes.proofs.Choices.{filed-whole}

@@ -1,6 +1,5 @@
 -- Notes on either side of each line of docs/NOTES.md, and what composing answers. The statement that covers the list is `CasesHold` of `Laws`.
 use mathlib.Core.List.{List, [], _∷_}
-use Prim.Native.Nat.{ℕ}
 use Prim.Native.String.{String}
 use Rattle.notes.specs.declared.Composed.{Composed}
 use Rattle.notes.specs.declared.Composed.the-variants.{Written, Wrong, Unfinished}

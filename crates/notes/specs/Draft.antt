@@ -58,7 +58,7 @@ unfoldable pub begun : Draft → ℕ → Draft
 begun d byte =
     if (ltb (d .fields) 3) (inField (drafted Within (d .fields + 1) (d .word) (d .first) (d .second)) byte) amiss
 
--- "anything after # is a comment"
+-- what begins a comment
 abbrev pub hash : ℕ
 hash = code "#"
 

@@ -1,9 +1,9 @@
 -- Notes, read line by line into a table and a trace: the three table numbers in order, then streams, then events.
-use mathlib.Core.Bool.{Bool, true, false, _&&_, _||_}
+use mathlib.Core.Bool.{true, false, _&&_}
 use mathlib.Core.List.{List, [], _∷_}
 use Prim.Native.Nat.{ℕ, _+_, _-_, _*_, _^_}
-use lib.Dec.{leb, ltb, eqb}
-use lib.ListN.{length, take, replicate, set}
+use lib.Dec.{ltb, eqb}
+use lib.ListN.{take, replicate, set}
 use Rattle.table.specs.Fold.{if}
 use Rattle.table.specs.Ranges.{streams-max}
 use Rattle.table.specs.declared.Table.{Table}
@@ -27,7 +27,7 @@ noted line numbers table events =
     record { line = line; numbers = numbers; table = table; events = events; draft = blank; wrong = false }
 
 abbrev pub no-table : Table
-no-table = record { worst = 0; span = 0; padding = 0; count = 0; reserved = replicate 8 0; period = replicate 8 0 }
+no-table = record { worst = 0; span = 0; padding = 0; count = 0; reserved = replicate streams-max 0; period = replicate streams-max 0 }
 
 abbrev pub started : Notes
 started = noted 1 0 no-table 0
@@ -69,7 +69,7 @@ withStream t e p =
       period = set (t .period) (t .count) p;
     }
 
--- "worst, span, padding in this order, once each; then up to eight streams; then up to 4,000 events": the notes after a line
+-- worst, span and padding, in this order and once each; then up to eight streams, then up to 4,000 events: the notes after a line
 unfoldable pub afterNumber : Notes → ℕ → Table → Notes
 afterNumber n place table = if (eqb (n .numbers) place) (advanced n (place + 1) table (n .events)) (stopped n)
 

@@ -11,12 +11,12 @@ use Rattle.notes.specs.declared.line.Line.the-variants.{Blank, Wrong}
 use Rattle.notes.specs.Draft.{hash, isLetter, isDigit}
 use Rattle.notes.specs.Line.{heldAfter, wordLine, numberLine, pairLine}
 
--- "anything after # is a comment": what stands before it
+-- a line without its comment, which begins at #
 unfoldable pub uncommented : List ℕ → List ℕ
 uncommented [] = []
 uncommented (byte ∷ rest) = if (eqb byte hash) [] (byte ∷ uncommented rest)
 
--- "Words are parted by spaces (runs of spaces allowed)": the words of some bytes, after the start of one; an empty one is none
+-- words are parted by one space or more: the words of some bytes, after the start of one; an empty one is none
 abbrev pub ended-word : List ℕ → List (List ℕ) → List (List ℕ)
 ended-word [] words = words
 ended-word (byte ∷ word) words = (byte ∷ word) ∷ words

@@ -14,7 +14,7 @@ pub use line::shown;
 use table::Table;
 ghost use mathlib.Core.Path.{_≡_};
 ghost use Prim.Native.Nat.{_<_};
-ghost use Rattle.notes.specs.Notes.{started, stopped, nextLine, advanced, withWorst, withSpan, withPadding, withStream, afterNumber, afterStream, afterEvent, after, expectedBy, lengthened, told, read, traceAfter, lineEnded, byteRead, bytesRead, filedBy, ended};
+ghost use Rattle.notes.specs.Notes.{started, stopped, nextLine, advanced, withWorst, withSpan, withPadding, afterNumber, afterStream, afterEvent, after, expectedBy, lengthened, told, read, traceAfter, lineEnded, byteRead, bytesRead, filedBy, ended};
 
 // What has been read of some notes: the number of the line that is being read, how many of the three table numbers there are, the table so far,
 // how many events there are, the line so far, and whether it is wrong. Then nothing more is read.

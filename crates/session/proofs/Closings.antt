@@ -1,11 +1,9 @@
 -- A move, stream by stream: what a loop has done that closes the due jobs in place.
-use mathlib.Core.List.{map}
 use mathlib.Core.Path.{_≡_, refl, sym, _∙_, ap, ap₂}
-use mathlib.Core.Logic.{⊎-elim}
 use Prim.Native.Nat.{ℕ, _+_, _≤_, _<_, min}
 use native.Mathlib.Numerals.{add-one}
 use native.Mathlib.Omega.{arith}
-use lib.ListN.{getD, set}
+use lib.ListN.{set}
 use lib.Seq.{getD-set-other}
 use Rattle.table.specs.Fold.{smallestTo, listTo}
 use Rattle.table.proofs.Folds.{smallest-agree}
@@ -18,7 +16,6 @@ use Rattle.session.specs.declared.time.Clock.{Clock}
 use Rattle.session.specs.declared.stream.Stream.{Stream}
 use Rattle.session.specs.declared.Session.{Session}
 use Rattle.session.specs.declared.call.Reply.{Reply}
-use Rattle.session.specs.declared.call.Answer.{Answer}
 use Rattle.session.proofs.Sound.{Sound, admits, unused-deadline}
 use Rattle.session.proofs.MoveKept.{moving, next, stays, moved-at}
 

@@ -1,23 +1,21 @@
 -- A session judged stream by stream: what a census holds of the streams passed, and that it decides as the document's whole test does.
-use mathlib.Core.Bool.{Bool, true, false, not, _&&_, _||_, false≢true}
+use mathlib.Core.Bool.{Bool, true, false, _&&_, false≢true}
 use mathlib.Core.Path.{_≡_, refl, sym, ap, _∙_}
-use mathlib.Core.Logic.{⊎-elim}
-use Prim.Native.Nat.{ℕ, suc, _+_, _-_, _*_, _/_, _≤_, _<_, min, max}
+use Prim.Native.Nat.{ℕ, _+_, _-_, _*_, _/_, _≤_, _<_}
 use native.Mathlib.Numerals.{add-one}
 use native.Mathlib.Omega.{arith}
 use native.Mathlib.Nat.{mul-le-mul}
-use lib.ListN.{length, getD, List·getD-map}
-use lib.Dec.{leb, ltb, eqb}
-use borrow.Author.Tests.{leb-true, eqb-true, eqb-false, le-leb, le-ltb, lt-ltb, eq-eqb, ne-eqb}
-use Rattle.table.specs.Fold.{if, sumTo, smallestTo, largestTo, allTo}
+use lib.ListN.{getD, List·getD-map}
+use lib.Dec.{leb, eqb}
+use borrow.Author.Tests.{leb-true, eqb-true, eqb-false, le-leb, le-ltb, eq-eqb}
+use Rattle.table.specs.Fold.{if, sumTo, smallestTo, largestTo}
 use Rattle.table.specs.Refusal.{given, _or-next_}
 use Rattle.table.specs.Admission.{periodAt, grantedOf, shareOf, shareAt, streamRefusalAt, numbersRefusal, streamRefusal, streamsRefusal, sharesOf, smallestPeriod, loadOf, admissionOf}
-use Rattle.table.proofs.Tests.{le-or-lt, both, by-if, or-next-none, same-test}
-use Rattle.table.proofs.Folds.{at-or-below, first-none, first-all, largest-le, largest-high, sum-agree, sum-high, smallest-agree, smallest-is, all-at, all-of}
+use Rattle.table.proofs.Tests.{both, by-if, or-next-none, same-test}
+use Rattle.table.proofs.Folds.{at-or-below, first-none, first-all, largest-le, largest-high, sum-agree, sum-high, smallest-agree, smallest-is}
 use Rattle.table.proofs.Judged.{Numbers, numbers-of, Fits-in, stream-of, share-high, admits-of}
-use Rattle.session.specs.Time.{session-end, moment}
-use Rattle.session.specs.Bounds.{Bounded}
-use Rattle.session.specs.Stream.{slots, soundCells, soundStream, unusedStream}
+use Rattle.session.specs.Time.{moment}
+use Rattle.session.specs.Stream.{slots, soundCells, soundStream}
 use Rattle.session.specs.Session.{noStream, streamAt, horizon, slotsAt, tableOf, soundDisk, soundRest, sound}
 use Rattle.session.specs.Search.{inOrder, begun, counted, Countable, loadSo, says, Judgeable}
 use Rattle.session.specs.declared.time.Clock.{Clock}

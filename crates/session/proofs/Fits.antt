@@ -5,6 +5,8 @@ use native.Mathlib.Omega.{arith}
 use lib.Dec.{T, ltb, lit<}
 use mir.Syntax.{w64}
 use mir.Val.{Fits}
+use Rattle.session.specs.Time.{duration-max}
+use Rattle.table.specs.Ranges.{worst-max, period-max}
 use Rattle.session.specs.Bounds.{Bounded}
 use Rattle.session.specs.declared.stream.Stream.{Stream}
 
@@ -12,33 +14,37 @@ use Rattle.session.specs.declared.stream.Stream.{Stream}
 pub mul-fits : (A B : ℕ) {a b : ℕ} → a ≤ A → b ≤ B → T (ltb (A * B) (2 ^ 64)) → Fits w64 (a * b)
 mul-fits A B ha hb t = record { fits = lt-of-le-of-lt (mul-le-mul ha hb) (lit< t) }
 
+-- the most that a stream is charged: a budget is at most a period
+abbrev pub charge-max : ℕ
+charge-max = period-max + duration-max
+
 module _ {worst h : ℕ} {x : Stream} (q : Bounded worst h x) where
-  pub charge-high : x .charge .0 ≤ 70000000
+  pub charge-high : x .charge .0 ≤ charge-max
   charge-high = omega (arith, q .charge-high, q .budget-high, q .period-high)
 
-  pub ahead-high : h - x .release .0 ≤ 60000000
+  pub ahead-high : h - x .release .0 ≤ period-max
   ahead-high = omega (arith, q .ahead, q .due, q .period-high)
 
   pub room-fits : Fits w64 ((h - x .release .0) * x .granted .0)
-  room-fits = mul-fits 60000000 60000000 ahead-high (omega (arith, q .budget-high, q .period-high)) tt
+  room-fits = mul-fits period-max period-max ahead-high (omega (arith, q .budget-high, q .period-high)) tt
 
   pub used-fits : Fits w64 (x .charge .0 * x .period)
-  used-fits = mul-fits 70000000 60000000 charge-high (q .period-high) tt
+  used-fits = mul-fits charge-max period-max charge-high (q .period-high) tt
 
   pub step-fits : Fits w64 (worst * x .period)
-  step-fits = mul-fits 1000000 60000000 (q .worst-high) (q .period-high) tt
+  step-fits = mul-fits worst-max period-max (q .worst-high) (q .period-high) tt
 
   pub whole-fits : Fits w64 (x .release .0 + x .charge .0 * x .period / x .granted .0)
   whole-fits =
-      let used : x .charge .0 * x .period ≤ 4200000000000000 = mul-le-mul {n₂ = 70000000} {m₂ = 60000000} charge-high (q .period-high) in
+      let used : x .charge .0 * x .period ≤ charge-max * period-max = mul-le-mul {n₂ = charge-max} {m₂ = period-max} charge-high (q .period-high) in
       omega (arith, q .due, q .deadline-high, div-le-self (x .charge .0 * x .period) (x .granted .0))
 
   pub rest-fits : {y : Stream} → Bounded worst h y → (n : ℕ) → Fits w64 (n % x .granted .0 * y .granted .0)
   rest-fits other n =
-      mul-fits 60000000 60000000
+      mul-fits period-max period-max
       (omega (arith, mod-lt n (q .budget-low), q .budget-high, q .period-high))
       (omega (arith, other .budget-high, other .period-high))
       tt
 
-  pub expired-high : x .expired ≤ 70000000
+  pub expired-high : x .expired ≤ charge-max
   expired-high = omega (arith, charge-high, q .expiries, le-mul-of-pos-right (x .expired) (q .worst-low))

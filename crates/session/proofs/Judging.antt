@@ -1,10 +1,10 @@
 -- What every call does first, loop by loop: a census of the used streams, then a look at the unused ones, and then the census decides.
 use mathlib.Core.Bool.{Bool, true, false, _&&_, _||_, and-false, false≢true}
-use mathlib.Core.Path.{_≡_, refl, sym, ap, subst, _∙_}
+use mathlib.Core.Path.{_≡_, refl, sym, ap, subst}
 use Prim.Native.Nat.{ℕ, _+_, _-_, _≤_, _<_}
 use native.Mathlib.Numerals.{add-one}
 use native.Mathlib.Omega.{arith}
-use lib.Dec.{leb, ltb, eqb}
+use lib.Dec.{ltb}
 use lib.ListN.{length}
 use borrow.Author.Tests.{ltb-true, ltb-false, lt-ltb, le-ltb, eq-eqb}
 use Rattle.table.specs.Fold.{allTo}
@@ -15,7 +15,6 @@ use Rattle.session.specs.Time.{moment}
 use Rattle.session.specs.Stream.{unusedStream}
 use Rattle.session.specs.Session.{streamAt, horizon, tableOf, soundRest, sound}
 use Rattle.session.specs.Search.{begun, counted, Countable, says, Judgeable}
-use Rattle.session.specs.declared.stream.Stream.{Stream}
 use Rattle.session.specs.declared.census.Census.{Census}
 use Rattle.session.specs.declared.Session.{Session}
 use Rattle.session.proofs.Counted.{CountedTo, counted-none, counted-more, countable, horizon-is, judgeable, decides}

@@ -1,11 +1,11 @@
--- The latest safe moment is rounded down once, and nothing is cut off before.
+-- The latest safe moment is rounded down once, and nothing is cut off before; the horizon lies between release and deadline.
 use mathlib.Core.Path.{_≡_, ap}
 use Prim.Native.Nat.{ℕ, _+_, _-_, _*_, _/_, _≤_, _<_}
 use native.Mathlib.Nat.{div-add-mod', div-mul-le-self, lt-div-mul-add}
 use native.Mathlib.Omega.{arith}
 use Rattle.table.specs.Fold.{sumTo}
 use Rattle.session.specs.Session.{streamAt, horizon, scaledPart, latest}
-use Rattle.session.specs.Laws.{LatestRoundsOnce, PartsAreExact}
+use Rattle.session.specs.Laws.{LatestRoundsOnce, PartsAreExact, HorizonBetween}
 use Rattle.session.proofs.Sound.{sound-of, admits, bounded, reservation}
 use Rattle.session.proofs.Remainders.{parts-low}
 
@@ -29,3 +29,7 @@ parts-are-exact s t i l =
     let b = reservation s q i l in
     let whole : s .span / x .period * x .period ≡ s .span = omega (arith, div-add-mod' (s .span) (x .period), b .divides) in
     (bounded s q i l .released, omega (arith, ap (λ (z : ℕ). (horizon s - x .release .0) * x .granted .0 * z) whole))
+
+-- no release is after the horizon, and no deadline before it
+pub horizon-between : HorizonBetween
+horizon-between s t i l = let b = bounded s (sound-of s t) i l in (b .released, b .ahead)

@@ -1,5 +1,5 @@
 -- What a call hands back is the outcome of its verdict: for each verdict that changes the session, from the stream, the clock and the place that were stored.
-use mathlib.Core.Bool.{Bool, true, false}
+use mathlib.Core.Bool.{true, false}
 use mathlib.Core.Path.{_≡_}
 use Prim.Native.Nat.{ℕ, _+_}
 use lib.Dec.{ltb}
@@ -9,7 +9,6 @@ use Rattle.session.specs.Time.{moment}
 use Rattle.session.specs.Stream.{arrived, without, charged, lapsed}
 use Rattle.session.specs.Session.{streamAt, latest, withStream, withDisk}
 use Rattle.session.specs.Calls.{append, send, wait, expire, finish, set-clock, overlong, late, apply, replyTo, outcome}
-use Rattle.session.specs.declared.time.Charge.{Charge}
 use Rattle.session.specs.declared.time.Clock.{Clock}
 use Rattle.session.specs.declared.stream.Stream.{Stream}
 use Rattle.session.specs.declared.call.Answer.{Answer}

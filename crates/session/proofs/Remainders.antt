@@ -4,6 +4,8 @@ use Prim.Native.Nat.{ℕ, _-_, _*_, _/_, _≤_, _<_}
 use native.Mathlib.Nat.{mul-le-mul, mul-le-mul-left, mul-le-mul-right, mul-right-comm, mul-assoc, mul-div-le, le-trans}
 use native.Mathlib.Omega.{arith}
 use lib.ListN.{List·getD-map}
+use Rattle.session.specs.Time.{session-end}
+use Rattle.table.specs.Ranges.{span-max, period-max}
 use Rattle.table.specs.Fold.{sumTo}
 use Rattle.table.specs.Admission.{shareOf, shareAt, sharesOf, loadOf}
 use Rattle.table.proofs.Folds.{sum-le, sum-scaled, sum-high}
@@ -14,14 +16,14 @@ use Rattle.session.specs.declared.Session.{Session}
 use Rattle.session.proofs.Fits as fits
 use Rattle.session.proofs.Sound.{Sound, admits, bounded}
 
-part-most : (a g p span : ℕ) → a ≤ p → g ≤ 60000000 → span ≤ 600000000 → a * g * (span / p) ≤ 36000000000000000
+part-most : (a g p span : ℕ) → a ≤ p → g ≤ period-max → span ≤ span-max → a * g * (span / p) ≤ span-max * period-max
 part-most a g p span within budget whole =
     rw mul-right-comm
-    (mul-le-mul {n₂ = 600000000} {m₂ = 60000000} (le-trans (mul-le-mul-right (span / p) within) (le-trans (mul-div-le span p) whole)) budget)
+    (mul-le-mul {n₂ = span-max} {m₂ = period-max} (le-trans (mul-le-mul-right (span / p) within) (le-trans (mul-div-le span p) whole)) budget)
 
 -- the horizon is within a stream's period, so its part is at most its budget times the span
-pub part-high : {worst h : ℕ} {x : Stream} → Bounded worst h x → (span : ℕ) → span ≤ 600000000
-    → (h - x .release .0) * x .granted .0 * (span / x .period) ≤ 36000000000000000
+pub part-high : {worst h : ℕ} {x : Stream} → Bounded worst h x → (span : ℕ) → span ≤ span-max
+    → (h - x .release .0) * x .granted .0 * (span / x .period) ≤ span-max * period-max
 part-high {x} b span whole =
     part-most _ _ (x .period) span (omega (arith, b .ahead, b .due)) (omega (arith, b .budget-high, b .period-high)) whole
 
@@ -47,15 +49,15 @@ module _ (s : Session) (q : Sound s) where
       let load = admits s q .fits in
       le-trans each (rw (sum-scaled h (shareAt (tableOf s)) (s .count)) (mul-le-mul-left h (omega arith)))
 
-  pub parts-high : (n : ℕ) → n ≤ s .count → sumTo (scaledPart s) n ≤ n * 36000000000000000
+  pub parts-high : (n : ℕ) → n ≤ s .count → sumTo (scaledPart s) n ≤ n * (span-max * period-max)
   parts-high n le =
-      sum-high 36000000000000000 (scaledPart s) n
+      sum-high (span-max * period-max) (scaledPart s) n
       (λ i l. part-high (bounded s q i (omega arith)) (s .span) (admits s q .numbers .span-high))
 
-  pub charges-high : (n : ℕ) → n ≤ s .count → sumTo (λ i. streamAt s i .charge .0) n ≤ n * 70000000
-  charges-high n le = sum-high 70000000 (λ i. streamAt s i .charge .0) n (λ i l. fits.charge-high (bounded s q i (omega arith)))
+  pub charges-high : (n : ℕ) → n ≤ s .count → sumTo (λ i. streamAt s i .charge .0) n ≤ n * fits.charge-max
+  charges-high n le = sum-high fits.charge-max (λ i. streamAt s i .charge .0) n (λ i l. fits.charge-high (bounded s q i (omega arith)))
 
-  pub horizon-high : horizon s ≤ 1000000000000
+  pub horizon-high : horizon s ≤ session-end
   horizon-high =
       let first = bounded s q 0 (admits s q .numbers .count-low) in
       omega (arith, first .ahead, first .deadline-high)

@@ -11,7 +11,7 @@ use Rattle.table.proofs.Folds.{count-below}
 use Rattle.table.proofs.Tests.{le-or-lt}
 use Rattle.session.specs.Stream.{slots, microDeadline, shifted, charged}
 use Rattle.session.specs.Bounds.{Bounded}
-use Rattle.session.specs.Laws.{SlotsAreCounted, MinusSign}
+use Rattle.session.specs.Laws.{SlotsAreCounted, SlotsByMicroDeadline, MinusSign}
 use Rattle.session.specs.declared.stream.Stream.{Stream}
 
 pub minus-sign : MinusSign
@@ -59,6 +59,15 @@ slots-are-counted worst h x m hw hp le =
     (fails worst h x hw hp)
     m
     ∙ omega arith
+
+-- what fits before the horizon has its micro-deadline there
+pub slots-by-micro-deadline : SlotsByMicroDeadline
+unfolding microDeadline
+slots-by-micro-deadline worst h x n hw hp released one =
+    let fits = slot-fits worst h x hw hp n one in
+    let whole : h - x .release .0 + x .release .0 ≡ h = omega arith in
+    let scaled = ap (λ (z : ℕ). z * x .granted .0) whole in
+    ((λ le. let a = fits .0 le in omega (arith, scaled, a)), (λ le. fits .1 (omega (arith, scaled, le))))
 
 -- a stream with a slot has been charged at most its budget less W: the span from release to horizon is at most a period
 pub slot-room : (worst h : ℕ) (x : Stream) → Bounded worst h x → 1 ≤ slots worst h x → x .charge .0 + worst ≤ x .granted .0

@@ -168,14 +168,6 @@ pub record Used (s : Session) : Type 0 where
   pub admitted : admissionOf (tableOf s) ≡ 0
   pub each : (i : ℕ) → i < s .count → InOrder (s .worst) (s .padding) (horizon s) (streamAt s i)
 
-pub used-of : (s : Session) → admissionOf (tableOf s) ≡ 0 → usedStreams s ≡ true → Used s
-unfolding usedStreams
-used-of s a t =
-    record {
-      admitted = a;
-      each = λ i l. stream-of (s .worst) (s .padding) (horizon s) (streamAt s i) (all-at _ (s .count) t i l);
-    }
-
 abbrev pub used : (s : Session) → Sound s → Used s
 used s q = record { admitted = q .admitted; each = q .each }
 

@@ -2,6 +2,7 @@
 use mathlib.Core.Path.{_≡_}
 use mathlib.Core.Bool.{Bool, true, false}
 use mathlib.Core.List.{List, map}
+use mathlib.Core.Logic.{_↔_}
 use Prim.Native.Nat.{ℕ, suc, _+_, _-_, _*_, _≤_, _<_}
 use lib.ListN.{getD}
 use lib.Dec.{leb}
@@ -9,8 +10,8 @@ use Rattle.table.specs.Fold.{sumTo, countTo}
 use Rattle.table.specs.Admission.{admissionOf}
 use Rattle.table.specs.declared.Table.{Table}
 use Rattle.session.specs.Stream.{slots, microDeadline, shifted, charged}
-use Rattle.session.specs.Session.{streamAt, horizon, slotsAt, filledAt, someFilled, noSlot, scaledPart, latest, sound}
-use Rattle.session.specs.Choice.{distance, nearest, sentBefore, chosen, expiresBefore, expiring}
+use Rattle.session.specs.Session.{streamAt, horizon, slotsAt, filledAt, inSet, someFilled, noSlot, scaledPart, latest, sound}
+use Rattle.session.specs.Choice.{distance, nearest, nearestAt, sentBefore, chosen, expiresBefore, expiring}
 use Rattle.session.specs.Calls.{answerTo, after, numberOf}
 use Rattle.session.specs.Opening.{zeroSession, openingOf}
 use Rattle.session.specs.Cases.{Case, cases}
@@ -27,6 +28,12 @@ abbrev pub SlotsAreCounted : Type 0
 SlotsAreCounted =
     (worst h : ℕ) (x : Stream) (m : ℕ) → 0 < worst → 0 < x .period → slots worst h x ≤ m
     → countTo (λ i. leb ((x .charge .0 + suc i * worst) * x .period) ((h - x .release .0) * x .granted .0)) m ≡ slots worst h x
+
+-- A slot is there exactly if its micro-deadline is no later than the horizon: the fraction is compared over its g.
+abbrev pub SlotsByMicroDeadline : Type 0
+SlotsByMicroDeadline =
+    (worst h : ℕ) (x : Stream) (n : ℕ) → 0 < worst → 0 < x .period → x .release .0 ≤ h → 1 ≤ n
+    → (n ≤ slots worst h x) ↔ (microDeadline worst x n .above ≤ h * microDeadline worst x n .below)
 
 -- Whose minus sign it is: after a completion of a ≤ W the micro-deadline of the next slot n is the one that slot n + 1 had before, less (W − a) × p / g. Nothing is cut off in that subtraction.
 abbrev pub MinusSign : Type 0
@@ -68,6 +75,12 @@ PartsAreExact =
     → (streamAt s i .release .0 ≤ horizon s)
     × (scaledPart s i * streamAt s i .period ≡ (horizon s - streamAt s i .release .0) * streamAt s i .granted .0 * s .span)
 
+-- "Horizon h = smallest deadline. Always r ≤ h ≤ d."
+abbrev pub HorizonBetween : Type 0
+HorizonBetween =
+    (s : Session) → sound s ≡ true → (i : ℕ) → i < s .count
+    → (streamAt s i .release .0 ≤ horizon s) × (horizon s ≤ streamAt s i .deadline .0)
+
 -- Of the indices below n that have one or more, `first` goes first: none goes before it, and it goes before each lower one, so that of equals the lowest is taken.
 abbrev pub GoesFirst : (ℕ → ℕ) → (ℕ → ℕ → Bool) → ℕ → ℕ → Type 0
 GoesFirst has before n first =
@@ -87,6 +100,19 @@ NearestIsFirst =
     (first < m)
     × (distance head (getD places first 0) ≤ distance head (getD places j 0))
     × (j < first → distance head (getD places first 0) < distance head (getD places j 0))
+
+-- So the request sent goes before each request j of the set, of a stream i, in the order of the document: "Take the earliest deadline among streams with a filled slot; of the set's requests from streams with that deadline, the place nearest the head; ties go to the lower stream, then the earlier arrival."
+abbrev pub SentGoesFirst : Type 0
+SentGoesFirst =
+    (s : Session) (i j : ℕ) → someFilled s ≡ true → i < s .count → inSet s i j ≡ true
+    → let due : ℕ → ℕ = λ a. streamAt s a .deadline .0 in
+    let far : ℕ → ℕ → ℕ = λ a b. distance (s .head) (getD (streamAt s a .places) b 0) in
+    let stream = chosen s in
+    let request = nearestAt s stream in
+    (due stream ≤ due i)
+    × (due i ≡ due stream → far stream request ≤ far i j)
+    × (due i ≡ due stream → far i j ≡ far stream request → stream ≤ i)
+    × (i ≡ stream → far i j ≡ far stream request → request ≤ j)
 
 -- The stream that loses a slot is the first of those with a slot: by r + c × p / g, exactly, then by deadline, then by number.
 abbrev pub ExpiringGoesFirst : Type 0

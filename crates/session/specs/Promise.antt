@@ -1,4 +1,4 @@
--- The line on the card: what is promised of a newly opened session, whatever is called. The proof is `promise` of proofs/Promise.antt.
+-- The line on the card: what is promised of a newly opened session, whatever is called. The quotes are demand 3 of the order. The proof is `promise` of proofs/Promise.antt.
 use mathlib.Core.Path.{_≡_}
 use mathlib.Core.Bool.{Bool, true, not, _&&_}
 use mathlib.Core.List.{List, [], _∷_, _++_}
@@ -15,7 +15,7 @@ use Rattle.session.specs.declared.Session.{Session}
 use Rattle.session.specs.declared.call.Call.{Call}
 use Rattle.session.specs.declared.call.Answer.{Answer}
 
--- "Take a newly opened session and any list of calls, refused ones included, turns and own turns alike." What is remembered of a call: the session that it was handed, the call, and its answer. The history is the list of these, the newest first.
+-- "Take a newly opened session and any calls, refused ones included, with the house's choice or any other choice from the set." What is remembered of a call: the session that it was handed, the call, and its answer. The history is the list of these, the newest first.
 pub record Moment : Type 0 where
   pub before : Session
   pub call : Call
@@ -37,7 +37,7 @@ replied n m = eqb (numberOf (m .answer .reply)) n
 abbrev pub repliedFor : ℕ → ℕ → Moment → Bool
 repliedFor n i m = replied n m && eqb (streamOf (m .call) (m .answer .reply)) (i + 1)
 
--- "As long as no completion has run over W (no reply 26) and no clock report came after the latest safe moment (no reply 28)"
+-- "As long as no completion has run over the worst-case time", which is reply 26, "and no clock report came after the latest safe moment", which is reply 28
 unfoldable pub withinBounds : List Moment → Bool
 withinBounds [] = true
 withinBounds (m ∷ earlier) = not (replied 26 m) && not (replied 28 m) && withinBounds earlier
@@ -70,15 +70,15 @@ durationOf (Call.Clock t) = 0
 abbrev pub reported : ℕ → Moment → ℕ
 reported i m = if (repliedFor 25 i m) (durationOf (m .call)) 0
 
--- "its slots that really expired": one for each reply 22 for its stream
+-- "its expired slots": one for each reply 22 for its stream
 abbrev pub expiry : ℕ → Moment → ℕ
 expiry i m = if (repliedFor 22 i m) 1 0
 
--- "the sum of the durations reported for that job plus W for each of its slots that really expired, both read off the history of calls and replies, not off the session's own cells"
+-- "The charge is the sum of the durations reported for that job, plus one such time for each of its expired slots.": both are read off the history of calls and replies, and not off the session's own cells
 unfoldable pub chargeOf : Table → ℕ → List Moment → ℕ
 chargeOf t i past = sinceClosing reported i past + t .worst * sinceClosing expiry i past
 
--- "the granted budget of the table as it was opened"
+-- "its granted budget": that of the table as it was opened
 abbrev pub budgetOf : Table → ℕ → ℕ
 budgetOf t i = grantedOf (t .worst) (t .padding) (reservedAt t i)
 
@@ -87,7 +87,7 @@ pub record OpenInTime (t : Table) (i : ℕ) (now : Session) (past : List Moment)
   pub in-time : now .clock .0 ≤ streamAt now i .deadline .0
   pub due : streamAt now i .deadline .0 ≡ dueOf t i past
 
--- Of a job that was closed, by the call m after the earlier ones: it "was closed at a clock at most its deadline, with a charge at most the granted budget of the table as it was opened, and more than that budget less W"; "that charge is the sum [...]; the record written at the closing says the same, its expired count included".
+-- Of a job that was closed, by the call m after the earlier ones: "Every closed job was closed by its deadline, with a charge at most its granted budget and more than that budget less one worst-case time. The charge is the sum [...]". The record that is written at the closing says the same, its expired count included.
 pub record ClosedWell (t : Table) (i : ℕ) (m : Moment) (earlier : List Moment) : Type 0 where
   pub in-time : m .before .clock .0 ≤ streamAt (m .before) i .deadline .0
   pub due : streamAt (m .before) i .deadline .0 ≡ dueOf t i earlier
@@ -106,13 +106,13 @@ pub record ClosedWell (t : Table) (i : ℕ) (m : Moment) (earlier : List Moment)
 pub record Promised (t : Table) (now : Session) (past : List Moment) : Type 0 where
   -- "the clock is past no open job's deadline"
   pub open-jobs : (i : ℕ) → i < t .count → OpenInTime t i now past
-  -- "every job that was closed, not only the last of its stream"
+  -- "Every closed job", and not only the last of its stream
   pub closed-jobs : (later : List Moment) (m : Moment) (earlier : List Moment) → later ++ (m ∷ earlier) ≡ past
       → (i : ℕ) → i < t .count → closes i m ≡ true → ClosedWell t i m earlier
-  -- "a slot expires only while its own stream has nothing queued"
+  -- "A slot expires only while its own channel has nothing queued."
   pub expired-slots : (later : List Moment) (m : Moment) (earlier : List Moment) → later ++ (m ∷ earlier) ≡ past
       → (i : ℕ) → repliedFor 22 i m ≡ true → streamAt (m .before) i .queued ≡ 0
-  -- "after any such calls the session is sound, so no call is answered 31"
+  -- after any such calls the session is sound, and so no call is answered 31
   pub is-sound : sound now ≡ true
   pub never-31 : (k : Call) → numberOf (answerTo now k .reply) ≡ 31 → ⊥
 

@@ -6,14 +6,13 @@ use Prim.Native.Nat.{ℕ, _+_, _*_, _/_, _≤_, _<_, min, max}
 use lib.ListN.{getD, replicate}
 use lib.Dec.{leb, ltb, eqb}
 use Rattle.table.specs.Fold.{if}
-use Rattle.table.specs.Ranges.{worst-max}
+use Rattle.table.specs.Ranges.{streams-max, worst-max}
 use Rattle.table.specs.Admission.{numbersRefusal, streamRefusal}
-use Rattle.table.specs.declared.Table.{Table}
 use Rattle.session.specs.Time.{session-end, moment}
 use Rattle.session.specs.Stream.{slots, filled, soundCells}
 use Rattle.session.specs.Bounds.{Bounded}
-use Rattle.session.specs.Session.{someFilled, noSlot, latest}
-use Rattle.session.specs.Choice.{distance, nearest, nearestAt, chosen, expiring}
+use Rattle.session.specs.Session.{noSlot}
+use Rattle.session.specs.Choice.{distance, nearest, expiring}
 use Rattle.session.specs.declared.time.Clock.{Clock}
 use Rattle.session.specs.declared.census.Census.{Census}
 use Rattle.session.specs.declared.choice.Near.{Near}
@@ -34,7 +33,7 @@ begun worst span k count first =
       span = span;
       padding = k;
       count = count;
-      sound = eqb (numbersRefusal (record { worst = worst; span = span; padding = k; count = count; reserved = replicate 8 0; period = replicate 8 0 })) 0;
+      sound = eqb (numbersRefusal (record { worst = worst; span = span; padding = k; count = count; reserved = replicate streams-max 0; period = replicate streams-max 0 })) 0;
       horizon = first .deadline;
       released = moment 0;
       shares = 0;
@@ -67,10 +66,13 @@ counted c x =
       least = c .least;
     })
 
--- with these numbers one more stream can be taken in, and no sum wraps
+-- with these numbers one more stream can be taken in, and no sum wraps: eight shares of the span are far less
+abbrev pub shares-max : ℕ
+shares-max = 1_000_000_000_000
+
 pub record Countable (c : Census) : Type 0 where
   pub worst-low : 0 < c .worst
-  pub shares-high : c .shares ≤ 1_000_000_000_000
+  pub shares-high : c .shares ≤ shares-max
 
 -- what it says of the session once the used streams are passed, beside the unused ones
 abbrev pub loadSo : Census → ℕ
@@ -87,7 +89,7 @@ says c clock served place x =
 -- and with these the session can be judged: a stream at the disk has bounded numbers once the load fits and no release is past the horizon
 pub record Judgeable (c : Census) (served : ℕ) (x : Stream) : Type 0 where
   pub worst-high : c .worst ≤ worst-max
-  pub shares-high : c .shares ≤ 1_000_000_000_000
+  pub shares-high : c .shares ≤ shares-max
   pub least-low : 0 < c .least
   pub at-disk : loadSo c ≤ c .span → c .released .0 ≤ c .horizon .0 → (served ≡ 0 → ⊥) → served ≤ c .count → Bounded (c .worst) (c .horizon .0) x
 

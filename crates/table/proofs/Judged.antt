@@ -2,26 +2,29 @@
 use mathlib.Core.Bool.{not}
 use mathlib.Core.Path.{_≡_}
 use mathlib.Core.List.{List}
-use Prim.Native.Nat.{ℕ, _/_, _%_, _≤_, _<_}
-use native.Mathlib.Nat.{mul-le-mul-right, mul-div-le, le-trans}
+use Prim.Native.Nat.{ℕ, _*_, _/_, _%_, _≤_, _<_}
+use native.Mathlib.Nat.{mul-le-mul-right, mul-div-le, le-trans, div-add-mod'}
+use native.Mathlib.Omega.{arith}
 use lib.ListN.{getD}
 use lib.Dec.{ltb, eqb}
 use borrow.Author.Tests.{ltb-false, eqb-true, eqb-false, not-false}
+use Rattle.table.specs.Ranges.{streams-max, worst-min, worst-max, span-min, span-max, padding-max, period-min, period-max}
 use Rattle.table.specs.Refusal.{outside}
 use Rattle.table.specs.Admission.{reservedAt, periodAt, grantedOf, shareOf, shareAt, sharesOf, smallestPeriod, numbersRefusal, streamRefusal, streamRefusalAt, streamsRefusal, loadOf, admissionOf}
+use Rattle.table.specs.Laws.{LoadIsExact}
 use Rattle.table.specs.declared.Table.{Table}
 use Rattle.table.proofs.Tests.{within, neither, given-none, or-next-none}
-use Rattle.table.proofs.Folds.{first-none, sum-agree, smallest-agree, first-agree}
+use Rattle.table.proofs.Folds.{first-none, smallest-is, sum-agree, smallest-agree, first-agree}
 
 -- the numbers of the whole table are in their ranges
 pub record Numbers (t : Table) : Type 0 where
   pub count-low : 1 ≤ t .count
-  pub count-high : t .count ≤ 8
-  pub worst-low : 1 ≤ t .worst
-  pub worst-high : t .worst ≤ 1000000
-  pub span-low : 1000 ≤ t .span
-  pub span-high : t .span ≤ 600000000
-  pub padding-high : t .padding ≤ 3
+  pub count-high : t .count ≤ streams-max
+  pub worst-low : worst-min ≤ t .worst
+  pub worst-high : t .worst ≤ worst-max
+  pub span-low : span-min ≤ t .span
+  pub span-high : t .span ≤ span-max
+  pub padding-high : t .padding ≤ padding-max
 
 pub numbers-of : (t : Table) → numbersRefusal t ≡ 0 → Numbers t
 unfolding numbersRefusal
@@ -29,9 +32,9 @@ numbers-of t h =
     let a = or-next-none _ _ h in
     let b = or-next-none _ _ (a .1) in
     let d = or-next-none _ _ (b .1) in
-    let count = within 1 8 (t .count) (given-none _ 0 (a .0)) in
-    let worst = within 1 1000000 (t .worst) (given-none _ 1 (b .0)) in
-    let span = within 1000 600000000 (t .span) (given-none _ 2 (d .0)) in
+    let count = within 1 streams-max (t .count) (given-none _ 0 (a .0)) in
+    let worst = within worst-min worst-max (t .worst) (given-none _ 1 (b .0)) in
+    let span = within span-min span-max (t .span) (given-none _ 2 (d .0)) in
     record {
       count-low = count .0;
       count-high = count .1;
@@ -39,13 +42,13 @@ numbers-of t h =
       worst-high = worst .1;
       span-low = span .0;
       span-high = span .1;
-      padding-high = ltb-false 3 (t .padding) (given-none _ 3 (d .1));
+      padding-high = ltb-false padding-max (t .padding) (given-none _ 3 (d .1));
     }
 
 -- a stream's reservation is in order
 pub record Fits-in (worst span k e p : ℕ) : Type 0 where
-  pub period-low : 1000 ≤ p
-  pub period-high : p ≤ 60000000
+  pub period-low : period-min ≤ p
+  pub period-high : p ≤ period-max
   pub divides : span % p ≡ 0
   pub reserved-low : e ≡ 0 → ⊥
   pub budget : grantedOf worst k e ≤ p
@@ -54,9 +57,9 @@ pub stream-of : (worst span k e p : ℕ) → streamRefusal worst span k e p ≡ 
 unfolding streamRefusal
 stream-of worst span k e p h =
     let a = or-next-none _ _ h in
-    let five = neither (outside 1000 60000000 p) (not (eqb (span % p) 0)) (given-none _ 4 (a .0)) in
+    let five = neither (outside period-min period-max p) (not (eqb (span % p) 0)) (given-none _ 4 (a .0)) in
     let six = neither (eqb e 0) (ltb p (grantedOf worst k e)) (given-none _ 5 (a .1)) in
-    let range = within 1000 60000000 p (five .0) in
+    let range = within period-min period-max p (five .0) in
     record {
       period-low = range .0;
       period-high = range .1;
@@ -109,3 +112,12 @@ admits-alike t reserved period h es ps =
     (λ i l. rw (es i l, ps i l)) in
     let least = smallest-agree (λ i. getD period i 0) (periodAt t) (t .count) (admits-of t h .numbers .count-low) ps in
     rw (refusals, shares, least) h
+
+-- a period divides the span, and so does the smallest
+pub load-is-exact : LoadIsExact
+unfolding smallestPeriod
+load-is-exact t numbers streams =
+    let whole : (p : ℕ) → t .span % p ≡ 0 → t .span / p * p ≡ t .span = λ p e. omega (arith, div-add-mod' (t .span) p, e) in
+    let divides : (i : ℕ) → i < t .count → t .span % periodAt t i ≡ 0 = λ i l. streams-of t streams i l .divides in
+    let least = smallest-is (λ p. t .span % p ≡ 0) (periodAt t) (t .count) (numbers-of t numbers .count-low) divides in
+    (λ i l. whole (periodAt t i) (divides i l), whole (smallestPeriod t) least)

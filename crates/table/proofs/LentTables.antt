@@ -5,7 +5,8 @@ use Prim.Native.Nat.{ℕ}
 use Rattle.table.specs.Fold.{listTo}
 use Rattle.table.specs.Refusal.{given, _or-next_}
 use Rattle.table.specs.Admission.{numbersRefusal, admissionOf}
-use Rattle.table.specs.Reservations.{recordsOf, tableOf, lentTable, LengthRefused}
+use Rattle.table.specs.Reservations.{recordsOf, tableOf, lentTable}
+use Rattle.table.specs.Laws.{LengthRefused}
 use Rattle.table.specs.declared.reservations.Reservation.{Reservation}
 
 pub taken-table : (worst span k : ℕ) (records : List Reservation)

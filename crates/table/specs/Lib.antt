@@ -3,3 +3,4 @@ pub mod Refusal
 pub mod Ranges
 pub mod Admission
 pub mod Reservations
+pub mod Laws

@@ -1,13 +1,9 @@
 -- The table as a lent slice of reservation records.
-use mathlib.Core.Bool.{true}
 use mathlib.Core.List.{List}
-use mathlib.Core.Path.{_≡_}
 use Prim.Native.Nat.{ℕ}
 use lib.ListN.{length, getD}
 use Rattle.table.specs.Fold.{listTo}
 use Rattle.table.specs.Ranges.{streams-max}
-use Rattle.table.specs.Refusal.{outside}
-use Rattle.table.specs.Admission.{admissionOf}
 use Rattle.table.specs.declared.Table.{Table}
 use Rattle.table.specs.declared.reservations.Reservation.{Reservation}
 use Rattle.table.specs.declared.reservations.Records.{Records}
@@ -39,9 +35,3 @@ tableOf worst span k records count =
 -- the table of W, H, k and a lent slice: its count is the slice's length, which admission judges
 abbrev pub lentTable : ℕ → ℕ → ℕ → List Reservation → Table
 lentTable worst span k records = tableOf worst span k records (length records)
-
--- 1 "no stream, or more than 8": a slice with no record, and one with more than eight, are refused by 1, whatever else there is.
-abbrev pub LengthRefused : Type 0
-LengthRefused =
-    (worst span k : ℕ) (records : List Reservation) → outside 1 streams-max (length records) ≡ true
-    → admissionOf (lentTable worst span k records) ≡ 1

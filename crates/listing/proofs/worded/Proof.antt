@@ -1,7 +1,7 @@
 -- `worded` stores the word, and then the numbers behind it.
 use borrow.Author.Needs.{needs}
 use native.Mathlib.Omega.{arith}
-use mathlib.Core.Path.{_≡_, sym, ap, _∙_}
+use mathlib.Core.Path.{ap}
 use mathlib.Core.List.{map}
 use lib.ListN.{length, take, replicate}
 use Rattle.cells.proofs.Runs.{wrote-none, wrote-more}

@@ -1,6 +1,6 @@
 -- `next_line` counts up to the highest number.
 use borrow.Author.Needs.{needs}
-use borrow.Author.Tests.{eq-eqb, ne-eqb, lt-ltb, le-ltb}
+use borrow.Author.Tests.{lt-ltb, le-ltb}
 use Prim.Native.Nat.{_-_, _^_}
 use Rattle.table.specs.Fold.{if}
 use Rattle.notes.specs.Notes.{nextLine}

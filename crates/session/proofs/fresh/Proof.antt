@@ -3,10 +3,6 @@ use Rattle.session.specs.Opening.{freshSession}
 use borrow.Author.Needs.{needs}
 use Rattle.session.proofs.fresh.Statement.{statement}
 use Rattle.session.proofs.fresh.Tie as tie
-use Rattle.session.proofs.fresh.Reads as reads
-use Rattle.session.proofs.fresh.Lts as lts
-use Rattle.session.proofs.opened_streams.Reads as opened-streams-reads
-use Rattle.session.proofs.time.Clock.at.Reads as at-reads
 
 opened-streams-requires : tie.Need-opened-streams-requires
 opened-streams-requires c κs = search needs

@@ -4,6 +4,7 @@ use Prim.Native.Nat.{ℕ, _+_, _*_, _/_, _≤_}
 use native.Mathlib.Nat.{mul-le-mul, div-le-self, le-trans}
 use native.Mathlib.Omega.{arith}
 use borrow.Author.Needs.{needs}
+use Rattle.table.specs.Ranges.{worst-max, span-max, period-min}
 use Rattle.table.specs.Admission.{periodAt, sharesOf, smallestPeriod, loadOf, numbersRefusal, streamsRefusal}
 use Rattle.table.specs.declared.Table.{Table}
 use Rattle.table.proofs.Folds.{smallest-is}
@@ -11,14 +12,14 @@ use Rattle.table.proofs.Judged.{numbers-of, streams-of}
 use Rattle.table.proofs.load.Statement.{statement}
 use Rattle.table.proofs.load.Tie as tie
 
-smallest-low : (t : Table) → numbersRefusal t ≡ 0 → streamsRefusal t ≡ 0 → 1000 ≤ smallestPeriod t
+smallest-low : (t : Table) → numbersRefusal t ≡ 0 → streamsRefusal t ≡ 0 → period-min ≤ smallestPeriod t
 unfolding smallestPeriod
-smallest-low t n s = smallest-is (λ p. 1000 ≤ p) (periodAt t) (t .count) (numbers-of t n .count-low) (λ i l. streams-of t s i l .period-low)
+smallest-low t n s = smallest-is (λ p. period-min ≤ p) (periodAt t) (t .count) (numbers-of t n .count-low) (λ i l. streams-of t s i l .period-low)
 
 blocking-high : (t : Table) (p : ℕ) → numbersRefusal t ≡ 0 → t .worst * (t .span / p) ≤ 600000000000000
 blocking-high t p n =
     let q = numbers-of t n in
-    mul-le-mul {n₂ = 1000000} {m₂ = 600000000} (q .worst-high) (le-trans (div-le-self (t .span) p) (q .span-high))
+    mul-le-mul {n₂ = worst-max} {m₂ = span-max} (q .worst-high) (le-trans (div-le-self (t .span) p) (q .span-high))
 
 smallest-period-requires : tie.Need-smallest-period-requires
 smallest-period-requires c κs = numbers-of _ (c .pre .0) .count-high

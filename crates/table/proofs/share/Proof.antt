@@ -7,9 +7,6 @@ use mathlib.Core.Path.{refl}
 use borrow.Author.Needs.{needs}
 use Rattle.table.proofs.share.Statement.{statement}
 use Rattle.table.proofs.share.Tie as tie
-use Rattle.table.proofs.share.Reads as reads
-use Rattle.table.proofs.share.Lts as lts
-use Rattle.table.proofs.granted.Reads as granted-reads
 
 granted-requires : tie.Need-granted-requires
 granted-requires c κs = search needs

@@ -9,9 +9,6 @@ use native.Mathlib.Numerals.{add-one}
 use Prim.Native.Nat.{_≤_, _-_, _*_}
 use Rattle.table.proofs.shares.Statement.{statement}
 use Rattle.table.proofs.shares.Tie as tie
-use Rattle.table.proofs.shares.Reads as reads
-use Rattle.table.proofs.shares.Lts as lts
-use Rattle.table.proofs.share.Reads as share-reads
 
 abbrev Inv-loop : tie.InvT-loop
 Inv-loop t reserved period sum₀ i₀ sum i = (i ≤ t .count) × (sum ≤ i * t .span) × (sum ≡ sumTo (shareAt t) i)

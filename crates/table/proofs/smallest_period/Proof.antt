@@ -8,8 +8,6 @@ use native.Mathlib.Numerals.{add-one}
 use Prim.Native.Nat.{_≤_, _-_}
 use Rattle.table.proofs.smallest_period.Statement.{statement}
 use Rattle.table.proofs.smallest_period.Tie as tie
-use Rattle.table.proofs.smallest_period.Reads as reads
-use Rattle.table.proofs.smallest_period.Lts as lts
 
 abbrev Inv-loop : tie.InvT-loop
 Inv-loop t period least₀ i₀ least i = (i ≤ t .count) × (least ≡ smallestTo (periodAt t) i)

@@ -2,6 +2,7 @@
 use borrow.Author.Needs.{needs}
 use borrow.Author.Tests.{eq-eqb, ne-eqb}
 use native.Mathlib.Omega.{arith}
+use Rattle.table.specs.Ranges.{period-min, period-max}
 use Rattle.table.specs.Refusal.{given, _or-next_, outside}
 use Rattle.table.specs.Admission.{streamRefusal}
 use Rattle.table.proofs.Tests.{within}
@@ -14,7 +15,7 @@ returns c = rw (c .if1 .taken)
 
 rem-if2 : tie.Need-rem-if2
 unfolding outside
-rem-if2 c = omega (arith, within 1000 60000000 (c .before .args .period) (c .if1 .left))
+rem-if2 c = omega (arith, within period-min period-max (c .before .args .period) (c .if1 .left))
 
 returns-2 : tie.Need-returns-2
 unfolding streamRefusal given _or-next_ outside

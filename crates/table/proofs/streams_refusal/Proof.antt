@@ -8,9 +8,6 @@ use native.Mathlib.Numerals.{add-one}
 use Prim.Native.Nat.{_≤_, _-_}
 use Rattle.table.proofs.streams_refusal.Statement.{statement}
 use Rattle.table.proofs.streams_refusal.Tie as tie
-use Rattle.table.proofs.streams_refusal.Reads as reads
-use Rattle.table.proofs.streams_refusal.Lts as lts
-use Rattle.table.proofs.stream_refusal.Reads as stream-refusal-reads
 
 abbrev Inv-loop : tie.InvT-loop
 Inv-loop t reserved period i₀ i = (i ≤ t .count) × (firstTo (streamRefusalAt t) i ≡ 0)

@@ -1,5 +1,5 @@
 -- `step` makes the call that an event asks for.
-use mathlib.Core.Path.{_≡_, refl, sym, ap, _∙_}
+use mathlib.Core.Path.{_≡_, sym, ap, _∙_}
 use Rattle.trace.specs.Trace.{applied, handed}
 use Rattle.file.specs.declared.event.Event.{Event}
 use Rattle.session.specs.declared.Session.{Session}

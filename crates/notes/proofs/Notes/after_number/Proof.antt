@@ -1,6 +1,6 @@
 -- `after_number` takes a number in its turn.
 use borrow.Author.Needs.{needs}
-use borrow.Author.Tests.{eq-eqb, ne-eqb, lt-ltb, le-ltb}
+use borrow.Author.Tests.{eq-eqb, ne-eqb}
 use Rattle.table.specs.Fold.{if}
 use Rattle.notes.specs.Notes.{afterNumber}
 use Rattle.notes.proofs.Notes.after_number.Statement.{statement}

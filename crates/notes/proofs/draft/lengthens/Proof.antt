@@ -1,8 +1,7 @@
 -- `lengthens` asks for room without making the longer number: that is `room`.
 use borrow.Author.Needs.{needs}
-use Rattle.table.specs.Fold.{if}
 use mathlib.Core.Path.{sym, _∙_}
-use Rattle.notes.specs.Draft.{isDigit, lengthens}
+use Rattle.notes.specs.Draft.{lengthens}
 use Rattle.notes.proofs.Digits.{digit-low, room}
 use Rattle.notes.proofs.draft.lengthens.Statement.{statement}
 use Rattle.notes.proofs.draft.lengthens.Tie as tie

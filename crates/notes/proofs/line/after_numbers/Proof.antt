@@ -1,6 +1,6 @@
 -- `after_numbers` counts the streams, and then the events.
 use borrow.Author.Needs.{needs}
-use borrow.Author.Tests.{eq-eqb, ne-eqb, lt-ltb, le-ltb}
+use borrow.Author.Tests.{lt-ltb, le-ltb}
 use Rattle.table.specs.Fold.{if}
 use Rattle.notes.specs.Line.{afterNumbers}
 use Rattle.notes.proofs.line.after_numbers.Statement.{statement}

@@ -1,6 +1,6 @@
 -- `fields_line` goes by the number of fields.
 use borrow.Author.Needs.{needs}
-use borrow.Author.Tests.{eq-eqb, ne-eqb, lt-ltb, le-ltb}
+use borrow.Author.Tests.{eq-eqb, ne-eqb}
 use Rattle.table.specs.Fold.{if}
 use Rattle.notes.specs.Line.{fieldsLine}
 use Rattle.notes.proofs.line.fields_line.Statement.{statement}

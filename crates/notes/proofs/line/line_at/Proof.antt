@@ -1,6 +1,6 @@
 -- `line_at` counts the three numbers of the table first.
 use borrow.Author.Needs.{needs}
-use borrow.Author.Tests.{eq-eqb, ne-eqb, lt-ltb, le-ltb}
+use borrow.Author.Tests.{eq-eqb, ne-eqb}
 use Rattle.table.specs.Fold.{if}
 use Rattle.notes.specs.Line.{lineAt}
 use Rattle.notes.proofs.line.line_at.Statement.{statement}

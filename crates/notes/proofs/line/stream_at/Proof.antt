@@ -1,6 +1,6 @@
 -- `stream_at` reads the two columns of a table.
 use borrow.Author.Needs.{needs}
-use borrow.Author.Tests.{eq-eqb, ne-eqb, lt-ltb, le-ltb}
+use borrow.Author.Tests.{lt-ltb, le-ltb}
 use Rattle.table.specs.Fold.{if}
 use Rattle.table.specs.Ranges.{streams-max}
 use Rattle.notes.specs.Line.{streamAt}

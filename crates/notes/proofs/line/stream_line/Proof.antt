@@ -1,6 +1,6 @@
 -- `stream_line` asks both numbers for room in 32 bits.
 use borrow.Author.Needs.{needs}
-use borrow.Author.Tests.{eq-eqb, ne-eqb, lt-ltb, le-ltb}
+use borrow.Author.Tests.{lt-ltb, le-ltb}
 use Prim.Native.Nat.{_^_}
 use Rattle.table.specs.Fold.{if}
 use Rattle.notes.specs.Line.{streamLine}

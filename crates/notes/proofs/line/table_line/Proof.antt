@@ -1,5 +1,5 @@
 -- `table_line` knows the three words of the table.
-use borrow.Author.Tests.{eq-eqb, ne-eqb, lt-ltb, le-ltb}
+use borrow.Author.Tests.{eq-eqb, ne-eqb}
 use Rattle.table.specs.Fold.{if}
 use Rattle.listing.specs.Line.{ascii}
 use Rattle.notes.specs.Line.{heldAfter, held, tableLine}

@@ -1,5 +1,5 @@
 -- `word_line` knows one word.
-use borrow.Author.Tests.{eq-eqb, ne-eqb, lt-ltb, le-ltb}
+use borrow.Author.Tests.{eq-eqb, ne-eqb}
 use Rattle.table.specs.Fold.{if}
 use Rattle.listing.specs.Line.{ascii}
 use Rattle.notes.specs.Line.{heldAfter, held, wordLine}

@@ -1,15 +1,12 @@
 -- `Session::arrival` judges the session, refuses by 31, 8 and 9 and puts the request into the queue: each way out rewrites the tests that led there.
-use borrow.Author.Needs.{needs}
 use borrow.Author.Tests.{eq-eqb, ne-eqb, not-true, not-false}
 use mathlib.Core.Bool.{true, false, _&&_}
 use mathlib.Core.Path.{_≡_, sym, _∙_}
 use native.Mathlib.Omega.{arith}
 use Prim.Native.Nat.{_≤_, _<_, _-_}
-use lib.Dec.{ltb}
 use lib.ListN.{length-map}
 use Rattle.table.specs.Refusal.{given, _or-next_}
-use Rattle.session.specs.Time.{moment}
-use Rattle.session.specs.Session.{horizon, sound}
+use Rattle.session.specs.Session.{sound}
 use Rattle.session.specs.Calls.{append, noSuchStream, callRefusal, effect, apply, replyTo, outcome, answerTo}
 use Rattle.session.specs.declared.call.Call.{Call}
 use Rattle.session.proofs.Outcomes.{appended}

@@ -1,23 +1,21 @@
 -- `Session::clock` judges the session, refuses by 31, 10, 13 and 14 and sets the clock: each way out rewrites the tests that led there.
-use borrow.Author.Needs.{needs}
 use borrow.Author.Tests.{eq-eqb, ne-eqb, not-true, not-false}
 use mathlib.Core.Bool.{true, false, _&&_}
 use mathlib.Core.Path.{_≡_, sym, ap, _∙_}
 use native.Mathlib.Omega.{arith}
-use native.Mathlib.Numerals.{add-one}
-use Prim.Native.Nat.{_+_, _≤_, _<_, _-_}
+use Prim.Native.Nat.{_≤_, _-_}
 use lib.Dec.{ltb}
 use lib.ListN.{length-map}
 use Rattle.table.specs.Refusal.{given, _or-next_}
-use Rattle.session.specs.Time.{session-end, moment, diskTime}
-use Rattle.session.specs.Session.{streamAt, horizon, scaledPart, latest, sound}
+use Rattle.session.specs.Time.{session-end, moment}
+use Rattle.session.specs.Session.{horizon, latest, sound}
 use Rattle.session.specs.Calls.{set-clock, busy, late, callRefusal, effect, apply, replyTo, outcome, answerTo}
 use Rattle.session.specs.declared.time.Clock.{Clock}
 use Rattle.session.specs.declared.call.Call.{Call}
 use Rattle.session.proofs.Outcomes.{clocked-late, clocked}
 use Rattle.session.proofs.Answers.{unsound-answer, refused, accepted}
 use Rattle.session.proofs.Summing.{sumsTo, sums-none, sums-more, can-sum, can-end, until-is}
-use Rattle.session.proofs.Sound.{sound-of, admits, count-high, bounded}
+use Rattle.session.proofs.Sound.{sound-of, count-high}
 use Rattle.session.proofs.Judging.{Counting, Resting, counting-none, used, below, can-count, counting-more, resting-none, resting-more, can-judge, judged}
 use Rattle.session.proofs.Session.clock.Statement.{statement}
 use Rattle.session.proofs.Session.clock.Tie as tie

@@ -4,12 +4,12 @@ use borrow.Author.Tests.{eq-eqb, ne-eqb, not-true, not-false}
 use mathlib.Core.Bool.{true, false, _&&_}
 use mathlib.Core.Path.{_≡_, sym, ap, _∙_}
 use native.Mathlib.Omega.{arith}
-use Prim.Native.Nat.{_+_, _≤_, _<_, _-_}
+use Prim.Native.Nat.{_+_, _≤_, _-_}
 use lib.Dec.{ltb}
 use lib.ListN.{length-map}
 use Rattle.table.specs.Refusal.{given, _or-next_, outside}
 use Rattle.table.proofs.Tests.{within}
-use Rattle.session.specs.Time.{session-end, moment}
+use Rattle.session.specs.Time.{session-end, moment, duration-max}
 use Rattle.session.specs.Stream.{charged}
 use Rattle.session.specs.Session.{streamAt, horizon, sound}
 use Rattle.session.specs.Calls.{finish, busy, callRefusal, effect, apply, replyTo, outcome, answerTo}
@@ -122,7 +122,7 @@ busy-here c =
     let at = served-of s (sound-of s (ok (c .before)) .disk) (c .if3 .taken) in
     (omega arith, omega arith, count-high s (ok (c .before)))
 
-in-range : (c : tie.Then4 Inv-loop μ-loop Inv-loop2 μ-loop2) → let a = c .before .before .before .before .before .before .before .before .before .before .before .before .before .before .args in outside 1 10000000 (a .duration) ≡ false
+in-range : (c : tie.Then4 Inv-loop μ-loop Inv-loop2 μ-loop2) → let a = c .before .before .before .before .before .before .before .before .before .before .before .before .before .before .args in outside 1 duration-max (a .duration) ≡ false
 unfolding outside
 in-range c = not-true _ (c .if4 .taken)
 
@@ -131,7 +131,7 @@ of-requires c κs = tt
 
 after-requires : tie.Need-after-requires Inv-loop μ-loop Inv-loop2 μ-loop2
 after-requires c κs =
-    let range = within 1 10000000 (c .before .before .before .before .before .before .before .before .before .before .before .before .before .before .before .before .args .duration) (in-range (c .before .before)) in
+    let range = within 1 duration-max (c .before .before .before .before .before .before .before .before .before .before .before .before .before .before .before .before .args .duration) (in-range (c .before .before)) in
     (sound-of _ (ok (c .before .before .before .before)) .clock-high, rw (c .before .of .ensures) (omega (arith, range)))
 
 is-past-end-requires : tie.Need-is-past-end-requires Inv-loop μ-loop Inv-loop2 μ-loop2
@@ -156,7 +156,7 @@ element-copy-out-x-3 c = omega (arith, busy-here (c .before .before .before .bef
 charged-requires : tie.Need-charged-requires Inv-loop μ-loop Inv-loop2 μ-loop2
 charged-requires c κs =
     let s = c .before .before .before .before .before .before .before .before .before .before .before .before .before .before .before .before .before .before .before .before .args .t1 in
-    let range = within 1 10000000 (c .before .before .before .before .before .before .before .before .before .before .before .before .before .before .before .before .before .before .before .before .args .duration) (in-range (c .before .before .before .before .before .before)) in
+    let range = within 1 duration-max (c .before .before .before .before .before .before .before .before .before .before .before .before .before .before .before .before .before .before .before .before .args .duration) (in-range (c .before .before .before .before .before .before)) in
     (omega (arith, charge-high (bounded s (sound-of s (ok (c .before .before .before .before .before .before .before .before))) (s .served - 1) (omega (arith, busy-here (c .before .before .before .before .before .before .before))))), rw (c .before .before .before .before .before .of .ensures) (omega (arith, range)))
 
 mul-y : tie.Need-mul-y Inv-loop μ-loop Inv-loop2 μ-loop2
@@ -199,7 +199,7 @@ returns-4 : tie.Need-returns-4 Inv-loop μ-loop Inv-loop2 μ-loop2
 unfolding callRefusal given _or-next_ busy outside apply replyTo
 returns-4 c =
     let a = c .before .before .before .before .before .before .before .before .before .before .before .before .before .before .args in
-    let out : outside 1 10000000 (a .duration) ≡ true = not-false _ (c .if4 .left) in
+    let out : outside 1 duration-max (a .duration) ≡ true = not-false _ (c .if4 .left) in
     sym (refused (a .t1) (Call.Done (a .duration)) (ok (c .before .before)) 11 (rw (ne-eqb _ _ (c .before .if3 .taken), out)))
 
 returns-5 : tie.Need-returns-5 Inv-loop μ-loop Inv-loop2 μ-loop2

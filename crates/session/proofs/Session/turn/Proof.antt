@@ -1,12 +1,11 @@
 -- `Session::turn` judges the session, refuses by 31 and 10 and sends where some slot is filled; else it waits or expires where a stream has a slot, and moves or refuses by 14 where none has.
-use borrow.Author.Needs.{needs}
-use borrow.Author.Tests.{eq-eqb, ne-eqb, not-true, not-false}
-use mathlib.Core.Bool.{Bool, true, false, _&&_}
+use borrow.Author.Tests.{ne-eqb, not-true, not-false}
+use mathlib.Core.Bool.{true, false, _&&_}
 use mathlib.Core.Path.{_≡_, refl, sym, ap, ap₂, subst, subst₂, _∙_}
 use native.Mathlib.Omega.{arith}
 use native.Mathlib.Numerals.{add-one}
-use Prim.Native.Nat.{ℕ, _+_, _≤_, _<_, _-_}
-use lib.Dec.{leb, ltb}
+use Prim.Native.Nat.{ℕ, _≤_, _<_, _-_}
+use lib.Dec.{leb}
 use lib.ListN.{length-map}
 use Rattle.table.specs.Fold.{someTo}
 use Rattle.table.specs.Refusal.{given, _or-next_}
@@ -16,7 +15,7 @@ use Rattle.session.specs.Stream.{closesPastEnd, lapsed, moved}
 use Rattle.session.specs.Session.{streamAt, horizon, slotsAt, someFilled, noSlot, latest, sound}
 use Rattle.session.specs.Choice.{firstBest, nearestAt, chosen, expiresBefore, expiring}
 use Rattle.session.specs.Search.{lapseOf}
-use Rattle.session.specs.Calls.{send, move, wait, expire, busy, movePassesEnd, callRefusal, apply, replyTo, outcome, answerTo}
+use Rattle.session.specs.Calls.{send, expire, busy, movePassesEnd, callRefusal, apply, replyTo, outcome}
 use Rattle.session.specs.declared.time.Clock.{Clock}
 use Rattle.session.specs.declared.expiry.Lapse.{Lapse}
 use Rattle.session.specs.declared.stream.Stream.{Stream}

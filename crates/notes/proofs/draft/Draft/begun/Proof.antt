@@ -1,6 +1,6 @@
 -- `begun` counts the field, up to three.
 use borrow.Author.Needs.{needs}
-use borrow.Author.Tests.{eq-eqb, ne-eqb, lt-ltb, le-ltb}
+use borrow.Author.Tests.{lt-ltb, le-ltb}
 use Rattle.table.specs.Fold.{if}
 use Rattle.notes.specs.Draft.{begun}
 use Rattle.notes.proofs.draft.Draft.begun.Statement.{statement}

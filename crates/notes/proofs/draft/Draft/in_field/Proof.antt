@@ -1,6 +1,6 @@
 -- `in_field` goes by the field that is being read.
 use borrow.Author.Needs.{needs}
-use borrow.Author.Tests.{eq-eqb, ne-eqb, lt-ltb, le-ltb}
+use borrow.Author.Tests.{eq-eqb, ne-eqb}
 use Rattle.table.specs.Fold.{if}
 use Rattle.notes.specs.Draft.{inField}
 use Rattle.notes.proofs.draft.Draft.in_field.Statement.{statement}

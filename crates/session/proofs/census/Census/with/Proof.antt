@@ -1,5 +1,5 @@
 -- `Census::with` takes in one more stream: one in order has a share of at most the span.
-use mathlib.Core.Bool.{Bool, true, false}
+use mathlib.Core.Bool.{true}
 use mathlib.Core.Path.{_≡_, sym, _∙_}
 use Prim.Native.Nat.{ℕ, _≤_, _*_, _/_}
 use native.Mathlib.Nat.{div-le-self}

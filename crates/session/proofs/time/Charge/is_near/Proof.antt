@@ -2,6 +2,7 @@
 use borrow.Author.Tests.{leb-true, le-leb}
 use Prim.Native.Nat.{ℕ, _+_, _-_, _<_}
 use lib.Dec.{leb}
+use Rattle.session.specs.Time.{duration-max}
 use Rattle.table.proofs.Tests.{same-test}
 use native.Mathlib.Omega.{arith}
 use mathlib.Core.Path.{_≡_, sym}
@@ -21,12 +22,12 @@ by-difference c g d l =
 returns : tie.Need-returns
 returns c =
     let a = c .before .before .args in
-    sym (le-leb (a .self .0) (a .budget .0 + 10000000) (omega arith))
+    sym (le-leb (a .self .0) (a .budget .0 + duration-max) (omega arith))
 
 returns-2 : tie.Need-returns-2
 returns-2 c =
     let a = c .before .before .before .before .args in
-    by-difference (a .self .0) (a .budget .0) 10000000 (omega arith)
+    by-difference (a .self .0) (a .budget .0) duration-max (omega arith)
 
 pub is-near-spec : {M : Type 1} → statement M
 is-near-spec = tie.close (tie.spec sub-result returns returns-2)

@@ -6,7 +6,7 @@ use native.Mathlib.Omega.{arith}
 use Rattle.table.specs.Fold.{sumTo}
 use Rattle.table.specs.Ranges.{span-max}
 use Rattle.session.specs.Time.{session-end, moment, diskTime}
-use Rattle.session.specs.Bounds.{Bounded}
+use Rattle.session.specs.Bounds.{parts-max, Bounded}
 use Rattle.session.specs.Session.{streamAt, horizon, scaledPart, latest}
 use Rattle.session.specs.declared.expiry.Sums.{Sums}
 use Rattle.session.specs.declared.Session.{Session}
@@ -29,14 +29,14 @@ module _ (s : Session) where
   module _ (q : Sound s) where
     -- one more stream can be taken in
     pub can-sum : (k : ℕ) → k < s .count
-        → (sumsTo k .charges .0 ≤ session-end) × (sumsTo k .parts ≤ 1000000000000000000) × (s .span ≤ span-max) × ((worst : ℕ) × Bounded worst (horizon s) (streamAt s k))
+        → (sumsTo k .charges .0 ≤ session-end) × (sumsTo k .parts ≤ parts-max) × (s .span ≤ span-max) × ((worst : ℕ) × Bounded worst (horizon s) (streamAt s k))
     can-sum k l =
         let n = admits s q .numbers in
         let le : k ≤ s .count = omega (arith, l) in
         (omega (arith, n .count-high, charges-high s q k le), omega (arith, n .count-high, parts-high s q k le), n .span-high, (s .worst, bounded s q k l))
 
     -- and the sums of all be taken off the horizon
-    pub can-end : (0 < s .span) × (horizon s ≤ session-end) × (sumsTo (s .count) .charges .0 ≤ session-end) × (sumsTo (s .count) .parts ≤ horizon s * s .span) × (sumsTo (s .count) .parts ≤ 1000000000000000000)
+    pub can-end : (0 < s .span) × (horizon s ≤ session-end) × (sumsTo (s .count) .charges .0 ≤ session-end) × (sumsTo (s .count) .parts ≤ horizon s * s .span) × (sumsTo (s .count) .parts ≤ parts-max)
     can-end =
         let n = admits s q .numbers in
         let all : s .count ≤ s .count = omega arith in

@@ -6,6 +6,10 @@ use Rattle.session.specs.Time.{session-end, duration-max}
 use Rattle.session.specs.Stream.{queue-max}
 use Rattle.session.specs.declared.stream.Stream.{Stream}
 
+-- what the streams may use up to the horizon, times the span, stays below
+abbrev pub parts-max : ℕ
+parts-max = 1_000_000_000_000_000_000
+
 pub record Bounded (worst h : ℕ) (x : Stream) : Type 0 where
   pub worst-low : 1 ≤ worst
   pub worst-high : worst ≤ worst-max

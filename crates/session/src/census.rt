@@ -1,7 +1,7 @@
 // What is kept of the streams of a session as it is judged, one by one.
 ghost use mathlib.Core.Path.{_≡_};
 ghost use mathlib.Core.Bool.{true};
-ghost use Prim.Native.Nat.{_≤_, _<_, min};
+ghost use Prim.Native.Nat.{min};
 ghost use Rattle.session.specs.Search.{inOrder, begun, counted, Countable, says, Judgeable};
 use crate::Clock;
 use crate::Stream;

@@ -11,7 +11,7 @@ ghost use Rattle.table.specs.Fold.{if};
 ghost use Rattle.table.specs.Ranges.{span-max};
 ghost use Rattle.session.specs.Time.{session-end, moment, diskTime};
 ghost use Rattle.session.specs.Stream.{slots};
-ghost use Rattle.session.specs.Bounds.{Bounded};
+ghost use Rattle.session.specs.Bounds.{parts-max, Bounded};
 ghost use Rattle.session.specs.Session.{horizon, latest, sound};
 ghost use Rattle.session.specs.Choice.{expiresFirst};
 
@@ -48,7 +48,7 @@ pub(crate) fn latest(s: Session, h: Clock) -> Clock
 
 // The sums with one more stream; its part is whole, since its period divides the span.
 pub(crate) fn summed(sums: Sums, x: Stream, span: u32, h: Clock) -> Sums
-    requires { ⌜ (sums .charges .0 ≤ session-end) × (sums .parts ≤ 1000000000000000000) × (span ≤ span-max) × ((worst : ℕ) × Bounded worst (h .0) x) ⌝ }
+    requires { ⌜ (sums .charges .0 ≤ session-end) × (sums .parts ≤ parts-max) × (span ≤ span-max) × ((worst : ℕ) × Bounded worst (h .0) x) ⌝ }
     ensures { λ r. ⌜ r ≡ record { charges = diskTime (sums .charges .0 + x .charge .0); parts = sums .parts + (h .0 - x .release .0) * x .granted .0 * (span / x .period) } ⌝ }
 {
     let charges = sums.charges.plus(x.charge);

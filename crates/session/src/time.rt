@@ -3,6 +3,7 @@ ghost use mathlib.Core.Path.{_≡_};
 ghost use Prim.Native.Nat.{_+_, _-_, _*_, _/_, _≤_, _<_, min, max};
 ghost use lib.Dec.{leb, ltb, eqb};
 ghost use Rattle.session.specs.Time.{moment, diskTime, session-end, duration-max};
+ghost use Rattle.session.specs.Bounds.{parts-max};
 
 // A moment of clock time.
 #[repr(C)]
@@ -102,7 +103,7 @@ impl Clock {
 
     // The second: this horizon less all remainders, rounded down once. `parts` is the sum of what the streams may use up to the horizon, times the span.
     pub(crate) fn less_remainders(self, charges: Charge, parts: u64, span: u32) -> Clock
-        requires { ⌜ (0 < span) × (self .0 ≤ session-end) × (charges .0 ≤ session-end) × (parts ≤ self .0 * span) × (parts ≤ 1000000000000000000) ⌝ }
+        requires { ⌜ (0 < span) × (self .0 ≤ session-end) × (charges .0 ≤ session-end) × (parts ≤ self .0 * span) × (parts ≤ parts-max) ⌝ }
         ensures { λ r. ⌜ r ≡ moment (((self .0 + charges .0) * span - parts) / span) ⌝ }
     {
         let up = (parts + (span as u64 - 1)) / span as u64;
@@ -124,12 +125,6 @@ impl Charge {
         ensures { λ r. ⌜ r ≡ self .0 ⌝ }
     {
         self.0
-    }
-
-    pub fn is_above(self, other: Charge) -> bool
-        ensures { λ r. ⌜ r ≡ ltb (other .0) (self .0) ⌝ }
-    {
-        other.0 < self.0
     }
 
     pub fn is(self, other: Charge) -> bool

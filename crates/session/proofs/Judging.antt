@@ -1,9 +1,11 @@
 -- What every call does first, loop by loop: a census of the used streams, then a look at the unused ones, and then the census decides.
 use mathlib.Core.Bool.{Bool, true, false, _&&_, _||_, and-false, false≢true}
 use mathlib.Core.Path.{_≡_, refl, sym, ap, subst}
-use Prim.Native.Nat.{ℕ, _+_, _-_, _≤_, _<_}
+use Prim.Native.Nat.{ℕ, _+_, _-_, _*_, _≤_, _<_}
 use native.Mathlib.Numerals.{add-one}
 use native.Mathlib.Omega.{arith}
+use mir.Syntax.{w64}
+use mir.Val.{Fits}
 use lib.Dec.{ltb}
 use lib.ListN.{length}
 use borrow.Author.Tests.{ltb-true, ltb-false, lt-ltb, le-ltb, eq-eqb}
@@ -18,6 +20,26 @@ use Rattle.session.specs.Search.{begun, counted, Countable, says, Judgea
 use Rattle.session.specs.declared.census.Census.{Census}
 use Rattle.session.specs.declared.Session.{Session}
 use Rattle.session.proofs.Counted.{CountedTo, counted-none, counted-more, countable, horizon-is, judgeable, decides}
+
+-- an index of the eight streams, or of a queue, counted on or multiplied by the size of what it stands for, fits 64 bits
+pub offset-fits : (i : ℕ) → i < 8 → Fits w64 (i * 216)
+offset-fits i l = omega (arith, l)
+
+pub place-fits : (j : ℕ) → j < 16 → Fits w64 (j * 8)
+place-fits j l = omega (arith, l)
+
+pub next-fits : (i : ℕ) → i < 8 → Fits w64 (i + 1)
+next-fits i l = omega (arith, l)
+
+-- a loop over the first n of eight
+pub below-eight : (i n : ℕ) → i < n → n ≤ 8 → i < 8
+below-eight i n l le = omega (arith, l, le)
+
+pub fewer : (n i : ℕ) → i < n → n - (i + 1) < n - i
+fewer n i l = omega (arith, l)
+
+pub all-passed : (i n : ℕ) → i ≤ n → n ≤ i → i ≡ n
+all-passed i n le past = omega (arith, le, past)
 
 module _ (s : Session) where
   -- the first loop: the streams below i are counted

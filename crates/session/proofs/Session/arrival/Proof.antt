@@ -13,7 +13,7 @@ use Rattle.session.proofs.Outcomes.{appended}
 use Rattle.session.proofs.Answers.{unsound-answer, refused, accepted}
 use Rattle.session.proofs.Grounds.{named}
 use Rattle.session.proofs.Sound.{sound-of, count-high, bounded}
-use Rattle.session.proofs.Judging.{Counting, Resting, counting-none, used, below, can-count, counting-more, resting-none, resting-more, can-judge, judged}
+use Rattle.session.proofs.Judging.{offset-fits, next-fits, below-eight, fewer, Counting, Resting, counting-none, used, below, can-count, counting-more, resting-none, resting-more, can-judge, judged}
 use Rattle.session.proofs.Session.arrival.Statement.{statement}
 use Rattle.session.proofs.Session.arrival.Tie as tie
 
@@ -43,10 +43,10 @@ loop-holds c =
     rw (c .begin .ensures) (counting-none s (sym (length-map (s .streams) _) ∙ array .1 .0 .1))
 
 mul-x : tie.Need-mul-x Inv-loop μ-loop Inv-loop2 μ-loop2
-mul-x c = let at = c .before .before .loop in omega (arith, below _ _ _ (at .inv) (c .if1 .taken))
+mul-x c = offset-fits _ (below _ _ _ (c .before .before .loop .inv) (c .if1 .taken))
 
 element-copy-out-x : tie.Need-element-copy-out-x Inv-loop μ-loop Inv-loop2 μ-loop2
-element-copy-out-x c = let at = c .before .before .loop in omega (arith, below _ _ _ (at .inv) (c .if1 .taken))
+element-copy-out-x c = below _ _ _ (c .before .before .loop .inv) (c .if1 .taken)
 
 is-in-order-requires : tie.Need-is-in-order-requires Inv-loop μ-loop Inv-loop2 μ-loop2
 is-in-order-requires c κs = let at = c .before .before .before .loop in rw (sym (at .inv .counts .worst)) (can-count _ _ _ (at .inv) (c .before .if1 .taken) .worst-low)
@@ -58,10 +58,10 @@ with-requires c κs =
     (can-count _ _ _ (at .inv) (c .before .before .if1 .taken), rw (k .worst, k .span, k .padding) (c .is-in-order .ensures))
 
 add-i : tie.Need-add-i Inv-loop μ-loop Inv-loop2 μ-loop2
-add-i c = let at = c .before .before .before .before .before .loop in omega (arith, below _ _ _ (at .inv) (c .before .before .before .if1 .taken))
+add-i c = next-fits _ (below _ _ _ (c .before .before .before .before .before .loop .inv) (c .before .before .before .if1 .taken))
 
 loop-less : tie.Need-loop-less Inv-loop μ-loop Inv-loop2 μ-loop2
-loop-less c = let at = c .before .before .before .before .before .loop in omega (arith, used _ _ _ (at .inv) (c .before .before .before .if1 .taken))
+loop-less c = fewer _ _ (used _ _ _ (c .before .before .before .before .before .loop .inv) (c .before .before .before .if1 .taken))
 
 loop-again : tie.Need-loop-again Inv-loop μ-loop Inv-loop2 μ-loop2
 loop-again c = let at = c .before .before .before .before .before .loop in rw (c .with .ensures) (counting-more _ _ _ (at .inv) (c .before .before .before .if1 .taken))
@@ -70,31 +70,31 @@ loop2-holds : tie.Need-loop2-holds Inv-loop μ-loop Inv-loop2 μ-loop2
 loop2-holds c = resting-none _ _ _ (c .before .before .loop .inv) (c .if1 .left)
 
 mul-x-2 : tie.Need-mul-x-2 Inv-loop μ-loop Inv-loop2 μ-loop2
-mul-x-2 c = omega arith
+mul-x-2 c = offset-fits _ (c .loop2-test .taken)
 
 element-copy-out-x-2 : tie.Need-element-copy-out-x-2 Inv-loop μ-loop Inv-loop2 μ-loop2
-element-copy-out-x-2 c = omega arith
+element-copy-out-x-2 c = c .loop2-test .taken
 
 is-unused-requires : tie.Need-is-unused-requires Inv-loop μ-loop Inv-loop2 μ-loop2
 is-unused-requires c κs = tt
 
 add-j : tie.Need-add-j Inv-loop μ-loop Inv-loop2 μ-loop2
-add-j c = omega arith
+add-j c = next-fits _ (c .before .before .loop2-test .taken)
 
 loop2-less : tie.Need-loop2-less Inv-loop μ-loop Inv-loop2 μ-loop2
-loop2-less c = omega arith
+loop2-less c = fewer 8 _ (c .before .before .loop2-test .taken)
 
 loop2-again : tie.Need-loop2-again Inv-loop μ-loop Inv-loop2 μ-loop2
-loop2-again c = let at = c .before .before .before .loop2 in rw (c .is-unused .ensures) (resting-more _ _ _ _ (at .inv) (omega arith))
+loop2-again c = rw (c .is-unused .ensures) (resting-more _ _ _ _ (c .before .before .before .loop2 .inv) (c .before .before .loop2-test .taken))
 
 slot-of-requires : tie.Need-slot-of-requires Inv-loop μ-loop Inv-loop2 μ-loop2
 slot-of-requires c κs = tt
 
 mul-disk : tie.Need-mul-disk Inv-loop μ-loop Inv-loop2 μ-loop2
-mul-disk c = omega (arith, c .slot-of .ensures .0)
+mul-disk c = offset-fits _ (c .slot-of .ensures .0)
 
 element-copy-out-disk : tie.Need-element-copy-out-disk Inv-loop μ-loop Inv-loop2 μ-loop2
-element-copy-out-disk c = omega (arith, c .slot-of .ensures .0)
+element-copy-out-disk c = c .slot-of .ensures .0
 
 is-sound-requires : tie.Need-is-sound-requires Inv-loop μ-loop Inv-loop2 μ-loop2
 is-sound-requires c κs = can-judge _ _ _ _ (c .before .before .before .before .loop2 .inv) _ (c .before .before .slot-of .ensures .1)
@@ -102,7 +102,7 @@ is-sound-requires c κs = can-judge _ _ _ _ (c .before .before .before .before .
 -- what the test for 31 says
 tested : (c : tie.After-is-sound Inv-loop μ-loop Inv-loop2 μ-loop2) → let s = c .before .before .before .before .before .before .before .before .before .before .before .args .t1 in
     ((c .before .before .before .before .before .loop2 .rest && c .is-sound .result) ≡ sound s)
-tested c = rw (c .is-sound .ensures) (judged _ _ _ _ (c .before .before .before .before .before .loop2 .inv) _ (c .before .before .before .slot-of .ensures .1) (omega arith) .0)
+tested c = rw (c .is-sound .ensures) (judged _ _ _ _ (c .before .before .before .before .before .loop2 .inv) _ (c .before .before .before .slot-of .ensures .1) (c .before .before .before .before .loop2-test .left) .0)
 
 -- past 31 the session is sound, and past 8 the stream is one of its own
 ok : (c : tie.Then2 Inv-loop μ-loop Inv-loop2 μ-loop2) → sound (c .before .before .before .before .before .before .before .before .before .before .before .before .args .t1) ≡ true
@@ -116,14 +116,17 @@ here : (c : tie.Then3 Inv-loop μ-loop Inv-loop2 μ-loop2) → let a = c .before
 unfolding noSuchStream
 here c = let a = c .before .before .before .before .before .before .before .before .before .before .before .before .before .args in let n = named (a .t1) (a .stream) (own c) in (n .0, n .1, count-high _ (ok (c .before)))
 
+inside : (c : tie.Then3 Inv-loop μ-loop Inv-loop2 μ-loop2) → c .before .before .before .before .before .before .before .before .before .before .before .before .before .args .stream - 1 < 8
+inside c = below-eight _ _ (here c .1) (here c .2)
+
 sub-n : tie.Need-sub-n Inv-loop μ-loop Inv-loop2 μ-loop2
 sub-n c = here c .0
 
 mul-x-3 : tie.Need-mul-x-3 Inv-loop μ-loop Inv-loop2 μ-loop2
-mul-x-3 c = omega (arith, here c)
+mul-x-3 c = offset-fits _ (inside c)
 
 element-copy-out-x-3 : tie.Need-element-copy-out-x-3 Inv-loop μ-loop Inv-loop2 μ-loop2
-element-copy-out-x-3 c = omega (arith, here c)
+element-copy-out-x-3 c = inside c
 
 arrived-requires : tie.Need-arrived-requires Inv-loop μ-loop Inv-loop2 μ-loop2
 arrived-requires c κs =
@@ -132,13 +135,13 @@ arrived-requires c κs =
     omega (arith, high, c .if4 .taken)
 
 mul-y : tie.Need-mul-y Inv-loop μ-loop Inv-loop2 μ-loop2
-mul-y c = omega (arith, here (c .before .before .before .before))
+mul-y c = offset-fits _ (inside (c .before .before .before .before))
 
 element-set-from-y : tie.Need-element-set-from-y Inv-loop μ-loop Inv-loop2 μ-loop2
-element-set-from-y c = omega (arith, here (c .before .before .before .before))
+element-set-from-y c = inside (c .before .before .before .before)
 
 add-number : tie.Need-add-number Inv-loop μ-loop Inv-loop2 μ-loop2
-add-number c = omega (arith, here (c .before .before .before .before))
+add-number c = next-fits _ (inside (c .before .before .before .before))
 
 -- what an arrival is answered
 arrives : (c : tie.After-arrived Inv-loop μ-loop Inv-loop2 μ-loop2) → let a = c .before .before .before .before .before .before .before .before .before .before .before .before .before .before .before .before .before .args in answerTo (a .t1) (Call.Arrival (a .stream) (a .place)) ≡ outcome (a .t1) (append (a .stream - 1) (a .place))

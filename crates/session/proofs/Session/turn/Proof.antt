@@ -30,7 +30,7 @@ use Rattle.session.proofs.Picks.{Picked, picked-next, picked-none}
 use Rattle.session.proofs.Lapses.{lapseTo, lapse-in, lapse-more}
 use Rattle.session.proofs.Summing.{sumsTo, sums-none, sums-more, can-sum, can-end, until-is}
 use Rattle.session.proofs.Closings.{Moving, moving-none, moving-more, moving-all}
-use Rattle.session.proofs.Judging.{Counting, Resting, counting-none, used, below, can-count, counting-more, resting-none, resting-more, can-judge, judged}
+use Rattle.session.proofs.Judging.{offset-fits, place-fits, next-fits, below-eight, fewer, all-passed, Counting, Resting, counting-none, used, below, can-count, counting-more, resting-none, resting-more, can-judge, judged}
 use Rattle.session.proofs.Session.turn.Statement.{statement}
 use Rattle.session.proofs.Session.turn.Tie as tie
 
@@ -82,10 +82,10 @@ loop-holds c =
     rw (c .begin .ensures) (counting-none s (sym (length-map (s .streams) _) ∙ array .1 .0 .1))
 
 mul-x : tie.Need-mul-x Inv-loop μ-loop Inv-loop2 μ-loop2 Inv-loop3 μ-loop3 Inv-loop4 μ-loop4 Inv-loop5 μ-loop5
-mul-x c = let at = c .before .before .loop in omega (arith, below _ _ _ (at .inv) (c .if1 .taken))
+mul-x c = offset-fits _ (below _ _ _ (c .before .before .loop .inv) (c .if1 .taken))
 
 element-copy-out-x : tie.Need-element-copy-out-x Inv-loop μ-loop Inv-loop2 μ-loop2 Inv-loop3 μ-loop3 Inv-loop4 μ-loop4 Inv-loop5 μ-loop5
-element-copy-out-x c = let at = c .before .before .loop in omega (arith, below _ _ _ (at .inv) (c .if1 .taken))
+element-copy-out-x c = below _ _ _ (c .before .before .loop .inv) (c .if1 .taken)
 
 is-in-order-requires : tie.Need-is-in-order-requires Inv-loop μ-loop Inv-loop2 μ-loop2 Inv-loop3 μ-loop3 Inv-loop4 μ-loop4 Inv-loop5 μ-loop5
 is-in-order-requires c κs = let at = c .before .before .before .loop in rw (sym (at .inv .counts .worst)) (can-count _ _ _ (at .inv) (c .before .if1 .taken) .worst-low)
@@ -97,10 +97,10 @@ with-requires c κs =
     (can-count _ _ _ (at .inv) (c .before .before .if1 .taken), rw (k .worst, k .span, k .padding) (c .is-in-order .ensures))
 
 add-i : tie.Need-add-i Inv-loop μ-loop Inv-loop2 μ-loop2 Inv-loop3 μ-loop3 Inv-loop4 μ-loop4 Inv-loop5 μ-loop5
-add-i c = let at = c .before .before .before .before .before .loop in omega (arith, below _ _ _ (at .inv) (c .before .before .before .if1 .taken))
+add-i c = next-fits _ (below _ _ _ (c .before .before .before .before .before .loop .inv) (c .before .before .before .if1 .taken))
 
 loop-less : tie.Need-loop-less Inv-loop μ-loop Inv-loop2 μ-loop2 Inv-loop3 μ-loop3 Inv-loop4 μ-loop4 Inv-loop5 μ-loop5
-loop-less c = let at = c .before .before .before .before .before .loop in omega (arith, used _ _ _ (at .inv) (c .before .before .before .if1 .taken))
+loop-less c = fewer _ _ (used _ _ _ (c .before .before .before .before .before .loop .inv) (c .before .before .before .if1 .taken))
 
 loop-again : tie.Need-loop-again Inv-loop μ-loop Inv-loop2 μ-loop2 Inv-loop3 μ-loop3 Inv-loop4 μ-loop4 Inv-loop5 μ-loop5
 loop-again c = let at = c .before .before .before .before .before .loop in rw (c .with .ensures) (counting-more _ _ _ (at .inv) (c .before .before .before .if1 .taken))
@@ -109,31 +109,31 @@ loop2-holds : tie.Need-loop2-holds Inv-loop μ-loop Inv-loop2 μ-loop2 Inv-loop3
 loop2-holds c = resting-none _ _ _ (c .before .before .loop .inv) (c .if1 .left)
 
 mul-x-2 : tie.Need-mul-x-2 Inv-loop μ-loop Inv-loop2 μ-loop2 Inv-loop3 μ-loop3 Inv-loop4 μ-loop4 Inv-loop5 μ-loop5
-mul-x-2 c = omega arith
+mul-x-2 c = offset-fits _ (c .loop2-test .taken)
 
 element-copy-out-x-2 : tie.Need-element-copy-out-x-2 Inv-loop μ-loop Inv-loop2 μ-loop2 Inv-loop3 μ-loop3 Inv-loop4 μ-loop4 Inv-loop5 μ-loop5
-element-copy-out-x-2 c = omega arith
+element-copy-out-x-2 c = c .loop2-test .taken
 
 is-unused-requires : tie.Need-is-unused-requires Inv-loop μ-loop Inv-loop2 μ-loop2 Inv-loop3 μ-loop3 Inv-loop4 μ-loop4 Inv-loop5 μ-loop5
 is-unused-requires c κs = tt
 
 add-j : tie.Need-add-j Inv-loop μ-loop Inv-loop2 μ-loop2 Inv-loop3 μ-loop3 Inv-loop4 μ-loop4 Inv-loop5 μ-loop5
-add-j c = omega arith
+add-j c = next-fits _ (c .before .before .loop2-test .taken)
 
 loop2-less : tie.Need-loop2-less Inv-loop μ-loop Inv-loop2 μ-loop2 Inv-loop3 μ-loop3 Inv-loop4 μ-loop4 Inv-loop5 μ-loop5
-loop2-less c = omega arith
+loop2-less c = fewer 8 _ (c .before .before .loop2-test .taken)
 
 loop2-again : tie.Need-loop2-again Inv-loop μ-loop Inv-loop2 μ-loop2 Inv-loop3 μ-loop3 Inv-loop4 μ-loop4 Inv-loop5 μ-loop5
-loop2-again c = let at = c .before .before .before .loop2 in rw (c .is-unused .ensures) (resting-more _ _ _ _ (at .inv) (omega arith))
+loop2-again c = rw (c .is-unused .ensures) (resting-more _ _ _ _ (c .before .before .before .loop2 .inv) (c .before .before .loop2-test .taken))
 
 slot-of-requires : tie.Need-slot-of-requires Inv-loop μ-loop Inv-loop2 μ-loop2 Inv-loop3 μ-loop3 Inv-loop4 μ-loop4 Inv-loop5 μ-loop5
 slot-of-requires c κs = tt
 
 mul-disk : tie.Need-mul-disk Inv-loop μ-loop Inv-loop2 μ-loop2 Inv-loop3 μ-loop3 Inv-loop4 μ-loop4 Inv-loop5 μ-loop5
-mul-disk c = omega (arith, c .slot-of .ensures .0)
+mul-disk c = offset-fits _ (c .slot-of .ensures .0)
 
 element-copy-out-disk : tie.Need-element-copy-out-disk Inv-loop μ-loop Inv-loop2 μ-loop2 Inv-loop3 μ-loop3 Inv-loop4 μ-loop4 Inv-loop5 μ-loop5
-element-copy-out-disk c = omega (arith, c .slot-of .ensures .0)
+element-copy-out-disk c = c .slot-of .ensures .0
 
 is-sound-requires : tie.Need-is-sound-requires Inv-loop μ-loop Inv-loop2 μ-loop2 Inv-loop3 μ-loop3 Inv-loop4 μ-loop4 Inv-loop5 μ-loop5
 is-sound-requires c κs = can-judge _ _ _ _ (c .before .before .before .before .loop2 .inv) _ (c .before .before .slot-of .ensures .1)
@@ -142,7 +142,7 @@ is-sound-requires c κs = can-judge _ _ _ _ (c .before .before .before .before .
 tested : (c : tie.After-is-sound Inv-loop μ-loop Inv-loop2 μ-loop2 Inv-loop3 μ-loop3 Inv-loop4 μ-loop4 Inv-loop5 μ-loop5) → let s = c .before .before .before .before .before .before .before .before .before .before .before .args .t1 in
     let test = c .before .before .before .before .before .loop2 .rest && c .is-sound .result in
     (test ≡ sound s) × (test ≡ true → c .before .before .before .before .before .before .before .before .loop .census .horizon ≡ moment (horizon s))
-tested c = rw (c .is-sound .ensures) (judged _ _ _ _ (c .before .before .before .before .before .loop2 .inv) _ (c .before .before .before .slot-of .ensures .1) (omega arith))
+tested c = rw (c .is-sound .ensures) (judged _ _ _ _ (c .before .before .before .before .before .loop2 .inv) _ (c .before .before .before .slot-of .ensures .1) (c .before .before .before .before .loop2-test .left))
 
 ok : (c : tie.Then2 Inv-loop μ-loop Inv-loop2 μ-loop2 Inv-loop3 μ-loop3 Inv-loop4 μ-loop4 Inv-loop5 μ-loop5) → sound (c .before .before .before .before .before .before .before .before .before .before .before .before .args .t1) ≡ true
 ok c = sym (tested (c .before) .0) ∙ c .if2 .taken
@@ -158,19 +158,19 @@ unfolding someTo firstBest
 loop3-holds c = (omega arith, picked-none _ _ refl refl)
 
 mul-x-3 : tie.Need-mul-x-3 Inv-loop μ-loop Inv-loop2 μ-loop2 Inv-loop3 μ-loop3 Inv-loop4 μ-loop4 Inv-loop5 μ-loop5
-mul-x-3 c = omega (arith, count-high _ (ok (c .before .before .before .before .before)))
+mul-x-3 c = offset-fits _ (below-eight _ _ (c .loop3-test .taken) (count-high _ (ok (c .before .before .before .before .before))))
 
 element-copy-out-x-3 : tie.Need-element-copy-out-x-3 Inv-loop μ-loop Inv-loop2 μ-loop2 Inv-loop3 μ-loop3 Inv-loop4 μ-loop4 Inv-loop5 μ-loop5
-element-copy-out-x-3 c = omega (arith, count-high _ (ok (c .before .before .before .before .before)))
+element-copy-out-x-3 c = below-eight _ _ (c .loop3-test .taken) (count-high _ (ok (c .before .before .before .before .before)))
 
 consider-requires : tie.Need-consider-requires Inv-loop μ-loop Inv-loop2 μ-loop2 Inv-loop3 μ-loop3 Inv-loop4 μ-loop4 Inv-loop5 μ-loop5
 consider-requires c κs = rw (ahead (c .before .before .before .before .before .before)) (bounded _ (sound-of _ (ok (c .before .before .before .before .before .before))) (c .before .before .loop3 .k) (c .before .loop3-test .taken))
 
 add-k : tie.Need-add-k Inv-loop μ-loop Inv-loop2 μ-loop2 Inv-loop3 μ-loop3 Inv-loop4 μ-loop4 Inv-loop5 μ-loop5
-add-k c = omega (arith, c .before .before .loop3-test .taken, count-high _ (ok (c .before .before .before .before .before .before .before)))
+add-k c = next-fits _ (below-eight _ _ (c .before .before .loop3-test .taken) (count-high _ (ok (c .before .before .before .before .before .before .before))))
 
 loop3-less : tie.Need-loop3-less Inv-loop μ-loop Inv-loop2 μ-loop2 Inv-loop3 μ-loop3 Inv-loop4 μ-loop4 Inv-loop5 μ-loop5
-loop3-less c = omega arith
+loop3-less c = fewer _ _ (c .before .before .loop3-test .taken)
 
 loop3-again : tie.Need-loop3-again Inv-loop μ-loop Inv-loop2 μ-loop2 Inv-loop3 μ-loop3 Inv-loop4 μ-loop4 Inv-loop5 μ-loop5
 loop3-again c =
@@ -184,7 +184,7 @@ unfolding someFilled chosen
 picked c =
     let s = c .before .before .before .before .before .before .before .before .before .before .before .before .before .before .before .before .before .args .t1 in
     let at = c .before .loop3 in
-    let e : at .k ≡ s .count = omega arith in
+    let e : at .k ≡ s .count = all-passed _ _ (at .inv .0) (c .loop3-test .left) in
     let p = subst (λ (n : ℕ). Picked s n (at .pick)) e (at .inv .1) in
     (p .found, p .stream, λ f. p .index f ∙ ap (nearestAt s) (p .stream))
 
@@ -198,13 +198,13 @@ ranges c =
     (sendable s (sound-of s (ok (c .before .before .before .before .before .before))) _ _ (chosen-grounds s (c .before .before .before .before .before .if3 .taken) (sym (p .0) ∙ c .if4 .taken)))
 
 mul-x-4 : tie.Need-mul-x-4 Inv-loop μ-loop Inv-loop2 μ-loop2 Inv-loop3 μ-loop3 Inv-loop4 μ-loop4 Inv-loop5 μ-loop5
-mul-x-4 c = omega (arith, ranges c .0)
+mul-x-4 c = offset-fits _ (ranges c .0)
 
 element-copy-out-x-4 : tie.Need-element-copy-out-x-4 Inv-loop μ-loop Inv-loop2 μ-loop2 Inv-loop3 μ-loop3 Inv-loop4 μ-loop4 Inv-loop5 μ-loop5
 element-copy-out-x-4 c = ranges c .0
 
 mul-place : tie.Need-mul-place Inv-loop μ-loop Inv-loop2 μ-loop2 Inv-loop3 μ-loop3 Inv-loop4 μ-loop4 Inv-loop5 μ-loop5
-mul-place c = omega (arith, ranges (c .before .before) .1)
+mul-place c = place-fits _ (ranges (c .before .before) .1)
 
 array-read-place : tie.Need-array-read-place Inv-loop μ-loop Inv-loop2 μ-loop2 Inv-loop3 μ-loop3 Inv-loop4 μ-loop4 Inv-loop5 μ-loop5
 array-read-place c = ranges (c .before .before) .1
@@ -213,16 +213,16 @@ without-requires : tie.Need-without-requires Inv-loop μ-loop Inv-loop2 μ-loop2
 without-requires c κs = let r = ranges (c .before .before) in (r .1, r .2)
 
 mul-y : tie.Need-mul-y Inv-loop μ-loop Inv-loop2 μ-loop2 Inv-loop3 μ-loop3 Inv-loop4 μ-loop4 Inv-loop5 μ-loop5
-mul-y c = omega (arith, ranges (c .before .before .before) .0)
+mul-y c = offset-fits _ (ranges (c .before .before .before) .0)
 
 element-set-from-y : tie.Need-element-set-from-y Inv-loop μ-loop Inv-loop2 μ-loop2 Inv-loop3 μ-loop3 Inv-loop4 μ-loop4 Inv-loop5 μ-loop5
 element-set-from-y c = ranges (c .before .before .before) .0
 
 add-self : tie.Need-add-self Inv-loop μ-loop Inv-loop2 μ-loop2 Inv-loop3 μ-loop3 Inv-loop4 μ-loop4 Inv-loop5 μ-loop5
-add-self c = omega (arith, ranges (c .before .before .before) .0)
+add-self c = next-fits _ (ranges (c .before .before .before) .0)
 
 add-number : tie.Need-add-number Inv-loop μ-loop Inv-loop2 μ-loop2 Inv-loop3 μ-loop3 Inv-loop4 μ-loop4 Inv-loop5 μ-loop5
-add-number c = omega (arith, ranges (c .before .before .before) .0)
+add-number c = next-fits _ (ranges (c .before .before .before) .0)
 
 -- past the sending no slot is filled
 none : (c : tie.Else4 Inv-loop μ-loop Inv-loop2 μ-loop2 Inv-loop3 μ-loop3 Inv-loop4 μ-loop4 Inv-loop5 μ-loop5) → someFilled (c .before .before .before .before .before .before .before .before .before .before .before .before .before .before .before .before .before .before .args .t1) ≡ false
@@ -244,16 +244,16 @@ pointed c =
     (rw (at .inv .1) (lapse-in (λ n. leb 1 (slotsAt s n)) (expiresBefore s) (at .m) (s .count) (at .inv .0) (numbers .count-low)), numbers .count-high)
 
 mul-other : tie.Need-mul-other Inv-loop μ-loop Inv-loop2 μ-loop2 Inv-loop3 μ-loop3 Inv-loop4 μ-loop4 Inv-loop5 μ-loop5
-mul-other c = omega (arith, pointed c)
+mul-other c = offset-fits _ (below-eight _ _ (pointed c .0) (pointed c .1))
 
 element-copy-out-other : tie.Need-element-copy-out-other Inv-loop μ-loop Inv-loop2 μ-loop2 Inv-loop3 μ-loop3 Inv-loop4 μ-loop4 Inv-loop5 μ-loop5
-element-copy-out-other c = omega (arith, pointed c)
+element-copy-out-other c = below-eight _ _ (pointed c .0) (pointed c .1)
 
 mul-x-5 : tie.Need-mul-x-5 Inv-loop μ-loop Inv-loop2 μ-loop2 Inv-loop3 μ-loop3 Inv-loop4 μ-loop4 Inv-loop5 μ-loop5
-mul-x-5 c = omega (arith, pointed (c .before), c .before .loop4-test .taken)
+mul-x-5 c = offset-fits _ (below-eight _ _ (c .before .loop4-test .taken) (pointed (c .before) .1))
 
 element-copy-out-x-5 : tie.Need-element-copy-out-x-5 Inv-loop μ-loop Inv-loop2 μ-loop2 Inv-loop3 μ-loop3 Inv-loop4 μ-loop4 Inv-loop5 μ-loop5
-element-copy-out-x-5 c = omega (arith, pointed (c .before), c .before .loop4-test .taken)
+element-copy-out-x-5 c = below-eight _ _ (c .before .loop4-test .taken) (pointed (c .before) .1)
 
 better-requires : tie.Need-better-requires Inv-loop μ-loop Inv-loop2 μ-loop2 Inv-loop3 μ-loop3 Inv-loop4 μ-loop4 Inv-loop5 μ-loop5
 better-requires c κs =
@@ -269,10 +269,10 @@ closes-past-end-requires : tie.Need-closes-past-end-requires Inv-loop μ-loop In
 closes-past-end-requires c κs = bounded _ (sound-of _ (ok (c .before .before .before .before .before .before .before .before .before .before .before .before .before))) (c .before .before .before .before .before .loop4 .m) (c .before .before .before .before .loop4-test .taken) .deadline-high
 
 add-m : tie.Need-add-m Inv-loop μ-loop Inv-loop2 μ-loop2 Inv-loop3 μ-loop3 Inv-loop4 μ-loop4 Inv-loop5 μ-loop5
-add-m c = omega (arith, c .before .before .before .before .before .loop4-test .taken, pointed (c .before .before .before .before .before) .1)
+add-m c = next-fits _ (below-eight _ _ (c .before .before .before .before .before .loop4-test .taken) (pointed (c .before .before .before .before .before) .1))
 
 loop4-less : tie.Need-loop4-less Inv-loop μ-loop Inv-loop2 μ-loop2 Inv-loop3 μ-loop3 Inv-loop4 μ-loop4 Inv-loop5 μ-loop5
-loop4-less c = omega arith
+loop4-less c = fewer _ _ (c .before .before .before .before .before .loop4-test .taken)
 
 loop4-again : tie.Need-loop4-again Inv-loop μ-loop Inv-loop2 μ-loop2 Inv-loop3 μ-loop3 Inv-loop4 μ-loop4 Inv-loop5 μ-loop5
 unfolding someTo
@@ -292,7 +292,7 @@ unfolding lapseOf noSlot expiring movePassesEnd
 surveyed c =
     let s = c .before .before .before .before .before .before .before .before .before .before .before .before .before .before .before .before .before .before .before .before .before .args .t1 in
     let at = c .before .loop4 in
-    let e : at .m ≡ s .count = omega arith in
+    let e : at .m ≡ s .count = all-passed _ _ (at .inv .0) (c .loop4-test .left) in
     (rw (at .inv .1, e, some-not-all (slotsAt s) (s .count)), at .inv .2 ∙ ap (sumsTo s) e, rw (at .inv .3, e, ahead (c .before .before .before .before .before .before .before .before .before)))
 
 -- a stream has a slot, or none has
@@ -325,7 +325,7 @@ expired-at c =
     (omega (arith, g .exists, count-high s (ok (c .before .before .before .before .before .before .before .before .before .before .before .before .before .before))), omega (arith, charge-high x), omega (arith, expired-high x))
 
 mul-x-6 : tie.Need-mul-x-6 Inv-loop μ-loop Inv-loop2 μ-loop2 Inv-loop3 μ-loop3 Inv-loop4 μ-loop4 Inv-loop5 μ-loop5
-mul-x-6 c = omega (arith, expired-at c .0)
+mul-x-6 c = offset-fits _ (expired-at c .0)
 
 element-copy-out-x-6 : tie.Need-element-copy-out-x-6 Inv-loop μ-loop Inv-loop2 μ-loop2 Inv-loop3 μ-loop3 Inv-loop4 μ-loop4 Inv-loop5 μ-loop5
 element-copy-out-x-6 c = expired-at c .0
@@ -334,13 +334,13 @@ lapsed-requires : tie.Need-lapsed-requires Inv-loop μ-loop Inv-loop2 μ-loop2 I
 lapsed-requires c κs = let x = expired-at (c .before) in (x .1, x .2)
 
 mul-y-2 : tie.Need-mul-y-2 Inv-loop μ-loop Inv-loop2 μ-loop2 Inv-loop3 μ-loop3 Inv-loop4 μ-loop4 Inv-loop5 μ-loop5
-mul-y-2 c = omega (arith, expired-at (c .before .before .before) .0)
+mul-y-2 c = offset-fits _ (expired-at (c .before .before .before) .0)
 
 element-set-from-y-2 : tie.Need-element-set-from-y-2 Inv-loop μ-loop Inv-loop2 μ-loop2 Inv-loop3 μ-loop3 Inv-loop4 μ-loop4 Inv-loop5 μ-loop5
 element-set-from-y-2 c = expired-at (c .before .before .before) .0
 
 add-number-2 : tie.Need-add-number-2 Inv-loop μ-loop Inv-loop2 μ-loop2 Inv-loop3 μ-loop3 Inv-loop4 μ-loop4 Inv-loop5 μ-loop5
-add-number-2 c = omega (arith, expired-at (c .before .before .before) .0)
+add-number-2 c = next-fits _ (expired-at (c .before .before .before) .0)
 
 element-copy-out-lowest : tie.Need-element-copy-out-lowest Inv-loop μ-loop Inv-loop2 μ-loop2 Inv-loop3 μ-loop3 Inv-loop4 μ-loop4 Inv-loop5 μ-loop5
 element-copy-out-lowest c = omega arith
@@ -363,7 +363,7 @@ within c =
     omega (arith, c .loop5-test .taken, kept, admits _ (at .inv .2 .0) .numbers .count-high)
 
 mul-x-7 : tie.Need-mul-x-7 Inv-loop μ-loop Inv-loop2 μ-loop2 Inv-loop3 μ-loop3 Inv-loop4 μ-loop4 Inv-loop5 μ-loop5
-mul-x-7 c = omega (arith, within c)
+mul-x-7 c = offset-fits _ (within c)
 
 element-copy-out-x-7 : tie.Need-element-copy-out-x-7 Inv-loop μ-loop Inv-loop2 μ-loop2 Inv-loop3 μ-loop3 Inv-loop4 μ-loop4 Inv-loop5 μ-loop5
 element-copy-out-x-7 c = within c
@@ -374,7 +374,7 @@ moved-requires-2 c κs =
     rw (at .inv .2 .1 .rest (at .l) (omega arith)) (deadline-high _ (at .inv .2 .0) (at .l) (within (c .before)))
 
 mul-y-3 : tie.Need-mul-y-3 Inv-loop μ-loop Inv-loop2 μ-loop2 Inv-loop3 μ-loop3 Inv-loop4 μ-loop4 Inv-loop5 μ-loop5
-mul-y-3 c = omega (arith, within (c .before .before))
+mul-y-3 c = offset-fits _ (within (c .before .before))
 
 element-set-from-y-3 : tie.Need-element-set-from-y-3 Inv-loop μ-loop Inv-loop2 μ-loop2 Inv-loop3 μ-loop3 Inv-loop4 μ-loop4 Inv-loop5 μ-loop5
 element-set-from-y-3 c = within (c .before .before)
@@ -383,10 +383,10 @@ earlier-requires : tie.Need-earlier-requires Inv-loop μ-loop Inv-loop2 μ-loop2
 earlier-requires c κs = tt
 
 add-l : tie.Need-add-l Inv-loop μ-loop Inv-loop2 μ-loop2 Inv-loop3 μ-loop3 Inv-loop4 μ-loop4 Inv-loop5 μ-loop5
-add-l c = omega (arith, within (c .before .before .before))
+add-l c = next-fits _ (within (c .before .before .before))
 
 loop5-less : tie.Need-loop5-less Inv-loop μ-loop Inv-loop2 μ-loop2 Inv-loop3 μ-loop3 Inv-loop4 μ-loop4 Inv-loop5 μ-loop5
-loop5-less c = omega arith
+loop5-less c = fewer _ _ (c .before .before .before .loop5-test .taken)
 
 loop5-again : tie.Need-loop5-again Inv-loop μ-loop Inv-loop2 μ-loop2 Inv-loop3 μ-loop3 Inv-loop4 μ-loop4 Inv-loop5 μ-loop5
 loop5-again c =

@@ -101,7 +101,7 @@ fn called(image: Image) -> Session
     }
 }
 
-// Each call has a function of its own, so that the compiler writes the call out where it is made: one function for all would cost two more copies of the session.
+// Each call has a function of its own, so that the compiler writes the call out where it is made; one function for all costs one or two more copies of the session.
 pub(crate) fn arrival(image: Image, number: u64, place: u64) -> Change
     ensures { λ r. ⌜ r ≡ changeAs image (Call.Arrival number place) ⌝ }
 {

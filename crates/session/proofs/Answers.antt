@@ -8,15 +8,16 @@ use borrow.Author.Tests.{eqb-true, eq-eqb}
 use Rattle.table.specs.Fold.{if}
 use Rattle.table.specs.Refusal.{given, _or-next_}
 use Rattle.table.proofs.Folds.{all-at}
-use Rattle.session.specs.Stream.{filled}
+use Rattle.stream.specs.Stream.{filled}
 use Rattle.session.specs.Session.{streamAt, slotsAt, filledAt, someFilled, noSlot, latest, sound}
-use Rattle.session.specs.Choice.{firstBest, nearestAt, sentBefore, chosen, expiring}
+use Rattle.stream.specs.Choice.{firstBest}
+use Rattle.session.specs.Choice.{nearestAt, sentBefore, chosen, expiring}
 use Rattle.session.specs.Calls.{refuse, set-clock, send, move, wait, expire, busy, movePassesEnd, callRefusal, refusal, turnEffect, effect, ruled, verdict, apply, outcome, answerTo}
 use Rattle.session.specs.Laws.{PresentTimeChangesNothing}
 use Rattle.session.specs.declared.Session.{Session}
 use Rattle.session.specs.declared.call.Call.{Call}
 use Rattle.session.proofs.Sound.{Sound, admits, bounded}
-use Rattle.session.proofs.Best.{best-positive}
+use Rattle.stream.proofs.Best.{best-positive}
 use Rattle.session.proofs.Grounds.{Grounds, ruled-by}
 
 module _ (s : Session) (k : Call) where

@@ -11,13 +11,14 @@ use borrow.Author.Tests.{le-leb, eq-eqb, ne-eqb}
 use Rattle.table.specs.Fold.{if, smallestTo}
 use Rattle.table.specs.Admission.{admissionOf}
 use Rattle.table.proofs.Lists.{set-each, set-alike}
-use Rattle.session.specs.Time.{session-end, duration-max}
-use Rattle.session.specs.Stream.{slots, withQueue, withCharge, soundQueue}
+use Rattle.time.specs.Time.{session-end, duration-max}
+use Rattle.stream.specs.Stream.{slots, withQueue, withCharge, soundQueue}
 use Rattle.session.specs.Session.{noStream, streamAt, horizon, slotsAt, tableOf, soundDisk, withStreams, withStream, withDisk}
-use Rattle.session.specs.declared.time.Clock.{Clock}
-use Rattle.session.specs.declared.stream.Stream.{Stream}
+use Rattle.time.specs.declared.Clock.{Clock}
+use Rattle.stream.specs.declared.Stream.{Stream}
 use Rattle.session.specs.declared.Session.{Session}
-use Rattle.session.proofs.Sound.{Queue, queue-of, of-queue, InOrder, Sound, admits}
+use Rattle.stream.proofs.Orderly.{Queue, queue-of, of-queue, InOrder}
+use Rattle.session.proofs.Sound.{Sound, admits}
 
 -- the table of a session is admitted as it was, where no stream's reservation changes
 pub table-kept : (s : Session) → Sound s → (xs : List Stream)

@@ -10,15 +10,16 @@ use lib.Dec.{ltb}
 use borrow.Author.Tests.{ltb-true, ltb-false, le-ltb, eq-eqb}
 use Rattle.table.proofs.Tests.{neither, le-or-lt}
 use Rattle.table.proofs.Folds.{some-positive}
-use Rattle.session.specs.Stream.{Fraction}
+use Rattle.stream.specs.Stream.{Fraction}
 use Rattle.session.specs.Session.{streamAt, slotsAt, filledAt, someFilled, noSlot}
-use Rattle.session.specs.Choice.{distance, nearest, nearestAt, distanceAt, sentBefore, chosen, expiryOf, expiresFirst, expiresBefore, expiring}
-use Rattle.session.specs.Laws.{ChosenGoesFirst, NearestIsFirst, SentGoesFirst, ExpiringGoesFirst}
+use Rattle.stream.specs.Choice.{distance, expiryOf, expiresFirst}
+use Rattle.session.specs.Choice.{nearestAt, distanceAt, sentBefore, chosen, expiresBefore, expiring}
+use Rattle.session.specs.Laws.{ChosenGoesFirst, SentGoesFirst, ExpiringGoesFirst}
 use Rattle.session.specs.declared.Session.{Session}
 use Rattle.session.proofs.Sound.{Sound, sound-of, bounded}
-use Rattle.session.proofs.Grounds.{nearest-in}
-use Rattle.session.proofs.Ranks.{Ranks, number-ranks, number-ties, fraction-ranks, fraction-ties, then-ranks}
-use Rattle.session.proofs.First.{best-leads, goes-first}
+use Rattle.stream.proofs.Nearest.{nearest-is-first}
+use Rattle.stream.proofs.Ranks.{Ranks, number-ranks, number-ties, fraction-ranks, fraction-ties, then-ranks}
+use Rattle.stream.proofs.First.{goes-first}
 
 -- streams are served by deadline, and then by the distance of their requests
 sent-ranks : (s : Session) (n : ℕ) → Ranks (sentBefore s) n
@@ -31,14 +32,6 @@ sent-ranks s n =
 pub chosen-goes-first : ChosenGoesFirst
 unfolding someFilled chosen
 chosen-goes-first s some = goes-first (filledAt s) (sentBefore s) (s .count) (sent-ranks s (s .count)) some
-
--- its request is the nearest of its set, and of equals the earliest
-pub nearest-is-first : NearestIsFirst
-unfolding nearest
-nearest-is-first head places m j l =
-    let far : ℕ → ℕ = λ i. distance head (getD places i 0) in
-    let leads = best-leads (λ i. true) (λ a b. ltb (far a) (far b)) m (number-ranks far m) m (omega arith) j l refl in
-    (nearest-in head places m (omega arith), ltb-false _ _ (leads .0), λ u. ltb-true _ _ (leads .1 u))
 
 -- a stream that does not go before another has no earlier deadline, and with the same one no nearer request
 not-before : (s : Session) (a b : ℕ) → sentBefore s a b ≡ false

@@ -8,12 +8,12 @@ use lib.Seq.{getD-set-other}
 use Rattle.table.specs.Fold.{smallestTo, listTo}
 use Rattle.table.proofs.Folds.{smallest-agree}
 use Rattle.table.proofs.Lists.{Filled, filled-more, filled-on, filled-all, mapped}
-use Rattle.session.specs.Time.{moment}
-use Rattle.session.specs.Stream.{moved}
+use Rattle.time.specs.Time.{moment}
+use Rattle.stream.specs.Stream.{moved}
 use Rattle.session.specs.Session.{noStream, streamAt, horizon, withStreams, withStream}
 use Rattle.session.specs.Calls.{move, apply, replyTo, outcome}
-use Rattle.session.specs.declared.time.Clock.{Clock}
-use Rattle.session.specs.declared.stream.Stream.{Stream}
+use Rattle.time.specs.declared.Clock.{Clock}
+use Rattle.stream.specs.declared.Stream.{Stream}
 use Rattle.session.specs.declared.Session.{Session}
 use Rattle.session.specs.declared.call.Reply.{Reply}
 use Rattle.session.proofs.Sound.{Sound, admits, unused-deadline}

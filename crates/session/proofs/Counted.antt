@@ -14,16 +14,18 @@ use Rattle.table.specs.Admission.{periodAt, grantedOf, shareOf, shareAt, stream
 use Rattle.table.proofs.Tests.{both, by-if, or-next-none, same-test}
 use Rattle.table.proofs.Folds.{at-or-below, first-none, first-all, largest-le, largest-high, sum-agree, sum-high, smallest-agree, smallest-is}
 use Rattle.table.proofs.Judged.{Numbers, numbers-of, Fits-in, stream-of, share-high, admits-of}
-use Rattle.session.specs.Time.{moment}
-use Rattle.session.specs.Stream.{slots, soundCells, soundStream}
+use Rattle.time.specs.Time.{moment}
+use Rattle.stream.specs.Stream.{slots, soundCells, soundStream}
 use Rattle.session.specs.Session.{noStream, streamAt, horizon, slotsAt, tableOf, soundDisk, soundRest, sound}
-use Rattle.session.specs.Search.{inOrder, begun, counted, Countable, loadSo, says, Judgeable}
-use Rattle.session.specs.declared.time.Clock.{Clock}
-use Rattle.session.specs.declared.stream.Stream.{Stream}
-use Rattle.session.specs.declared.census.Census.{Census}
+use Rattle.stream.specs.Search.{inOrder, begun, counted, Countable, loadSo, says, Judgeable}
+use Rattle.time.specs.declared.Clock.{Clock}
+use Rattle.stream.specs.declared.Stream.{Stream}
+use Rattle.stream.specs.declared.census.Census.{Census}
 use Rattle.session.specs.declared.Session.{Session}
+use Rattle.stream.proofs.Orderly as order
 use Rattle.session.proofs.Sound as facts
-use Rattle.session.proofs.Sound.{InOrder, Sound, sound-of, of-sound, Used, used-bounded}
+use Rattle.stream.proofs.Orderly.{InOrder}
+use Rattle.session.proofs.Sound.{Sound, sound-of, of-sound, Used, used-bounded}
 
 module _ (s : Session) where
   -- what a sound session rules out, a session that is not sound may be
@@ -53,7 +55,7 @@ module _ (s : Session) where
   order-of q i l =
       let streams = or-next-none _ _ (or-next-none _ _ (q .admitted) .1) .0 in
       let none : refusalAt i ≡ 0 = rw (reserved-is i, period-is i) at (first-none _ (s .count) streams i l) in
-      let cells = both _ _ (facts.of-stream (s .worst) (s .padding) (horizon s) (streamAt s i) (q .each i l)) .0 in
+      let cells = both _ _ (order.of-stream (s .worst) (s .padding) (horizon s) (streamAt s i) (q .each i l)) .0 in
       rw (eq-eqb _ _ none) cells
 
   module _ (i : ℕ) (h : inOrderAt i ≡ true) where
@@ -70,7 +72,7 @@ module _ (s : Session) where
 
     order-at : (later : ℕ) → streamAt s i .release .0 ≤ later → InOrder (s .worst) (s .padding) later (streamAt s i)
     unfolding soundStream
-    order-at later le = facts.stream-of (s .worst) (s .padding) later (streamAt s i) (rw (order-cells, le-leb _ _ le))
+    order-at later le = order.stream-of (s .worst) (s .padding) later (streamAt s i) (rw (order-cells, le-leb _ _ le))
 
     order-budget : streamAt s i .granted .0 ≡ grantedOf (s .worst) (s .padding) (streamAt s i .reserved)
     order-budget = order-at (streamAt s i .release .0) (omega arith) .budget

@@ -1,9 +1,7 @@
 -- What each verdict on a sound session rests on: no call comes to an effect whose grounds do not hold.
 use mathlib.Core.Bool.{true, false, not, _&&_}
 use mathlib.Core.Path.{_≡_, refl}
-use mathlib.Core.List.{List}
 use Prim.Native.Nat.{ℕ, zero, suc, _+_, _-_, _≤_, _<_}
-use native.Mathlib.Nat.{not-suc-le-zero, suc-le-suc-iff}
 use native.Mathlib.Omega.{arith}
 use lib.Dec.{lit≤, leb, ltb, eqb}
 use borrow.Author.Tests.{ltb-true, ltb-false, leb-true, eqb-true, eqb-false, not-true, not-false, eq-eqb, ne-eqb}
@@ -11,14 +9,15 @@ use Rattle.table.specs.Fold.{if}
 use Rattle.table.specs.Refusal.{given, _or-next_}
 use Rattle.table.proofs.Tests.{by-if, both, neither, within, given-none, or-next-none, given-high, or-next-high}
 use Rattle.table.proofs.Folds.{some-none, some-positive}
-use Rattle.session.specs.Time.{session-end, duration-max}
-use Rattle.session.specs.Stream.{queue-max}
+use Rattle.time.specs.Time.{session-end, duration-max}
+use Rattle.stream.specs.Stream.{queue-max}
 use Rattle.session.specs.Session.{streamAt, horizon, slotsAt, filledAt, someFilled, noSlot, latest, soundDisk}
-use Rattle.session.specs.Choice.{nearest, nearestAt, chosen, sentBefore, expiring, expiresBefore}
+use Rattle.session.specs.Choice.{nearestAt, chosen, sentBefore, expiring, expiresBefore}
 use Rattle.session.specs.Calls.{Verdict, refuse, append, send, move, wait, expire, finish, set-clock, noSuchStream, busy, movePassesEnd, callRefusal, refusal, turnEffect, effect, ruled, verdict}
 use Rattle.session.specs.declared.Session.{Session}
 use Rattle.session.specs.declared.call.Call.{Call}
-use Rattle.session.proofs.Best.{best-low, best-positive}
+use Rattle.stream.proofs.Best.{best-positive}
+use Rattle.stream.proofs.Nearest.{nearest-in}
 use Rattle.session.proofs.Sound.{Sound, of-sound}
 
 -- of a refusal: it is not 31. Of an effect: its stream exists, the disk is as the call asks, and nothing passes its bound.
@@ -67,12 +66,6 @@ unfolding soundDisk if
 served-of s h at-disk =
     let a = both (leb (s .served) (s .count)) (leb 1 (slotsAt s (s .served - 1))) (rw (ne-eqb (s .served) 0 at-disk) at h) in
     (leb-true _ _ (a .0), leb-true 1 (slotsAt s (s .served - 1)) (a .1))
-
--- the nearest of some requests is one of them
-pub nearest-in : (head : ℕ) (places : List ℕ) (m : ℕ) → 1 ≤ m → nearest head places m < m
-unfolding nearest
-nearest-in head places zero h = absurd (not-suc-le-zero h)
-nearest-in head places (suc m) h = suc-le-suc-iff .1 (best-low _ _ m)
 
 -- the stream that a turn serves has a filled slot
 pub chosen-grounds : (s : Session) → s .served ≡ 0 → someFilled s ≡ true → Grounds s (send (chosen s) (nearestAt s (chosen s)))

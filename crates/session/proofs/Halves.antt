@@ -9,9 +9,9 @@ use Rattle.table.specs.Admission.{shareAt, sharesOf, loadOf}
 use Rattle.table.proofs.Tests.{le-or-lt}
 use Rattle.table.proofs.Folds.{sum-le, sum-scaled, sum-agree}
 use Rattle.session.specs.Session.{streamAt, horizon, slotsAt, tableOf}
-use Rattle.session.specs.declared.stream.Stream.{Stream}
+use Rattle.stream.specs.declared.Stream.{Stream}
 use Rattle.session.specs.declared.Session.{Session}
-use Rattle.session.proofs.Slots.{slot-fits}
+use Rattle.stream.proofs.Slots.{slot-fits}
 use Rattle.session.proofs.Sound.{Sound, admits, bounded, reservation}
 use Rattle.session.proofs.Remainders.{share-is}
 

@@ -11,9 +11,9 @@ use Rattle.table.specs.Fold.{sumTo}
 use Rattle.table.proofs.Tests.{by-if}
 use Rattle.table.proofs.Folds.{at-or-below, sum-le, sum-agree}
 use Rattle.table.proofs.Lists.{set-each}
-use Rattle.session.specs.Stream.{closed, moved}
+use Rattle.stream.specs.Stream.{closed, moved}
 use Rattle.session.specs.Session.{noStream, streamAt, horizon, scaledPart, latest, withStream}
-use Rattle.session.specs.declared.stream.Stream.{Stream}
+use Rattle.stream.specs.declared.Stream.{Stream}
 use Rattle.session.specs.declared.Session.{Session}
 use Rattle.session.proofs.Sound.{Sound, of-sound, admits, bounded}
 use Rattle.session.proofs.Latest.{latest-rounds-once}

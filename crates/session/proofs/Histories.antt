@@ -11,11 +11,11 @@ use borrow.Author.Tests.{eqb-true, eqb-false, eq-eqb, ne-eqb}
 use Rattle.table.specs.Fold.{if}
 use Rattle.table.specs.Admission.{reservedAt, periodAt}
 use Rattle.table.specs.declared.Table.{Table}
-use Rattle.session.specs.Stream.{arrived, without, charged, lapsed, closed, moved}
+use Rattle.stream.specs.Stream.{arrived, without, charged, lapsed, closed, moved}
 use Rattle.session.specs.Session.{noStream, streamAt, horizon}
 use Rattle.session.specs.Calls.{Verdict, refuse, append, send, move, wait, expire, finish, set-clock, apply, overlong, late, replyTo, outcome}
 use Rattle.session.specs.Promise.{Moment, closes, closings, dueOf, sinceClosing, durationOf, reported, expiry, chargeOf}
-use Rattle.session.specs.declared.stream.Stream.{Stream}
+use Rattle.stream.specs.declared.Stream.{Stream}
 use Rattle.session.specs.declared.Session.{Session}
 use Rattle.session.specs.declared.call.Call.{Call}
 use Rattle.session.proofs.Sound.{Sound, admits}

@@ -13,11 +13,11 @@ use Rattle.table.specs.Fold.{allTo}
 use Rattle.table.proofs.Tests.{both}
 use Rattle.table.proofs.Folds.{all-of}
 use Rattle.table.proofs.Judged.{numbers-of}
-use Rattle.session.specs.Time.{moment}
-use Rattle.session.specs.Stream.{unusedStream}
+use Rattle.time.specs.Time.{moment}
+use Rattle.stream.specs.Stream.{unusedStream}
 use Rattle.session.specs.Session.{streamAt, horizon, tableOf, soundRest, sound}
-use Rattle.session.specs.Search.{begun, counted, Countable, says, Judgeable}
-use Rattle.session.specs.declared.census.Census.{Census}
+use Rattle.stream.specs.Search.{begun, counted, Countable, says, Judgeable}
+use Rattle.stream.specs.declared.census.Census.{Census}
 use Rattle.session.specs.declared.Session.{Session}
 use Rattle.session.proofs.Counted.{CountedTo, counted-none, counted-more, countable, horizon-is, judgeable, decides}
 

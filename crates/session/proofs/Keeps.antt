@@ -4,15 +4,15 @@ use Prim.Native.Nat.{ℕ, _+_, _≤_, _<_}
 use native.Mathlib.Omega.{arith}
 use lib.ListN.{getD}
 use Rattle.table.specs.Fold.{if}
-use Rattle.session.specs.Time.{moment}
-use Rattle.session.specs.Stream.{filled, arrived, without, charged, lapsed}
+use Rattle.time.specs.Time.{moment}
+use Rattle.stream.specs.Stream.{filled, arrived, without, charged, lapsed}
 use Rattle.session.specs.Session.{streamAt, horizon, slotsAt, soundDisk, withStream, withDisk}
 use Rattle.session.specs.Calls.{Verdict, refuse, append, send, move, wait, expire, finish, set-clock, verdict, apply, answerTo}
 use Rattle.session.specs.Laws.{CallsKeepSound}
 use Rattle.session.specs.declared.Session.{Session}
-use Rattle.session.proofs.Slots.{slot-room}
+use Rattle.stream.proofs.Slots.{slot-room}
 use Rattle.session.proofs.Sound.{Sound, sound-of, of-sound, bounded}
-use Rattle.session.proofs.Queues.{arrived-queue, without-queue}
+use Rattle.stream.proofs.Queues.{arrived-queue, without-queue}
 use Rattle.session.proofs.Grounds.{Grounds, verdict-grounds}
 use Rattle.session.proofs.Changes.{slots-kept, queue-kept, charge-kept, clock-kept, disk-served}
 use Rattle.session.proofs.MoveKept.{move-kept}

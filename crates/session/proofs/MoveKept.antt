@@ -10,14 +10,15 @@ use Rattle.table.specs.Ranges.{period-min}
 use Rattle.table.proofs.Tests.{by-if}
 use Rattle.table.proofs.Folds.{smallest-is}
 use Rattle.table.proofs.Lists.{map-alike}
-use Rattle.session.specs.Time.{session-end}
-use Rattle.session.specs.Stream.{closed, moved, soundQueue}
+use Rattle.time.specs.Time.{session-end}
+use Rattle.stream.specs.Stream.{closed, moved, soundQueue}
 use Rattle.session.specs.Session.{noStream, streamAt, horizon, withStreams}
 use Rattle.session.specs.Calls.{move}
-use Rattle.session.specs.declared.time.Clock.{Clock}
-use Rattle.session.specs.declared.stream.Stream.{Stream}
+use Rattle.time.specs.declared.Clock.{Clock}
+use Rattle.stream.specs.declared.Stream.{Stream}
 use Rattle.session.specs.declared.Session.{Session}
-use Rattle.session.proofs.Sound.{queue-of, of-queue, InOrder, Sound, admits, bounded, unused-deadline}
+use Rattle.stream.proofs.Orderly.{queue-of, of-queue, InOrder}
+use Rattle.session.proofs.Sound.{Sound, admits, bounded, unused-deadline}
 use Rattle.session.proofs.Grounds.{Grounds}
 use Rattle.session.proofs.Changes.{table-kept, idle-kept}
 

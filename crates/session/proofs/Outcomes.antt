@@ -5,12 +5,12 @@ use Prim.Native.Nat.{ℕ, _+_}
 use lib.Dec.{ltb}
 use lib.ListN.{getD}
 use Rattle.table.specs.Fold.{if}
-use Rattle.session.specs.Time.{moment}
-use Rattle.session.specs.Stream.{arrived, without, charged, lapsed}
+use Rattle.time.specs.Time.{moment}
+use Rattle.stream.specs.Stream.{arrived, without, charged, lapsed}
 use Rattle.session.specs.Session.{streamAt, latest, withStream, withDisk}
 use Rattle.session.specs.Calls.{append, send, wait, expire, finish, set-clock, overlong, late, apply, replyTo, outcome}
-use Rattle.session.specs.declared.time.Clock.{Clock}
-use Rattle.session.specs.declared.stream.Stream.{Stream}
+use Rattle.time.specs.declared.Clock.{Clock}
+use Rattle.stream.specs.declared.Stream.{Stream}
 use Rattle.session.specs.declared.call.Answer.{Answer}
 use Rattle.session.specs.declared.call.Reply.{Reply}
 use Rattle.session.specs.declared.Session.{Session}

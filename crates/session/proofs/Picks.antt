@@ -1,31 +1,18 @@
 -- The search for the request to send, step by step.
 use mathlib.Core.Bool.{Bool, true, false, not, _&&_, _||_, or-true, or-false, false≢true}
-use mathlib.Core.List.{List}
 use mathlib.Core.Path.{_≡_, refl, sym, _∙_, ap}
 use Prim.Native.Nat.{ℕ, zero, suc}
 use native.Mathlib.Omega.{arith}
-use lib.ListN.{getD}
 use lib.Dec.{leb, ltb, eqb}
 use borrow.Author.Tests.{eq-eqb, ne-eqb, le-leb, lt-leb}
 use Rattle.table.specs.Fold.{if, someTo}
 use Rattle.session.specs.Session.{streamAt, horizon, filledAt}
-use Rattle.session.specs.Choice.{firstBest, distance, nearest, nearestAt, distanceAt, sentBefore}
-use Rattle.session.specs.Search.{near, nearer, considered}
-use Rattle.session.specs.declared.choice.Near.{Near}
-use Rattle.session.specs.declared.choice.Pick.{Pick}
+use Rattle.stream.specs.Choice.{firstBest, distance}
+use Rattle.session.specs.Choice.{nearestAt, distanceAt, sentBefore}
+use Rattle.stream.specs.Search.{considered}
+use Rattle.stream.specs.declared.choice.Pick.{Pick}
 use Rattle.session.specs.declared.Session.{Session}
-use Rattle.session.proofs.Best.{best-skips, best-starts, best-next}
-
--- one more place is taken exactly if it is nearer
-pub near-next : (head : ℕ) (places : List ℕ) (j : ℕ)
-    → nearer (near head places j) j (distance head (getD places j 0)) ≡ near head places (suc j)
-unfolding nearest firstBest nearer if
-near-next head places j = go (ltb (distance head (getD places j 0)) (distance head (getD places (nearest head places j) 0)))
-  where
-    go : (b : Bool) → _≡_ {A = Near} (if b (record { index = j; distance = distance head (getD places j 0) }) (near head places j))
-        (record { index = if b j (nearest head places j); distance = distance head (getD places (if b j (nearest head places j)) 0) })
-    go true = refl
-    go false = refl
+use Rattle.stream.proofs.Best.{best-skips, best-starts, best-next}
 
 -- what the search has found among the streams below i
 pub record Picked (s : Session) (i : ℕ) (p : Pick) : Type 0 where

@@ -12,14 +12,14 @@ use Rattle.table.specs.Admission.{admissionOf}
 use Rattle.table.specs.declared.Table.{Table}
 use Rattle.table.proofs.Tests.{by-if, both}
 use Rattle.table.proofs.Folds.{all-at, some-none}
-use Rattle.session.specs.Time.{moment, diskTime}
-use Rattle.session.specs.Stream.{filled, closed, moved}
+use Rattle.time.specs.Time.{moment, diskTime}
+use Rattle.stream.specs.Stream.{filled, closed, moved, freshStream}
 use Rattle.session.specs.Session.{streamAt, horizon, slotsAt, filledAt, someFilled, noSlot}
 use Rattle.session.specs.Calls.{Verdict, refuse, append, send, move, wait, expire, finish, set-clock, verdict, apply, overlong, late, replyTo, numberOf, streamOf, answerTo, after}
-use Rattle.session.specs.Opening.{freshStream, freshSession, openingOf}
+use Rattle.session.specs.Opening.{freshSession, openingOf}
 use Rattle.session.specs.Promise.{Moment, historyFrom, historyOf, replied, repliedFor, withinBounds, closes, closings, dueOf, sinceClosing, reported, expiry, chargeOf, budgetOf, ClosedWell, Promise}
-use Rattle.session.specs.declared.time.Clock.{Clock}
-use Rattle.session.specs.declared.stream.Stream.{Stream}
+use Rattle.time.specs.declared.Clock.{Clock}
+use Rattle.stream.specs.declared.Stream.{Stream}
 use Rattle.session.specs.declared.Session.{Session}
 use Rattle.session.specs.declared.call.Call.{Call}
 use Rattle.session.specs.declared.call.Reply.{Reply}

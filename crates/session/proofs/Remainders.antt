@@ -1,31 +1,20 @@
 -- The sums over a sound session's streams: they fit 64 bits, and by admission the parts are at most the horizon times the span.
 use mathlib.Core.Path.{_≡_}
 use Prim.Native.Nat.{ℕ, _-_, _*_, _/_, _≤_, _<_}
-use native.Mathlib.Nat.{mul-le-mul, mul-le-mul-left, mul-le-mul-right, mul-right-comm, mul-assoc, mul-div-le, le-trans}
+use native.Mathlib.Nat.{mul-le-mul-left, mul-le-mul-right, mul-assoc, le-trans}
 use native.Mathlib.Omega.{arith}
 use lib.ListN.{List·getD-map}
-use Rattle.session.specs.Time.{session-end}
+use Rattle.time.specs.Time.{session-end}
 use Rattle.table.specs.Ranges.{span-max, period-max}
 use Rattle.table.specs.Fold.{sumTo}
 use Rattle.table.specs.Admission.{shareOf, shareAt, sharesOf, loadOf}
 use Rattle.table.proofs.Folds.{sum-le, sum-scaled, sum-high}
-use Rattle.session.specs.Bounds.{Bounded}
 use Rattle.session.specs.Session.{noStream, streamAt, horizon, scaledPart, tableOf}
-use Rattle.session.specs.declared.stream.Stream.{Stream}
+use Rattle.stream.specs.declared.Stream.{Stream}
 use Rattle.session.specs.declared.Session.{Session}
-use Rattle.session.proofs.Fits as fits
+use Rattle.stream.proofs.Fits.{part-high}
+use Rattle.stream.proofs.Fits as fits
 use Rattle.session.proofs.Sound.{Sound, admits, bounded}
-
-part-most : (a g p span : ℕ) → a ≤ p → g ≤ period-max → span ≤ span-max → a * g * (span / p) ≤ span-max * period-max
-part-most a g p span within budget whole =
-    rw mul-right-comm
-    (mul-le-mul {n₂ = span-max} {m₂ = period-max} (le-trans (mul-le-mul-right (span / p) within) (le-trans (mul-div-le span p) whole)) budget)
-
--- the horizon is within a stream's period, so its part is at most its budget times the span
-pub part-high : {worst h : ℕ} {x : Stream} → Bounded worst h x → (span : ℕ) → span ≤ span-max
-    → (h - x .release .0) * x .granted .0 * (span / x .period) ≤ span-max * period-max
-part-high {x} b span whole =
-    part-most _ _ (x .period) span (omega (arith, b .ahead, b .due)) (omega (arith, b .budget-high, b .period-high)) whole
 
 part-low : (h r g q : ℕ) → (h - r) * g * q ≤ h * (g * q)
 part-low h r g q = rw mul-assoc (mul-le-mul-right (g * q) (omega arith))

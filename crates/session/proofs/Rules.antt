@@ -3,11 +3,12 @@ use Prim.Native.Nat.{ℕ}
 use Rattle.table.specs.Fold.{if, sumTo, smallestTo, allTo, someTo, listTo, countTo}
 use Rattle.table.specs.Refusal.{given, _or-next_, firstTo, outside}
 use Rattle.table.specs.Admission.{paddingOf, grantedOf, shareOf, sharesOf, smallestPeriod, loadOf, numbersRefusal, streamRefusal, streamsRefusal, admissionOf, answered}
-use Rattle.session.specs.Stream.{slots, filled, less, same, microDeadline, shifted, arrived, without, charged, lapsed, closed, moved, soundQueue, soundCells, soundStream, zeroJob, unusedStream}
+use Rattle.stream.specs.Stream.{slots, filled, less, same, microDeadline, shifted, arrived, without, charged, lapsed, closed, moved, soundQueue, soundCells, soundStream, zeroJob, unusedStream, freshStream}
 use Rattle.session.specs.Session.{horizon, someFilled, noSlot, latest, soundDisk, soundRest, usedStreams, sound}
-use Rattle.session.specs.Choice.{firstBest, distance, nearest, sentBefore, chosen, expiresFirst, expiring}
+use Rattle.stream.specs.Choice.{firstBest, distance, nearest, expiresFirst}
+use Rattle.session.specs.Choice.{sentBefore, chosen, expiring}
 use Rattle.session.specs.Calls.{noSuchStream, busy, movePassesEnd, callRefusal, refusal, turnEffect, effect, ruled, verdict, apply, overlong, late, replyTo, answerTo, after, lineOf, linesFrom}
-use Rattle.session.specs.Opening.{freshStream, openedStream, freshSession, zeroSession, openingOf}
+use Rattle.session.specs.Opening.{openedStream, freshSession, zeroSession, openingOf}
 
 unfoldable pub rules : ℕ
 unfolding if sumTo smallestTo allTo someTo listTo countTo given _or-next_ firstTo outside paddingOf grantedOf shareOf sharesOf smallestPeriod loadOf numbersRefusal streamRefusal streamsRefusal admissionOf answered slots filled less same microDeadline shifted arrived without charged lapsed closed moved soundQueue soundCells soundStream zeroJob unusedStream horizon someFilled noSlot latest soundDisk soundRest usedStreams sound firstBest distance nearest sentBefore chosen expiresFirst expiring noSuchStream busy movePassesEnd callRefusal refusal turnEffect effect ruled verdict apply overlong late replyTo answerTo after lineOf linesFrom freshStream openedStream freshSession zeroSession openingOf

@@ -1,104 +1,23 @@
 -- A sound session, test by test: what each test says, and that these facts make it sound.
 use mathlib.Core.Bool.{Bool, true, false, _&&_, _||_, and-false, false≢true}
-use mathlib.Core.Path.{_≡_, refl, sym}
+use mathlib.Core.Path.{_≡_, refl}
 use mathlib.Core.Logic.{⊎-elim}
-use Prim.Native.Nat.{ℕ, _+_, _*_, _≤_, _<_}
+use Prim.Native.Nat.{ℕ, _≤_, _<_}
 use native.Mathlib.Omega.{arith}
-use lib.ListN.{length, getD, List·getD-map}
+use lib.ListN.{length, List·getD-map}
 use lib.Dec.{leb, ltb, eqb}
 use borrow.Author.Tests.{leb-true, eqb-true, le-leb, lt-ltb, le-ltb, eq-eqb}
 use Rattle.table.specs.Admission.{grantedOf, admissionOf}
 use Rattle.table.proofs.Tests.{both, le-or-lt}
 use Rattle.table.proofs.Folds.{all-at, all-of, smallest-le}
 use Rattle.table.proofs.Judged.{Fits-in, Admits, admits-of}
-use Rattle.session.specs.Time.{session-end, duration-max}
-use Rattle.session.specs.Stream.{queue-max, soundQueue, soundCells, soundStream, unusedStream}
-use Rattle.session.specs.Bounds.{Bounded}
+use Rattle.time.specs.Time.{session-end}
+use Rattle.stream.specs.Stream.{soundStream, unusedStream}
+use Rattle.stream.specs.Bounds.{Bounded}
 use Rattle.session.specs.Session.{noStream, streamAt, horizon, tableOf, soundDisk, soundRest, usedStreams, sound}
-use Rattle.session.specs.declared.stream.Stream.{Stream}
+use Rattle.stream.specs.declared.Stream.{Stream}
 use Rattle.session.specs.declared.Session.{Session}
-
--- a cell that is used or 0
-used-or-zero : (a b : Bool) → (a || b) ≡ true → a ≡ false → b ≡ true
-used-or-zero true b h n = absurd (false≢true (sym n))
-used-or-zero false b h n = h
-
-pub record Queue (x : Stream) : Type 0 where
-  pub queued-high : x .queued ≤ queue-max
-  pub cells : length (x .places) ≡ queue-max
-  pub unused : (j : ℕ) → x .queued ≤ j → j < queue-max → getD (x .places) j 0 ≡ 0
-
-pub queue-of : (x : Stream) → soundQueue (x .places) (x .queued) ≡ true → Queue x
-unfolding soundQueue
-queue-of x h =
-    let a = both _ _ h in
-    let b = both _ _ (a .0) in
-    record {
-      queued-high = leb-true _ _ (b .1);
-      cells = eqb-true _ _ (b .0);
-      unused = λ j past l. eqb-true _ _ (used-or-zero _ _ (all-at _ queue-max (a .1) j l) (le-ltb j (x .queued) past));
-    }
-
-or-right : (a b : Bool) → b ≡ true → (a || b) ≡ true
-or-right true b h = refl
-or-right false b h = h
-
-pub of-queue : (x : Stream) → Queue x → soundQueue (x .places) (x .queued) ≡ true
-unfolding soundQueue
-of-queue x q =
-    rw (eq-eqb _ _ (q .cells), le-leb _ _ (q .queued-high))
-    (all-of (λ j. ltb j (x .queued) || eqb (getD (x .places) j 0) 0) queue-max
-    (λ j l.
-    ⊎-elim
-    (λ (past : x .queued ≤ j). or-right (ltb j (x .queued)) _ (eq-eqb _ _ (q .unused j past l)))
-    (λ (here : j < x .queued). rw (lt-ltb j (x .queued) here))
-    (le-or-lt (x .queued) j)))
-
-pub record InOrder (worst k h : ℕ) (x : Stream) : Type 0 where
-  pub budget : x .granted .0 ≡ grantedOf worst k (x .reserved)
-  pub due : x .deadline .0 ≡ x .release .0 + x .period
-  pub released : x .release .0 ≤ h
-  pub deadline-high : x .deadline .0 ≤ session-end
-  pub charge-high : x .charge .0 ≤ x .granted .0 + duration-max
-  pub expiries : worst * x .expired ≤ x .charge .0
-  pub queue : Queue x
-
-pub stream-of : (worst k h : ℕ) (x : Stream) → soundStream worst k h x ≡ true → InOrder worst k h x
-unfolding soundStream soundCells
-stream-of worst k h x t =
-    let a = both _ _ t in
-    let b = both _ _ (a .0) in
-    let d = both _ _ (b .0) in
-    let e = both _ _ (d .0) in
-    let f = both _ _ (e .0) in
-    let g = both _ _ (f .0) in
-    record {
-      budget = eqb-true _ _ (g .0);
-      due = eqb-true _ _ (g .1);
-      released = leb-true _ _ (a .1);
-      deadline-high = leb-true _ _ (f .1);
-      charge-high = leb-true _ _ (e .1);
-      expiries = leb-true _ _ (d .1);
-      queue = queue-of x (b .1);
-    }
-
--- cells that are sound are in order at the release itself
-pub cells-of : (worst k : ℕ) (x : Stream) → soundCells worst k x ≡ true → InOrder worst k (x .release .0) x
-unfolding soundStream
-cells-of worst k x t = stream-of worst k (x .release .0) x (rw (t, le-leb (x .release .0) (x .release .0) (omega arith)))
-
-pub of-stream : (worst k h : ℕ) (x : Stream) → InOrder worst k h x → soundStream worst k h x ≡ true
-unfolding soundStream soundCells
-of-stream worst k h x q =
-    rw (
-      eq-eqb _ _ (q .budget),
-      eq-eqb _ _ (q .due),
-      le-leb _ _ (q .deadline-high),
-      le-leb _ _ (q .charge-high),
-      le-leb _ _ (q .expiries),
-      of-queue x (q .queue),
-      le-leb _ _ (q .released),
-    )
+use Rattle.stream.proofs.Orderly.{InOrder, used-or-zero, or-right, stream-of, of-stream}
 
 pub record Sound (s : Session) : Type 0 where
   pub admitted : admissionOf (tableOf s) ≡ 0

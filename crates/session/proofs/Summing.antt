@@ -5,10 +5,10 @@ use native.Mathlib.Numerals.{add-one}
 use native.Mathlib.Omega.{arith}
 use Rattle.table.specs.Fold.{sumTo}
 use Rattle.table.specs.Ranges.{span-max}
-use Rattle.session.specs.Time.{session-end, moment, diskTime}
-use Rattle.session.specs.Bounds.{parts-max, Bounded}
+use Rattle.time.specs.Time.{session-end, moment, diskTime, parts-max}
+use Rattle.stream.specs.Bounds.{Bounded}
 use Rattle.session.specs.Session.{streamAt, horizon, scaledPart, latest}
-use Rattle.session.specs.declared.expiry.Sums.{Sums}
+use Rattle.stream.specs.declared.expiry.Sums.{Sums}
 use Rattle.session.specs.declared.Session.{Session}
 use Rattle.session.proofs.Sound.{Sound, admits, bounded}
 use Rattle.session.proofs.Remainders.{parts-low, parts-high, charges-high, horizon-high}

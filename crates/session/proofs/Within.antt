@@ -7,10 +7,10 @@ use Prim.Native.Nat.{ℕ, _+_, _*_, _≤_, _<_}
 use native.Mathlib.Nat.{mul-le-mul-right}
 use native.Mathlib.Omega.{arith}
 use borrow.Author.Tests.{ltb-false}
-use Rattle.session.specs.Stream.{withQueue, arrived, without, charged, lapsed}
+use Rattle.stream.specs.Stream.{withQueue, arrived, without, charged, lapsed}
 use Rattle.session.specs.Session.{streamAt, horizon, latest, withStream}
 use Rattle.session.specs.Calls.{Verdict, refuse, append, send, move, wait, expire, finish, set-clock, apply, overlong, late}
-use Rattle.session.specs.declared.stream.Stream.{Stream}
+use Rattle.stream.specs.declared.Stream.{Stream}
 use Rattle.session.specs.declared.Session.{Session}
 use Rattle.session.proofs.Sound.{Sound}
 use Rattle.session.proofs.Grounds.{Grounds}

@@ -6,8 +6,8 @@ use lib.ListN.{getD}
 use lib.Dec.{ltb, eqb}
 use Rattle.table.specs.Fold.{if, someTo}
 use Rattle.table.specs.Refusal.{given, _or-next_, outside}
-use Rattle.session.specs.Time.{session-end, duration-max, moment, diskTime}
-use Rattle.session.specs.Stream.{queue-max, closesPastEnd, arrived, without, charged, lapsed, moved}
+use Rattle.time.specs.Time.{session-end, duration-max, moment, diskTime}
+use Rattle.stream.specs.Stream.{queue-max, closesPastEnd, arrived, without, charged, lapsed, moved}
 use Rattle.session.specs.Session.{streamAt, horizon, inSet, someFilled, noSlot, latest, sound, withStreams, withStream, withDisk}
 use Rattle.session.specs.Choice.{nearestAt, chosen, expiring}
 use Rattle.session.specs.declared.Session.{Session}

@@ -5,12 +5,12 @@ use lib.ListN.{length, replicate, take}
 use Rattle.table.specs.Ranges.{streams-max}
 use Rattle.table.specs.Admission.{admissionOf}
 use Rattle.table.specs.declared.Table.{Table}
-use Rattle.session.specs.Stream.{Fraction, slots, microDeadline, charged}
+use Rattle.stream.specs.Stream.{Fraction, slots, microDeadline, charged, freshStream}
 use Rattle.session.specs.Session.{streamAt}
 use Rattle.session.specs.Calls.{Line, after, linesFrom}
-use Rattle.session.specs.Opening.{freshStream, openingOf}
-use Rattle.session.specs.declared.stream.Job.{Job}
-use Rattle.session.specs.declared.stream.Stream.{Stream}
+use Rattle.session.specs.Opening.{openingOf}
+use Rattle.stream.specs.declared.Job.{Job}
+use Rattle.stream.specs.declared.Stream.{Stream}
 use Rattle.session.specs.declared.call.Call.{Call}
 use Rattle.session.specs.declared.call.Call.the-variants.{Arrival, Turn, Done, Clock}
 

@@ -1,46 +1,25 @@
 -- What is proved of the rules.
 use mathlib.Core.Path.{_≡_}
-use mathlib.Core.Bool.{Bool, true, false}
+use mathlib.Core.Bool.{true, false}
 use mathlib.Core.List.{List, map}
-use mathlib.Core.Logic.{_↔_}
-use Prim.Native.Nat.{ℕ, suc, _+_, _-_, _*_, _≤_, _<_}
+use Prim.Native.Nat.{ℕ, _+_, _-_, _*_, _≤_, _<_}
 use lib.ListN.{getD}
-use lib.Dec.{leb}
-use Rattle.table.specs.Fold.{sumTo, countTo}
+use Rattle.table.specs.Fold.{sumTo}
 use Rattle.table.specs.Admission.{admissionOf}
 use Rattle.table.specs.declared.Table.{Table}
-use Rattle.session.specs.Stream.{slots, microDeadline, shifted, charged}
+use Rattle.stream.specs.Laws.{GoesFirst}
 use Rattle.session.specs.Session.{streamAt, horizon, slotsAt, filledAt, inSet, someFilled, noSlot, scaledPart, latest, sound}
-use Rattle.session.specs.Choice.{distance, nearest, nearestAt, sentBefore, chosen, expiresBefore, expiring}
+use Rattle.stream.specs.Choice.{distance}
+use Rattle.session.specs.Choice.{nearestAt, sentBefore, chosen, expiresBefore, expiring}
 use Rattle.session.specs.Calls.{answerTo, after, numberOf}
 use Rattle.session.specs.Opening.{zeroSession, openingOf}
 use Rattle.session.specs.Cases.{Case, cases}
-use Rattle.session.specs.declared.stream.Stream.{Stream}
 use Rattle.session.specs.declared.Session.{Session}
 use Rattle.session.specs.declared.call.Call.{Call}
 
 -- Each worked case of document 01 comes out as the document says.
 abbrev pub CasesHold : Type 0
 CasesHold = map (λ (k : Case). k .rules) cases ≡ map (λ (k : Case). k .document) cases
-
--- "Slots of a stream: the number s of whole n ≥ 1 with (c + n × W) × p ≤ (h − r) × g": counted among 1, .., m, for any m that is large enough.
-abbrev pub SlotsAreCounted : Type 0
-SlotsAreCounted =
-    (worst h : ℕ) (x : Stream) (m : ℕ) → 0 < worst → 0 < x .period → slots worst h x ≤ m
-    → countTo (λ i. leb ((x .charge .0 + suc i * worst) * x .period) ((h - x .release .0) * x .granted .0)) m ≡ slots worst h x
-
--- A slot is there exactly if its micro-deadline is no later than the horizon: the fraction is compared over its g.
-abbrev pub SlotsByMicroDeadline : Type 0
-SlotsByMicroDeadline =
-    (worst h : ℕ) (x : Stream) (n : ℕ) → 0 < worst → 0 < x .period → x .release .0 ≤ h → 1 ≤ n
-    → (n ≤ slots worst h x) ↔ (microDeadline worst x n .above ≤ h * microDeadline worst x n .below)
-
--- Whose minus sign it is: after a completion of a ≤ W the micro-deadline of the next slot n is the one that slot n + 1 had before, less (W − a) × p / g. Nothing is cut off in that subtraction.
-abbrev pub MinusSign : Type 0
-MinusSign =
-    (worst a n : ℕ) (x : Stream) → a ≤ worst
-    → (microDeadline worst (charged a x) n ≡ shifted worst a x (microDeadline worst x (suc n)))
-    × ((worst - a) * x .period ≤ microDeadline worst x (suc n) .above)
 
 -- "Opening makes a sound session", and the all-zero one "is not sound".
 abbrev pub OpeningIsSound : Type 0
@@ -81,25 +60,9 @@ HorizonBetween =
     (s : Session) → sound s ≡ true → (i : ℕ) → i < s .count
     → (streamAt s i .release .0 ≤ horizon s) × (horizon s ≤ streamAt s i .deadline .0)
 
--- Of the indices below n that have one or more, `first` goes first: none goes before it, and it goes before each lower one, so that of equals the lowest is taken.
-abbrev pub GoesFirst : (ℕ → ℕ) → (ℕ → ℕ → Bool) → ℕ → ℕ → Type 0
-GoesFirst has before n first =
-    (first < n)
-    × (1 ≤ has first)
-    × ((i : ℕ) → i < n → 1 ≤ has i → (before i first ≡ false) × (i < first → before first i ≡ true))
-
 -- The stream that a turn serves is the first of those with a filled slot: by deadline, then by the distance from the head, then by number.
 abbrev pub ChosenGoesFirst : Type 0
 ChosenGoesFirst = (s : Session) → someFilled s ≡ true → GoesFirst (filledAt s) (sentBefore s) (s .count) (chosen s)
-
--- Its request is the first of its set: none of the first m places of a queue is nearer the head, and each earlier one is further from it.
-abbrev pub NearestIsFirst : Type 0
-NearestIsFirst =
-    (head : ℕ) (places : List ℕ) (m j : ℕ) → j < m
-    → let first = nearest head places m in
-    (first < m)
-    × (distance head (getD places first 0) ≤ distance head (getD places j 0))
-    × (j < first → distance head (getD places first 0) < distance head (getD places j 0))
 
 -- So the request sent goes before each request j of the set, of a stream i, in the order of the document: "Take the earliest deadline among streams with a filled slot; of the set's requests from streams with that deadline, the place nearest the head; ties go to the lower stream, then the earlier arrival."
 abbrev pub SentGoesFirst : Type 0

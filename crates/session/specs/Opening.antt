@@ -6,27 +6,11 @@ use Rattle.table.specs.Fold.{if, listTo}
 use Rattle.table.specs.Ranges.{streams-max}
 use Rattle.table.specs.Admission.{reservedAt, periodAt, grantedOf, admissionOf, answered}
 use Rattle.table.specs.declared.Table.{Table}
-use Rattle.session.specs.Time.{moment, diskTime}
-use Rattle.session.specs.Stream.{queue-max}
-use Rattle.session.specs.declared.stream.Stream.{Stream}
+use Rattle.time.specs.Time.{moment}
+use Rattle.stream.specs.Stream.{freshStream}
+use Rattle.stream.specs.declared.Stream.{Stream}
 use Rattle.session.specs.declared.Session.{Session}
 use Rattle.session.specs.declared.call.Opened.{Opened}
-
--- "Per stream: release r = 0, deadline d = p, charge c = 0, expired count 0, a queue [...], and a record of the last closed job (charge, closing clock, deadline, expired count; all zero before the first)."
-unfoldable pub freshStream : ℕ → ℕ → ℕ → Stream
-freshStream e p g =
-    record {
-      reserved = e;
-      period = p;
-      granted = diskTime g;
-      release = moment 0;
-      deadline = moment p;
-      charge = diskTime 0;
-      expired = 0;
-      queued = 0;
-      places = replicate queue-max 0;
-      last = record { charge = diskTime 0; closed = moment 0; deadline = moment 0; expired = 0 };
-    }
 
 -- the stream at i of a session that is opened with a table; past the count a stream of zeros
 unfoldable pub openedStream : Table → ℕ → Stream

@@ -7,7 +7,7 @@ use lib.Dec.{eqb}
 use Rattle.table.specs.Fold.{if}
 use Rattle.table.specs.Admission.{reservedAt, periodAt, grantedOf, admissionOf}
 use Rattle.table.specs.declared.Table.{Table}
-use Rattle.session.specs.Time.{moment, diskTime}
+use Rattle.time.specs.Time.{moment, diskTime}
 use Rattle.session.specs.Session.{streamAt, horizon, sound}
 use Rattle.session.specs.Calls.{numberOf, streamOf, answerTo, after}
 use Rattle.session.specs.Opening.{openingOf}

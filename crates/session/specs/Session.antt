@@ -8,10 +8,10 @@ use Rattle.table.specs.Fold.{if, sumTo, smallestTo, allTo, someTo}
 use Rattle.table.specs.Ranges.{streams-max}
 use Rattle.table.specs.Admission.{admissionOf}
 use Rattle.table.specs.declared.Table.{Table}
-use Rattle.session.specs.Time.{session-end, moment, diskTime}
-use Rattle.session.specs.Stream.{slots, filled, soundStream, unusedStream}
-use Rattle.session.specs.declared.time.Clock.{Clock}
-use Rattle.session.specs.declared.stream.Stream.{Stream}
+use Rattle.time.specs.Time.{session-end, moment, diskTime}
+use Rattle.stream.specs.Stream.{slots, filled, soundStream, unusedStream}
+use Rattle.time.specs.declared.Clock.{Clock}
+use Rattle.stream.specs.declared.Stream.{Stream}
 use Rattle.session.specs.declared.Session.{Session}
 
 -- what is read past the end of a list of streams; in a sound session nothing is

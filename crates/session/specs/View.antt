@@ -4,10 +4,10 @@ use Prim.Native.Nat.{ℕ, _-_}
 use lib.Dec.{eqb}
 use Rattle.table.specs.Fold.{if}
 use Rattle.table.specs.Refusal.{given, _or-next_}
-use Rattle.session.specs.Time.{moment}
+use Rattle.time.specs.Time.{moment}
 use Rattle.session.specs.Session.{streamAt, horizon, latest, sound}
 use Rattle.session.specs.Calls.{noSuchStream}
-use Rattle.session.specs.Opening.{freshStream}
+use Rattle.stream.specs.Stream.{freshStream}
 use Rattle.session.specs.declared.Session.{Session}
 use Rattle.session.specs.declared.view.View.{View}
 use Rattle.session.specs.declared.view.State.{State}

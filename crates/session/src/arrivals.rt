@@ -5,9 +5,9 @@ use crate::Answer;
 use crate::Call;
 use crate::Reply;
 use crate::Session;
-use crate::Stream;
-use crate::census::Census;
 use crate::soundness::slot_of;
+use stream::Census;
+use stream::Stream;
 
 impl Session {
     // A request of a stream, counted from 1, at a place: 8, 9.

@@ -2,9 +2,9 @@
 ghost use mathlib.Core.Path.{_≡_};
 ghost use Rattle.session.specs.Calls.{numberOf, valueOf, calledStream, streamOf};
 use crate::Session;
-use crate::time::Charge;
-use crate::time::Clock;
 use table::Admission;
+use time::Charge;
+use time::Clock;
 
 // Streams are counted from 1, a queue's places from 0.
 pub enum Call {

@@ -3,11 +3,11 @@ ghost use mathlib.Core.Path.{_≡_};
 ghost use Rattle.session.specs.Calls.{answerTo};
 use crate::Answer;
 use crate::Call;
-use crate::Charge;
 use crate::Reply;
 use crate::Session;
-use crate::census::Census;
 use crate::soundness::slot_of;
+use stream::Census;
+use time::Charge;
 
 impl Session {
     // The request at the disk has ended: 11, 12, 14.

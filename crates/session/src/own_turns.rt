@@ -5,8 +5,8 @@ use crate::Answer;
 use crate::Call;
 use crate::Reply;
 use crate::Session;
-use crate::census::Census;
 use crate::soundness::slot_of;
+use stream::Census;
 
 impl Session {
     // The caller's own choice from the set, a stream, counted from 1, and an index of its queue: 10, 8, 15.

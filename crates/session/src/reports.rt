@@ -3,14 +3,14 @@ ghost use mathlib.Core.Path.{_≡_};
 ghost use Rattle.session.specs.Calls.{answerTo};
 use crate::Answer;
 use crate::Call;
-use crate::Charge;
-use crate::Clock;
 use crate::Reply;
 use crate::Session;
-use crate::census::Census;
-use crate::expiry::Sums;
-use crate::expiry::summed;
 use crate::soundness::slot_of;
+use stream::Census;
+use stream::Sums;
+use stream::summed;
+use time::Charge;
+use time::Clock;
 
 impl Session {
     // The time is reported: 10, 13, 14.

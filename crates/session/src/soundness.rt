@@ -2,11 +2,11 @@
 ghost use mathlib.Core.Path.{_≡_};
 ghost use mathlib.Core.Bool.{true};
 ghost use Prim.Native.Nat.{_-_, _≤_, _<_};
-ghost use Rattle.session.specs.Time.{moment};
+ghost use Rattle.time.specs.Time.{moment};
 ghost use Rattle.session.specs.Session.{horizon, sound};
-use crate::Clock;
 use crate::Session;
-use crate::census::Census;
+use stream::Census;
+use time::Clock;
 
 pub(crate) struct Judged {
     pub(crate) sound: bool,

@@ -3,18 +3,18 @@ ghost use mathlib.Core.Path.{_≡_};
 ghost use Rattle.session.specs.Calls.{answerTo};
 use crate::Answer;
 use crate::Call;
-use crate::Charge;
-use crate::Clock;
 use crate::Reply;
 use crate::Session;
-use crate::census::Census;
-use crate::choice::Pick;
-use crate::choice::consider;
-use crate::expiry::Lapse;
-use crate::expiry::Sums;
-use crate::expiry::better;
-use crate::expiry::summed;
 use crate::soundness::slot_of;
+use stream::Census;
+use stream::Lapse;
+use stream::Pick;
+use stream::Sums;
+use stream::better;
+use stream::consider;
+use stream::summed;
+use time::Charge;
+use time::Clock;
 
 impl Session {
     // What the house does next: 10, then a. some slot is filled: send.

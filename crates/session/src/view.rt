@@ -1,12 +1,17 @@
 // What a session shows of itself. Nothing is shown of one that is not sound.
 ghost use mathlib.Core.Path.{_≡_};
+ghost use mathlib.Core.Bool.{true};
+ghost use Rattle.time.specs.Time.{moment};
+ghost use Rattle.session.specs.Session.{horizon, latest, sound};
 ghost use Rattle.session.specs.View.{viewOf, stateOf, closingOf};
-use crate::Clock;
-use crate::Job;
 use crate::Session;
-use crate::Stream;
-use crate::expiry::latest;
 use crate::soundness::judge;
+use stream::Job;
+use stream::Stream;
+use stream::Sums;
+use stream::summed;
+use time::Charge;
+use time::Clock;
 
 // The number is 0, or 31 beside zeros.
 #[repr(C)]
@@ -96,4 +101,23 @@ impl Session {
             job: job,
         }
     }
+}
+
+// The latest safe moment: the horizon less all remainders.
+fn latest(s: Session, h: Clock) -> Clock
+    requires { ⌜ (sound s ≡ true) × (h ≡ moment (horizon s)) ⌝ }
+    ensures { λ r. ⌜ r ≡ moment (latest s) ⌝ }
+{
+    let nothing = Charge::of(0);
+    let mut sums = Sums {
+        charges: nothing,
+        parts: 0,
+    };
+    let mut i: usize = 0;
+    while i < s.count {
+        let x = s.streams[i];
+        sums = summed(sums, x, s.span, h);
+        i += 1;
+    }
+    h.less_remainders(sums.charges, sums.parts, s.span)
 }

@@ -19,7 +19,7 @@ use Rattle.table.specs.Fold.{if}
 use Rattle.table.proofs.Tests.{by-if}
 use Rattle.session.specs.Session.{noStream}
 use Rattle.session.specs.Calls.{Verdict, refuse, refusal, effect, ruled, verdict, apply, replyTo, answerTo}
-use Rattle.session.specs.declared.stream.Stream.{Stream}
+use Rattle.stream.specs.declared.Stream.{Stream}
 use Rattle.session.specs.declared.Session.{Session}
 use Rattle.session.specs.declared.call.Call.{Call}
 use Rattle.shelf.specs.Image.{nearest-first, imageOf, sessionOf, toldAs, answeredAs}
@@ -30,8 +30,8 @@ use Rattle.shelf.specs.declared.images.Answered.{Answered}
 use Rattle.shelf.specs.declared.images.Change.{Change}
 use Rattle.session.proofs.Elements.{vals-of, vals-many, vals-put, array-put}
 use Rattle.session.proofs.Settling.{Stored, Settling, tys, cells, after}
-use Rattle.session.proofs.stream.Stream as E
-use Rattle.session.proofs.stream.Stream.Laws as E′
+use Rattle.stream.proofs.Stream as E
+use Rattle.stream.proofs.Stream.Laws as E′
 use Rattle.shelf.proofs.images.Image as S
 use Rattle.shelf.proofs.images.Image.Laws as S′
 use Rattle.shelf.proofs.images.Change as C

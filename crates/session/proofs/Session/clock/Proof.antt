@@ -7,10 +7,10 @@ use Prim.Native.Nat.{_≤_, _-_}
 use lib.Dec.{ltb}
 use lib.ListN.{length-map}
 use Rattle.table.specs.Refusal.{given, _or-next_}
-use Rattle.session.specs.Time.{session-end, moment}
+use Rattle.time.specs.Time.{session-end, moment}
 use Rattle.session.specs.Session.{horizon, latest, sound}
 use Rattle.session.specs.Calls.{set-clock, busy, late, callRefusal, effect, apply, replyTo, outcome, answerTo}
-use Rattle.session.specs.declared.time.Clock.{Clock}
+use Rattle.time.specs.declared.Clock.{Clock}
 use Rattle.session.specs.declared.call.Call.{Call}
 use Rattle.session.proofs.Outcomes.{clocked-late, clocked}
 use Rattle.session.proofs.Answers.{unsound-answer, refused, accepted}

@@ -9,16 +9,16 @@ use lib.Dec.{ltb}
 use lib.ListN.{length-map}
 use Rattle.table.specs.Refusal.{given, _or-next_, outside}
 use Rattle.table.proofs.Tests.{within}
-use Rattle.session.specs.Time.{session-end, moment, duration-max}
-use Rattle.session.specs.Stream.{charged}
+use Rattle.time.specs.Time.{session-end, moment, duration-max}
+use Rattle.stream.specs.Stream.{charged}
 use Rattle.session.specs.Session.{streamAt, horizon, sound}
 use Rattle.session.specs.Calls.{finish, busy, callRefusal, effect, apply, replyTo, outcome, answerTo}
 use Rattle.session.specs.declared.call.Call.{Call}
-use Rattle.session.specs.declared.time.Charge.{Charge}
+use Rattle.time.specs.declared.Charge.{Charge}
 use Rattle.session.proofs.Outcomes.{finished-late, finished}
 use Rattle.session.proofs.Answers.{unsound-answer, refused, accepted}
 use Rattle.session.proofs.Grounds.{served-of}
-use Rattle.session.proofs.Fits.{charge-high}
+use Rattle.stream.proofs.Fits.{charge-high}
 use Rattle.session.proofs.Sound.{sound-of, count-high, bounded}
 use Rattle.session.proofs.Judging.{offset-fits, next-fits, fewer, Counting, Resting, counting-none, used, below, can-count, counting-more, resting-none, resting-more, can-judge, judged}
 use Rattle.session.proofs.Session.done.Statement.{statement}

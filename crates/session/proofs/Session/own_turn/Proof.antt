@@ -6,7 +6,7 @@ use native.Mathlib.Omega.{arith}
 use Prim.Native.Nat.{_≤_, _<_, _-_}
 use lib.ListN.{length-map}
 use Rattle.table.specs.Refusal.{given, _or-next_}
-use Rattle.session.specs.Time.{moment}
+use Rattle.time.specs.Time.{moment}
 use Rattle.session.specs.Session.{streamAt, horizon, sound}
 use Rattle.session.specs.Calls.{send, noSuchStream, busy, callRefusal, effect, apply, replyTo, outcome, answerTo}
 use Rattle.session.specs.declared.call.Call.{Call}

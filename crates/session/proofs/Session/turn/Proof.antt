@@ -10,24 +10,24 @@ use lib.ListN.{length-map}
 use Rattle.table.specs.Fold.{someTo}
 use Rattle.table.specs.Refusal.{given, _or-next_}
 use Rattle.table.proofs.Folds.{some-not-all}
-use Rattle.session.specs.Time.{session-end, moment}
-use Rattle.session.specs.Stream.{closesPastEnd, lapsed, moved}
+use Rattle.time.specs.Time.{session-end, moment}
+use Rattle.stream.specs.Stream.{closesPastEnd, lapsed, moved}
 use Rattle.session.specs.Session.{streamAt, horizon, slotsAt, someFilled, noSlot, latest, sound}
-use Rattle.session.specs.Choice.{firstBest, nearestAt, chosen, expiresBefore, expiring}
-use Rattle.session.specs.Search.{lapseOf}
+use Rattle.stream.specs.Choice.{firstBest}
+use Rattle.session.specs.Choice.{nearestAt, chosen, expiresBefore, expiring}
+use Rattle.session.proofs.Lapses.{lapseOf, lapseTo, lapse-in, lapse-more}
 use Rattle.session.specs.Calls.{send, expire, busy, movePassesEnd, callRefusal, apply, replyTo, outcome}
-use Rattle.session.specs.declared.time.Clock.{Clock}
-use Rattle.session.specs.declared.expiry.Lapse.{Lapse}
-use Rattle.session.specs.declared.stream.Stream.{Stream}
+use Rattle.time.specs.declared.Clock.{Clock}
+use Rattle.stream.specs.declared.expiry.Lapse.{Lapse}
+use Rattle.stream.specs.declared.Stream.{Stream}
 use Rattle.session.specs.declared.Session.{Session}
 use Rattle.session.specs.declared.call.Call.{Call}
 use Rattle.session.proofs.Sound.{Sound, sound-of, admits, count-high, bounded, deadline-high}
-use Rattle.session.proofs.Fits.{charge-high, expired-high}
+use Rattle.stream.proofs.Fits.{charge-high, expired-high}
 use Rattle.session.proofs.Grounds.{chosen-grounds, expiring-grounds}
 use Rattle.session.proofs.Outcomes.{sent, waited, lapsed-one}
 use Rattle.session.proofs.Answers.{unsound-answer, refused, sendable, turn-sends, turn-waits, turn-expires, turn-moves, turn-ends}
 use Rattle.session.proofs.Picks.{Picked, picked-next, picked-none}
-use Rattle.session.proofs.Lapses.{lapseTo, lapse-in, lapse-more}
 use Rattle.session.proofs.Summing.{sumsTo, sums-none, sums-more, can-sum, can-end, until-is}
 use Rattle.session.proofs.Closings.{Moving, moving-none, moving-more, moving-all}
 use Rattle.session.proofs.Judging.{offset-fits, place-fits, next-fits, below-eight, fewer, all-passed, Counting, Resting, counting-none, used, below, can-count, counting-more, resting-none, resting-more, can-judge, judged}

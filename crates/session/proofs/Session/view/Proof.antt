@@ -4,7 +4,7 @@ use mathlib.Core.Path.{_≡_, sym, _∙_}
 use borrow.Author.Needs.{needs}
 use borrow.Author.Tests.{not-true, not-false}
 use Rattle.table.specs.Fold.{if}
-use Rattle.session.specs.Time.{moment}
+use Rattle.time.specs.Time.{moment}
 use Rattle.session.specs.Session.{horizon, sound}
 use Rattle.session.specs.View.{viewOf}
 use Rattle.session.proofs.Session.view.Statement.{statement}

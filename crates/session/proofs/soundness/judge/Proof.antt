@@ -1,7 +1,6 @@
 -- `judge` takes a census of the used streams, looks at the unused ones, and lets the census decide.
 use mathlib.Core.Path.{sym, _∙_}
 use Prim.Native.Nat.{_-_}
-use native.Mathlib.Omega.{arith}
 use lib.ListN.{length-map}
 use borrow.Author.Needs.{needs}
 use Rattle.session.proofs.Judging.{offset-fits, next-fits, fewer, Counting, Resting, counting-none, used, below, can-count, counting-more, resting-none, resting-more, can-judge, judged}

@@ -1,0 +1,61 @@
+-- Bounds on the numbers of a sound session, by which 64 bits are enough.
+use Prim.Native.Nat.{ℕ, _+_, _-_, _*_, _/_, _%_, _^_, _≤_}
+use native.Mathlib.Nat.{mul-le-mul, mul-le-mul-right, mul-right-comm, mul-div-le, le-trans, lt-of-le-of-lt, div-le-self, mod-lt, le-mul-of-pos-right}
+use native.Mathlib.Omega.{arith}
+use lib.Dec.{T, ltb, lit<}
+use mir.Syntax.{w64}
+use mir.Val.{Fits}
+use Rattle.time.specs.Time.{duration-max}
+use Rattle.table.specs.Ranges.{worst-max, span-max, period-max}
+use Rattle.stream.specs.Bounds.{Bounded}
+use Rattle.stream.specs.declared.Stream.{Stream}
+
+-- a product of bounded numbers fits where the bounds' product does
+pub mul-fits : (A B : ℕ) {a b : ℕ} → a ≤ A → b ≤ B → T (ltb (A * B) (2 ^ 64)) → Fits w64 (a * b)
+mul-fits A B ha hb t = record { fits = lt-of-le-of-lt (mul-le-mul ha hb) (lit< t) }
+
+-- the most that a stream is charged: a budget is at most a period
+abbrev pub charge-max : ℕ
+charge-max = period-max + duration-max
+
+module _ {worst h : ℕ} {x : Stream} (q : Bounded worst h x) where
+  pub charge-high : x .charge .0 ≤ charge-max
+  charge-high = omega (arith, q .charge-high, q .budget-high, q .period-high)
+
+  pub ahead-high : h - x .release .0 ≤ period-max
+  ahead-high = omega (arith, q .ahead, q .due, q .period-high)
+
+  pub room-fits : Fits w64 ((h - x .release .0) * x .granted .0)
+  room-fits = mul-fits period-max period-max ahead-high (omega (arith, q .budget-high, q .period-high)) tt
+
+  pub used-fits : Fits w64 (x .charge .0 * x .period)
+  used-fits = mul-fits charge-max period-max charge-high (q .period-high) tt
+
+  pub step-fits : Fits w64 (worst * x .period)
+  step-fits = mul-fits worst-max period-max (q .worst-high) (q .period-high) tt
+
+  pub whole-fits : Fits w64 (x .release .0 + x .charge .0 * x .period / x .granted .0)
+  whole-fits =
+      let used : x .charge .0 * x .period ≤ charge-max * period-max = mul-le-mul {n₂ = charge-max} {m₂ = period-max} charge-high (q .period-high) in
+      omega (arith, q .due, q .deadline-high, div-le-self (x .charge .0 * x .period) (x .granted .0))
+
+  pub rest-fits : {y : Stream} → Bounded worst h y → (n : ℕ) → Fits w64 (n % x .granted .0 * y .granted .0)
+  rest-fits other n =
+      mul-fits period-max period-max
+      (omega (arith, mod-lt n (q .budget-low), q .budget-high, q .period-high))
+      (omega (arith, other .budget-high, other .period-high))
+      tt
+
+  pub expired-high : x .expired ≤ charge-max
+  expired-high = omega (arith, charge-high, q .expiries, le-mul-of-pos-right (x .expired) (q .worst-low))
+
+part-most : (a g p span : ℕ) → a ≤ p → g ≤ period-max → span ≤ span-max → a * g * (span / p) ≤ span-max * period-max
+part-most a g p span within budget whole =
+    rw mul-right-comm
+    (mul-le-mul {n₂ = span-max} {m₂ = period-max} (le-trans (mul-le-mul-right (span / p) within) (le-trans (mul-div-le span p) whole)) budget)
+
+-- the horizon is within a stream's period, so its part is at most its budget times the span
+pub part-high : {worst h : ℕ} {x : Stream} → Bounded worst h x → (span : ℕ) → span ≤ span-max
+    → (h - x .release .0) * x .granted .0 * (span / x .period) ≤ span-max * period-max
+part-high {x} b span whole =
+    part-most _ _ (x .period) span (omega (arith, b .ahead, b .due)) (omega (arith, b .budget-high, b .period-high)) whole

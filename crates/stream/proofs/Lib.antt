@@ -1,0 +1,10 @@
+pub mod Slots
+pub mod Queue
+pub mod Orderly
+pub mod Queues
+pub mod Fits
+pub mod Fractions
+pub mod Best
+pub mod Ranks
+pub mod First
+pub mod Nearest

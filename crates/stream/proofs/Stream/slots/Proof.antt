@@ -1,0 +1,73 @@
+-- `Stream::slots` gives the number of slots: where the charge has passed the room there is none.
+use native.Mathlib.Nat.{mul-pos, sub-eq-zero-of-le, le-of-lt, zero-div}
+use Prim.Native.Nat.{_*_, _-_, _<_}
+use Rattle.stream.specs.Stream.{slots}
+use Rattle.stream.proofs.Fits.{room-fits, used-fits, step-fits}
+use native.Mathlib.Omega.{arith}
+use mathlib.Core.Path.{sym}
+use borrow.Author.Needs.{needs}
+use Rattle.stream.proofs.Stream.slots.Statement.{statement}
+use Rattle.stream.proofs.Stream.slots.Tie as tie
+
+since-requires : tie.Need-since-requires
+since-requires c κs = search needs
+
+micros-requires : tie.Need-micros-requires
+micros-requires c κs = search needs
+
+mul-room : tie.Need-mul-room
+mul-room c = rw (c .before .since .ensures, c .micros .ensures) (room-fits (c .before .before .pre))
+
+micros-requires-2 : tie.Need-micros-requires-2
+micros-requires-2 c κs = search needs
+
+cast-used : tie.Need-cast-used
+cast-used c = search needs
+
+mul-used : tie.Need-mul-used
+mul-used c = rw (c .before .micros2 .ensures) (used-fits (c .before .before .before .before .pre))
+
+returns : tie.Need-returns
+unfolding slots
+returns c =
+    let s = c .before .before .before .before .before in
+    let x = s .args .self in
+    let over : (s .args .h .0 - x .release .0) * x .granted .0 < x .charge .0 * x .period =
+    rw (c .before .before .before .before .since .ensures, c .before .before .before .micros .ensures, c .before .before .micros2 .ensures) at (c .if1 .taken) in
+    sym (rw (sub-eq-zero-of-le (le-of-lt over)) (zero-div (s .args .worst * x .period)))
+
+cast-result : tie.Need-cast-result
+cast-result c = search needs
+
+mul-result : tie.Need-mul-result
+mul-result c = step-fits (c .before .before .before .before .before .before .pre)
+
+div-result : tie.Need-div-result
+div-result c =
+    let q = c .before .before .before .before .before .before .pre in
+    mul-pos (q .worst-low) (omega (arith, q .period-low))
+
+returns-2 : tie.Need-returns-2
+unfolding slots
+returns-2 c =
+    rw (
+      c .before .before .before .before .before .since .ensures,
+      c .before .before .before .before .micros .ensures,
+      c .before .before .before .micros2 .ensures,
+    )
+
+pub slots-spec : {M : Type 1} → statement M
+slots-spec =
+    tie.close
+    (tie.spec
+    since-requires
+    micros-requires
+    mul-room
+    micros-requires-2
+    cast-used
+    mul-used
+    returns
+    cast-result
+    mul-result
+    div-result
+    returns-2)

@@ -1,0 +1,47 @@
+-- What is proved of one stream, and of a choice among any.
+use mathlib.Core.Path.{_≡_}
+use mathlib.Core.Bool.{Bool, true, false}
+use mathlib.Core.List.{List}
+use mathlib.Core.Logic.{_↔_}
+use Prim.Native.Nat.{ℕ, suc, _+_, _-_, _*_, _≤_, _<_}
+use lib.ListN.{getD}
+use lib.Dec.{leb}
+use Rattle.table.specs.Fold.{countTo}
+use Rattle.stream.specs.Stream.{slots, microDeadline, shifted, charged}
+use Rattle.stream.specs.Choice.{distance, nearest}
+use Rattle.stream.specs.declared.Stream.{Stream}
+
+-- "Slots of a stream: the number s of whole n ≥ 1 with (c + n × W) × p ≤ (h − r) × g": counted among 1, .., m, for any m that is large enough.
+abbrev pub SlotsAreCounted : Type 0
+SlotsAreCounted =
+    (worst h : ℕ) (x : Stream) (m : ℕ) → 0 < worst → 0 < x .period → slots worst h x ≤ m
+    → countTo (λ i. leb ((x .charge .0 + suc i * worst) * x .period) ((h - x .release .0) * x .granted .0)) m ≡ slots worst h x
+
+-- A slot is there exactly if its micro-deadline is no later than the horizon: the fraction is compared over its g.
+abbrev pub SlotsByMicroDeadline : Type 0
+SlotsByMicroDeadline =
+    (worst h : ℕ) (x : Stream) (n : ℕ) → 0 < worst → 0 < x .period → x .release .0 ≤ h → 1 ≤ n
+    → (n ≤ slots worst h x) ↔ (microDeadline worst x n .above ≤ h * microDeadline worst x n .below)
+
+-- Whose minus sign it is: after a completion of a ≤ W the micro-deadline of the next slot n is the one that slot n + 1 had before, less (W − a) × p / g. Nothing is cut off in that subtraction.
+abbrev pub MinusSign : Type 0
+MinusSign =
+    (worst a n : ℕ) (x : Stream) → a ≤ worst
+    → (microDeadline worst (charged a x) n ≡ shifted worst a x (microDeadline worst x (suc n)))
+    × ((worst - a) * x .period ≤ microDeadline worst x (suc n) .above)
+
+-- Of the indices below n that have one or more, `first` goes first: none goes before it, and it goes before each lower one, so that of equals the lowest is taken.
+abbrev pub GoesFirst : (ℕ → ℕ) → (ℕ → ℕ → Bool) → ℕ → ℕ → Type 0
+GoesFirst has before n first =
+    (first < n)
+    × (1 ≤ has first)
+    × ((i : ℕ) → i < n → 1 ≤ has i → (before i first ≡ false) × (i < first → before first i ≡ true))
+
+-- Its request is the first of its set: none of the first m places of a queue is nearer the head, and each earlier one is further from it.
+abbrev pub NearestIsFirst : Type 0
+NearestIsFirst =
+    (head : ℕ) (places : List ℕ) (m j : ℕ) → j < m
+    → let first = nearest head places m in
+    (first < m)
+    × (distance head (getD places first 0) ≤ distance head (getD places j 0))
+    × (j < first → distance head (getD places first 0) < distance head (getD places j 0))

@@ -1,0 +1,109 @@
+-- What the code's searches keep of the streams passed so far. No rule stands here: a reader of the rules may pass this file over.
+use mathlib.Core.Bool.{Bool, true, false, not, _&&_, _||_}
+use mathlib.Core.List.{List}
+use mathlib.Core.Path.{_≡_}
+use Prim.Native.Nat.{ℕ, _+_, _*_, _/_, _≤_, _<_, min, max}
+use lib.ListN.{getD, replicate}
+use lib.Dec.{leb, ltb, eqb}
+use Rattle.table.specs.Fold.{if}
+use Rattle.table.specs.Ranges.{streams-max, worst-max}
+use Rattle.table.specs.Admission.{numbersRefusal, streamRefusal}
+use Rattle.time.specs.Time.{session-end, moment}
+use Rattle.stream.specs.Stream.{slots, filled, soundCells}
+use Rattle.stream.specs.Bounds.{Bounded}
+use Rattle.stream.specs.Choice.{distance, nearest}
+use Rattle.time.specs.declared.Clock.{Clock}
+use Rattle.stream.specs.declared.census.Census.{Census}
+use Rattle.stream.specs.declared.choice.Near.{Near}
+use Rattle.stream.specs.declared.choice.Pick.{Pick}
+use Rattle.stream.specs.declared.Stream.{Stream}
+
+-- what a used stream passes whatever the horizon: nothing refuses its reservation, and its cells are sound
+unfoldable pub inOrder : ℕ → ℕ → ℕ → Stream → Bool
+inOrder worst span k x = eqb (streamRefusal worst span k (x .reserved) (x .period)) 0 && soundCells worst k x
+
+-- what is kept of a session's streams as it is judged: before the first used stream, and with one more
+unfoldable pub begun : ℕ → ℕ → ℕ → ℕ → Stream → Census
+begun worst span k count first =
+    record {
+      worst = worst;
+      span = span;
+      padding = k;
+      count = count;
+      sound = eqb (numbersRefusal (record { worst = worst; span = span; padding = k; count = count; reserved = replicate streams-max 0; period = replicate streams-max 0 })) 0;
+      horizon = first .deadline;
+      released = moment 0;
+      shares = 0;
+      least = first .period;
+    }
+
+unfoldable pub counted : Census → Stream → Census
+counted c x =
+    if (inOrder (c .worst) (c .span) (c .padding) x)
+    (record {
+      worst = c .worst;
+      span = c .span;
+      padding = c .padding;
+      count = c .count;
+      sound = c .sound;
+      horizon = moment (min (c .horizon .0) (x .deadline .0));
+      released = moment (max (c .released .0) (x .release .0));
+      shares = c .shares + x .granted .0 * (c .span / x .period);
+      least = min (c .least) (x .period);
+    })
+    (record {
+      worst = c .worst;
+      span = c .span;
+      padding = c .padding;
+      count = c .count;
+      sound = false;
+      horizon = c .horizon;
+      released = c .released;
+      shares = c .shares;
+      least = c .least;
+    })
+
+-- with these numbers one more stream can be taken in, and no sum wraps: eight shares of the span are far less
+abbrev pub shares-max : ℕ
+shares-max = 1_000_000_000_000
+
+pub record Countable (c : Census) : Type 0 where
+  pub worst-low : 0 < c .worst
+  pub shares-high : c .shares ≤ shares-max
+
+-- what it says of the session once the used streams are passed, beside the unused ones
+abbrev pub loadSo : Census → ℕ
+loadSo c = c .shares + c .worst * (c .span / c .least)
+
+unfoldable pub says : Census → Clock → ℕ → ℕ → Stream → Bool
+says c clock served place x =
+    c .sound
+    && leb (loadSo c) (c .span)
+    && leb (c .released .0) (c .horizon .0)
+    && leb (clock .0) session-end
+    && if (eqb served 0) (eqb place 0) (leb served (c .count) && leb 1 (slots (c .worst) (c .horizon .0) x))
+
+-- and with these the session can be judged: a stream at the disk has bounded numbers once the load fits and no release is past the horizon
+pub record Judgeable (c : Census) (served : ℕ) (x : Stream) : Type 0 where
+  pub worst-high : c .worst ≤ worst-max
+  pub shares-high : c .shares ≤ shares-max
+  pub least-low : 0 < c .least
+  pub at-disk : loadSo c ≤ c .span → c .released .0 ≤ c .horizon .0 → (served ≡ 0 → ⊥) → served ≤ c .count → Bounded (c .worst) (c .horizon .0) x
+
+-- the nearest of the first m places of a queue, and one step of the search for it: of equals the first stays
+abbrev pub near : ℕ → List ℕ → ℕ → Near
+near head places m =
+    record { index = nearest head places m; distance = distance head (getD places (nearest head places m) 0) }
+
+unfoldable pub nearer : Near → ℕ → ℕ → Near
+nearer best j far = if (ltb far (best .distance)) (record { index = j; distance = far }) best
+
+-- one step of the search for the request to send: a stream with no filled slot changes nothing, and of equals the first stays
+unfoldable pub considered : ℕ → ℕ → ℕ → Pick → Stream → ℕ → Pick
+considered worst h head best x i =
+    let request = near head (x .places) (filled worst h x) in
+    let sooner = ltb (x .deadline .0) (best .deadline .0) in
+    let alike = eqb (x .deadline .0) (best .deadline .0) in
+    if (eqb (filled worst h x) 0) best
+    (if (best .found && not (sooner || (alike && ltb (request .distance) (best .distance)))) best
+    (record { found = true; stream = i; index = request .index; deadline = x .deadline; distance = request .distance }))

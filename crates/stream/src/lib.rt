@@ -1,0 +1,289 @@
+// One stream of a session, and the record of its last closed job.
+mod census;
+mod choice;
+mod expiry;
+
+ghost use mathlib.Core.Path.{_≡_};
+ghost use Prim.Native.Nat.{_≤_, _<_};
+ghost use Rattle.stream.specs.Stream.{slots, filled, soundQueue, soundCells, zeroJob, unusedStream, arrived, closedUp, without, charged, lapsed, closed, moved, closesPastEnd, freshStream};
+ghost use Rattle.time.specs.Time.{session-end};
+ghost use Rattle.stream.specs.Bounds.{Bounded};
+ghost use Rattle.stream.specs.Search.{inOrder};
+pub use census::Census;
+pub use choice::Near;
+pub use choice::Pick;
+pub use choice::consider;
+pub use expiry::Lapse;
+pub use expiry::Sums;
+pub use expiry::better;
+pub use expiry::summed;
+use time::Charge;
+use time::Clock;
+
+#[repr(C)]
+pub struct Job {
+    pub charge: Charge,
+    pub closed: Clock,
+    pub deadline: Clock,
+    pub expired: u64,
+}
+
+// The first `queued` of the sixteen places are used, in order of arrival.
+#[repr(C)]
+pub struct Stream {
+    pub reserved: u32,
+    pub period: u32,
+    pub granted: Charge,
+    pub release: Clock,
+    pub deadline: Clock,
+    pub charge: Charge,
+    pub expired: u64,
+    pub queued: usize,
+    pub places: [u64; 16],
+    pub last: Job,
+}
+
+impl Stream {
+    pub const QUEUE_MAX: usize = 16;
+
+    // A stream at its first release: nothing queued, nothing charged, no job closed.
+    pub fn fresh(reserved: u32, period: u32, granted: u64) -> Stream
+        ensures { λ r. ⌜ r ≡ freshStream reserved period granted ⌝ }
+    {
+        let start = Clock::at(0);
+        let nothing = Charge::of(0);
+        let last = Job {
+            charge: nothing,
+            closed: start,
+            deadline: start,
+            expired: 0,
+        };
+        let budget = Charge::of(granted);
+        let deadline = Clock::at(period as u64);
+        let places = [0u64; 16];
+        Stream {
+            reserved: reserved,
+            period: period,
+            granted: budget,
+            release: start,
+            deadline: deadline,
+            charge: nothing,
+            expired: 0,
+            queued: 0,
+            places: places,
+            last: last,
+        }
+    }
+
+    // How many requests of the worst-case time fit before the horizon, by one division.
+    pub(crate) fn slots(self, worst: u32, h: Clock) -> u64
+        requires { ⌜ Bounded worst (h .0) self ⌝ }
+        ensures { λ r. ⌜ r ≡ slots worst (h .0) self ⌝ }
+    {
+        let room = h.since(self.release) * self.granted.micros();
+        let used = self.charge.micros() * self.period as u64;
+        if room < used {
+            return 0;
+        }
+        (room - used) / (worst as u64 * self.period as u64)
+    }
+
+    // How many of them queued requests fill.
+    pub fn filled(self, worst: u32, h: Clock) -> usize
+        requires { ⌜ Bounded worst (h .0) self ⌝ }
+        ensures { λ r. ⌜ r ≡ filled worst (h .0) self ⌝ }
+    {
+        let slots = self.slots(worst, h);
+        if slots < self.queued as u64 {
+            slots as usize
+        } else {
+            self.queued
+        }
+    }
+
+    // Whether its cells are those of a stream in use, whatever the horizon.
+    pub(crate) fn is_sound(self, worst: u32, k: u32) -> bool
+        requires { ⌜ 0 < worst ⌝ }
+        ensures { λ r. ⌜ r ≡ soundCells worst k self ⌝ }
+    {
+        let budget = self.granted
+            .is(Charge::of(table::granted(worst, k, self.reserved)));
+        let due = self.deadline.is_later_by(self.release, self.period);
+        let in_session = self.deadline.is_by(Clock::at(Clock::END));
+        let charge = self.charge.is_near(self.granted);
+        let expired = self.charge.covers(worst, self.expired);
+        let places = self.places;
+        let queue = queue_is_sound(places, self.queued);
+        budget & due & in_session & charge & expired & queue
+    }
+
+    // Whether nothing refuses its reservation, and its cells are those of a stream in use.
+    pub fn is_in_order(self, worst: u32, span: u32, k: u32) -> bool
+        requires { ⌜ 0 < worst ⌝ }
+        ensures { λ r. ⌜ r ≡ inOrder worst span k self ⌝ }
+    {
+        let refusal = table::stream_refusal(worst, span, k, self.reserved, self.period);
+        let cells = self.is_sound(worst, k);
+        (refusal == 0) & cells
+    }
+
+    // Whether every cell is 0.
+    pub fn is_unused(self) -> bool
+        ensures { λ r. ⌜ r ≡ unusedStream self ⌝ }
+    {
+        let start = Clock::at(0);
+        let nothing = Charge::of(0);
+        let table = (self.reserved == 0) & (self.period == 0);
+        let granted = self.granted.is(nothing);
+        let release = self.release.is(start);
+        let deadline = self.deadline.is(start);
+        let charge = self.charge.is(nothing);
+        let places = self.places;
+        let queue = queue_is_sound(places, 0);
+        let last = self.last.is_zero();
+        table
+            & granted
+            & release
+            & deadline
+            & charge
+            & (self.expired == 0)
+            & (self.queued == 0)
+            & queue
+            & last
+    }
+
+    // With a place at the queue's end.
+    pub fn arrived(self, place: u64) -> Stream
+        requires { ⌜ self .queued < 16 ⌝ }
+        ensures { λ r. ⌜ r ≡ arrived place self ⌝ }
+    {
+        let n = self.queued;
+        let mut x = self;
+        x.places[n] = place;
+        x.queued = n + 1;
+        x
+    }
+
+    // Without the request at an index of its queue.
+    pub fn without(self, j: usize) -> Stream
+        requires { ⌜ (j < 16) × (1 ≤ self .queued) ⌝ }
+        ensures { λ r. ⌜ r ≡ without j self ⌝ }
+    {
+        let places = self.places;
+        let left = closed_up(places, j);
+        let mut x = self;
+        x.places = left;
+        x.queued = self.queued - 1;
+        x
+    }
+
+    // With a completion charged.
+    pub fn charged(self, duration: Charge) -> Stream
+        requires { ⌜ (self .charge .0 ≤ session-end) × (duration .0 ≤ session-end) ⌝ }
+        ensures { λ r. ⌜ r ≡ charged (duration .0) self ⌝ }
+    {
+        let charge = self.charge.plus(duration);
+        let mut x = self;
+        x.charge = charge;
+        x
+    }
+
+    // With a slot expired.
+    pub fn lapsed(self, worst: u32) -> Stream
+        requires { ⌜ (self .charge .0 ≤ session-end) × (self .expired ≤ session-end) ⌝ }
+        ensures { λ r. ⌜ r ≡ lapsed worst self ⌝ }
+    {
+        let charge = self.charge.plus(Charge::of(worst as u64));
+        let mut x = self;
+        x.charge = charge;
+        x.expired = self.expired + 1;
+        x
+    }
+
+    // At a move: its job is closed if it is due at the horizon.
+    pub fn moved(self, now: Clock, h: Clock) -> Stream
+        requires { ⌜ self .deadline .0 ≤ session-end ⌝ }
+        ensures { λ r. ⌜ r ≡ moved now (h .0) self ⌝ }
+    {
+        if self.deadline.is(h) {
+            self.closed(now)
+        } else {
+            self
+        }
+    }
+
+    // Whether it would close its job at the horizon, and its next deadline pass the session's end.
+    pub fn closes_past_end(self, h: Clock) -> bool
+        requires { ⌜ self .deadline .0 ≤ session-end ⌝ }
+        ensures { λ r. ⌜ r ≡ closesPastEnd (h .0) self ⌝ }
+    {
+        let due = self.deadline.is(h);
+        let next = self.deadline.plus(self.period);
+        due & next.is_past_end()
+    }
+
+    // With its job closed and the next one begun.
+    fn closed(self, now: Clock) -> Stream
+        requires { ⌜ self .deadline .0 ≤ session-end ⌝ }
+        ensures { λ r. ⌜ r ≡ closed now self ⌝ }
+    {
+        let deadline = self.deadline;
+        let charge = self.charge;
+        let last = Job {
+            charge: charge,
+            closed: now,
+            deadline: deadline,
+            expired: self.expired,
+        };
+        let next = deadline.plus(self.period);
+        let nothing = Charge::of(0);
+        let mut x = self;
+        x.release = deadline;
+        x.deadline = next;
+        x.charge = nothing;
+        x.expired = 0;
+        x.last = last;
+        x
+    }
+}
+
+impl Job {
+    // Whether no job was closed yet.
+    pub(crate) fn is_zero(self) -> bool
+        ensures { λ r. ⌜ r ≡ zeroJob self ⌝ }
+    {
+        let start = Clock::at(0);
+        let charge = self.charge.is(Charge::of(0));
+        let closed = self.closed.is(start);
+        let deadline = self.deadline.is(start);
+        charge & closed & deadline & (self.expired == 0)
+    }
+}
+
+// At most sixteen places are queued, and the cells past them are 0.
+fn queue_is_sound(places: [u64; 16], queued: usize) -> bool
+    ensures { λ r. ⌜ r ≡ soundQueue places queued ⌝ }
+{
+    let mut ok = true;
+    let mut j = queued;
+    while j < 16 {
+        ok = ok & (places[j] == 0);
+        j += 1;
+    }
+    (queued <= Stream::QUEUE_MAX) & ok
+}
+
+// The queue without its place j: those behind it close up.
+fn closed_up(places: [u64; 16], j: usize) -> [u64; 16]
+    requires { ⌜ j < 16 ⌝ }
+    ensures { λ r. ⌜ r ≡ closedUp j places ⌝ }
+{
+    let mut left = places;
+    let mut i = j;
+    while i < 15 {
+        left[i] = places[i + 1];
+        i += 1;
+    }
+    left[15] = 0;
+    left
+}

@@ -1,0 +1,26 @@
+-- `Charge::covers` tests a product by a quotient, which no count of expired slots makes too large.
+use borrow.Author.Tests.{leb-true, le-leb}
+use native.Mathlib.Nat.{le-div-iff-mul-le}
+use Prim.Native.Nat.{ℕ, _*_, _/_, _<_}
+use lib.Dec.{leb}
+use Rattle.table.proofs.Tests.{same-test}
+use native.Mathlib.Omega.{arith}
+use mathlib.Core.Path.{_≡_}
+use borrow.Author.Needs.{needs}
+use Rattle.time.proofs.Charge.covers.Statement.{statement}
+use Rattle.time.proofs.Charge.covers.Tie as tie
+
+div-result : tie.Need-div-result
+div-result c = search needs
+
+by-quotient : (x c w : ℕ) → 0 < w → leb x (c / w) ≡ leb (w * x) c
+by-quotient x c w pos =
+    same-test _ _
+    (λ h. le-leb (w * x) c (let k = le-div-iff-mul-le pos .0 (leb-true x (c / w) h) in omega arith))
+    (λ h. le-leb x (c / w) (le-div-iff-mul-le pos .1 (let k = leb-true (w * x) c h in omega arith)))
+
+returns : tie.Need-returns
+returns c = by-quotient (c .before .args .expired) (c .before .args .self .0) (c .before .args .worst) (c .before .pre)
+
+pub covers-spec : {M : Type 1} → statement M
+covers-spec = tie.close (tie.spec div-result returns)

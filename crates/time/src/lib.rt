@@ -1,0 +1,160 @@
+// Whole microseconds of two kinds that are counted apart: when it is, and how much disk time was had.
+ghost use mathlib.Core.Path.{_≡_};
+ghost use Prim.Native.Nat.{_+_, _-_, _*_, _/_, _≤_, _<_, min, max};
+ghost use lib.Dec.{leb, ltb, eqb};
+ghost use Rattle.time.specs.Time.{moment, diskTime, session-end, duration-max, parts-max};
+
+// A moment of clock time.
+#[repr(C)]
+pub struct Clock(u64);
+
+// An amount of disk time.
+#[repr(C)]
+pub struct Charge(u64);
+
+impl Clock {
+    // No clock and no deadline passes the session's end.
+    pub const END: u64 = 1_000_000_000_000;
+
+    pub fn at(micros: u64) -> Clock
+        ensures { λ r. ⌜ r ≡ moment micros ⌝ }
+    {
+        Clock(micros)
+    }
+
+    pub fn micros(self) -> u64
+        ensures { λ r. ⌜ r ≡ self .0 ⌝ }
+    {
+        self.0
+    }
+
+    pub fn is(self, other: Clock) -> bool
+        ensures { λ r. ⌜ r ≡ eqb (self .0) (other .0) ⌝ }
+    {
+        self.0 == other.0
+    }
+
+    pub fn is_after(self, other: Clock) -> bool
+        ensures { λ r. ⌜ r ≡ ltb (other .0) (self .0) ⌝ }
+    {
+        other.0 < self.0
+    }
+
+    // No later than another moment.
+    pub fn is_by(self, other: Clock) -> bool
+        ensures { λ r. ⌜ r ≡ leb (self .0) (other .0) ⌝ }
+    {
+        self.0 <= other.0
+    }
+
+    // A length of clock time later than another moment.
+    pub fn is_later_by(self, earlier: Clock, length: u32) -> bool
+        ensures { λ r. ⌜ r ≡ eqb (self .0) (earlier .0 + length) ⌝ }
+    {
+        if earlier.0 <= self.0 {
+            self.0 - earlier.0 == length as u64
+        } else {
+            false
+        }
+    }
+
+    pub fn is_past_end(self) -> bool
+        ensures { λ r. ⌜ r ≡ ltb session-end (self .0) ⌝ }
+    {
+        Self::END < self.0
+    }
+
+    pub fn earlier(self, other: Clock) -> Clock
+        ensures { λ r. ⌜ r ≡ moment (min (self .0) (other .0)) ⌝ }
+    {
+        if other.0 < self.0 { other } else { self }
+    }
+
+    pub fn later(self, other: Clock) -> Clock
+        ensures { λ r. ⌜ r ≡ moment (max (self .0) (other .0)) ⌝ }
+    {
+        if self.0 < other.0 { other } else { self }
+    }
+
+    // How long ago an earlier moment was.
+    pub fn since(self, earlier: Clock) -> u64
+        requires { ⌜ earlier .0 ≤ self .0 ⌝ }
+        ensures { λ r. ⌜ r ≡ self .0 - earlier .0 ⌝ }
+    {
+        self.0 - earlier.0
+    }
+
+    // The moment a length of clock time later.
+    pub fn plus(self, length: u32) -> Clock
+        requires { ⌜ self .0 ≤ session-end ⌝ }
+        ensures { λ r. ⌜ r ≡ moment (self .0 + length) ⌝ }
+    {
+        Clock(self.0 + length as u64)
+    }
+
+    // The first of two crossings from disk time to clock time: the clock when a request has taken that long.
+    pub fn after(self, duration: Charge) -> Clock
+        requires { ⌜ (self .0 ≤ session-end) × (duration .0 ≤ session-end) ⌝ }
+        ensures { λ r. ⌜ r ≡ moment (self .0 + duration .0) ⌝ }
+    {
+        Clock(self.0 + duration.0)
+    }
+
+    // The second: this horizon less all remainders, rounded down once. `parts` is the sum of what the streams may use up to the horizon, times the span.
+    pub fn less_remainders(self, charges: Charge, parts: u64, span: u32) -> Clock
+        requires { ⌜ (0 < span) × (self .0 ≤ session-end) × (charges .0 ≤ session-end) × (parts ≤ self .0 * span) × (parts ≤ parts-max) ⌝ }
+        ensures { λ r. ⌜ r ≡ moment (((self .0 + charges .0) * span - parts) / span) ⌝ }
+    {
+        let up = (parts + (span as u64 - 1)) / span as u64;
+        Clock(self.0 + charges.0 - up)
+    }
+}
+
+impl Charge {
+    // The longest duration that may be reported.
+    pub const DURATION_MAX: u64 = 10_000_000;
+
+    pub fn of(micros: u64) -> Charge
+        ensures { λ r. ⌜ r ≡ diskTime micros ⌝ }
+    {
+        Charge(micros)
+    }
+
+    pub fn micros(self) -> u64
+        ensures { λ r. ⌜ r ≡ self .0 ⌝ }
+    {
+        self.0
+    }
+
+    pub fn is(self, other: Charge) -> bool
+        ensures { λ r. ⌜ r ≡ eqb (self .0) (other .0) ⌝ }
+    {
+        self.0 == other.0
+    }
+
+    // At most one completion of any length above a budget.
+    pub fn is_near(self, budget: Charge) -> bool
+        ensures { λ r. ⌜ r ≡ leb (self .0) (budget .0 + duration-max) ⌝ }
+    {
+        if self.0 <= Self::DURATION_MAX {
+            true
+        } else {
+            self.0 - Self::DURATION_MAX <= budget.0
+        }
+    }
+
+    // At least the worst-case time for each expired slot.
+    pub fn covers(self, worst: u32, expired: u64) -> bool
+        requires { ⌜ 0 < worst ⌝ }
+        ensures { λ r. ⌜ r ≡ leb (worst * expired) (self .0) ⌝ }
+    {
+        expired <= self.0 / worst as u64
+    }
+
+    pub fn plus(self, more: Charge) -> Charge
+        requires { ⌜ (self .0 ≤ session-end) × (more .0 ≤ session-end) ⌝ }
+        ensures { λ r. ⌜ r ≡ diskTime (self .0 + more .0) ⌝ }
+    {
+        Charge(self.0 + more.0)
+    }
+}

@@ -1,11 +1,11 @@
 -- Sessions, replies and answers as the law of a thin call takes them.
 use denote.Enum.Laws as EL
-use Rattle.session.specs.declared.call.Answer.{Answer}
+use Rattle.session.specs.declared.Answer.{Answer}
 use Rattle.session.proofs.Session as S
 use Rattle.session.proofs.Session.Laws as S′
-use Rattle.session.proofs.call.Reply as Y
-use Rattle.session.proofs.call.Reply.Laws as Y′
-use Rattle.session.proofs.call.Answer as A
+use Rattle.calls.proofs.Reply as Y
+use Rattle.calls.proofs.Reply.Laws as Y′
+use Rattle.session.proofs.Answer as A
 use Rattle.session.proofs.Lending.{Answering}
 
 abbrev pub by-session : Answering

@@ -15,7 +15,7 @@ use Rattle.session.specs.Choice.{nearestAt, sentBefore, chosen, expiring
 use Rattle.session.specs.Calls.{refuse, set-clock, send, move, wait, expire, busy, movePassesEnd, callRefusal, refusal, turnEffect, effect, ruled, verdict, apply, outcome, answerTo}
 use Rattle.session.specs.Laws.{PresentTimeChangesNothing}
 use Rattle.session.specs.declared.Session.{Session}
-use Rattle.session.specs.declared.call.Call.{Call}
+use Rattle.calls.specs.declared.Call.{Call}
 use Rattle.session.proofs.Sound.{Sound, admits, bounded}
 use Rattle.stream.proofs.Best.{best-positive}
 use Rattle.session.proofs.Grounds.{Grounds, ruled-by}

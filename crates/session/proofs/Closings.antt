@@ -15,7 +15,7 @@ use Rattle.session.specs.Calls.{move, apply, replyTo, outcome}
 use Rattle.time.specs.declared.Clock.{Clock}
 use Rattle.stream.specs.declared.Stream.{Stream}
 use Rattle.session.specs.declared.Session.{Session}
-use Rattle.session.specs.declared.call.Reply.{Reply}
+use Rattle.calls.specs.declared.Reply.{Reply}
 use Rattle.session.proofs.Sound.{Sound, admits, unused-deadline}
 use Rattle.session.proofs.MoveKept.{moving, next, stays, moved-at}
 

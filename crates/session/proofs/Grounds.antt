@@ -15,7 +15,7 @@ use Rattle.session.specs.Session.{streamAt, horizon, slotsAt, filledAt, 
 use Rattle.session.specs.Choice.{nearestAt, chosen, sentBefore, expiring, expiresBefore}
 use Rattle.session.specs.Calls.{Verdict, refuse, append, send, move, wait, expire, finish, set-clock, noSuchStream, busy, movePassesEnd, callRefusal, refusal, turnEffect, effect, ruled, verdict}
 use Rattle.session.specs.declared.Session.{Session}
-use Rattle.session.specs.declared.call.Call.{Call}
+use Rattle.calls.specs.declared.Call.{Call}
 use Rattle.stream.proofs.Best.{best-positive}
 use Rattle.stream.proofs.Nearest.{nearest-in}
 use Rattle.session.proofs.Sound.{Sound, of-sound}

@@ -17,7 +17,7 @@ use Rattle.session.specs.Calls.{Verdict, refuse, append, send, move, wai
 use Rattle.session.specs.Promise.{Moment, closes, closings, dueOf, sinceClosing, durationOf, reported, expiry, chargeOf}
 use Rattle.stream.specs.declared.Stream.{Stream}
 use Rattle.session.specs.declared.Session.{Session}
-use Rattle.session.specs.declared.call.Call.{Call}
+use Rattle.calls.specs.declared.Call.{Call}
 use Rattle.session.proofs.Sound.{Sound, admits}
 use Rattle.session.proofs.Grounds.{Grounds}
 use Rattle.session.proofs.Changes.{worked}

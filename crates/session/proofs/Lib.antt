@@ -14,7 +14,7 @@ pub mod Changes
 pub mod MoveKept
 pub mod Closings
 pub mod Keeps
-pub mod Opened
+pub mod Openings
 pub mod Answers
 pub mod Outcomes
 pub mod Determined
@@ -26,6 +26,4 @@ pub mod Histories
 pub mod Promise
 pub mod PromiseMet
 pub mod Lending
-pub mod Elements
-pub mod Settling
 pub mod Answering

@@ -11,8 +11,8 @@ use Rattle.session.specs.Session.{streamAt, latest, withStream, withDisk
 use Rattle.session.specs.Calls.{append, send, wait, expire, finish, set-clock, overlong, late, apply, replyTo, outcome}
 use Rattle.time.specs.declared.Clock.{Clock}
 use Rattle.stream.specs.declared.Stream.{Stream}
-use Rattle.session.specs.declared.call.Answer.{Answer}
-use Rattle.session.specs.declared.call.Reply.{Reply}
+use Rattle.session.specs.declared.Answer.{Answer}
+use Rattle.calls.specs.declared.Reply.{Reply}
 use Rattle.session.specs.declared.Session.{Session}
 
 abbrev with-reply : Session → Reply → Answer

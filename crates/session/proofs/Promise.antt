@@ -15,19 +15,20 @@ use Rattle.table.proofs.Folds.{all-at, some-none}
 use Rattle.time.specs.Time.{moment, diskTime}
 use Rattle.stream.specs.Stream.{filled, closed, moved, freshStream}
 use Rattle.session.specs.Session.{streamAt, horizon, slotsAt, filledAt, someFilled, noSlot}
-use Rattle.session.specs.Calls.{Verdict, refuse, append, send, move, wait, expire, finish, set-clock, verdict, apply, overlong, late, replyTo, numberOf, streamOf, answerTo, after}
+use Rattle.calls.specs.Replies.{numberOf, streamOf}
+use Rattle.session.specs.Calls.{Verdict, refuse, append, send, move, wait, expire, finish, set-clock, verdict, apply, overlong, late, replyTo, answerTo, after}
 use Rattle.session.specs.Opening.{freshSession, openingOf}
 use Rattle.session.specs.Promise.{Moment, historyFrom, historyOf, replied, repliedFor, withinBounds, closes, closings, dueOf, sinceClosing, reported, expiry, chargeOf, budgetOf, ClosedWell, Promise}
 use Rattle.time.specs.declared.Clock.{Clock}
 use Rattle.stream.specs.declared.Stream.{Stream}
 use Rattle.session.specs.declared.Session.{Session}
-use Rattle.session.specs.declared.call.Call.{Call}
-use Rattle.session.specs.declared.call.Reply.{Reply}
+use Rattle.calls.specs.declared.Call.{Call}
+use Rattle.calls.specs.declared.Reply.{Reply}
 use Rattle.session.proofs.Sound.{Sound, of-sound, bounded}
 use Rattle.session.proofs.Grounds.{Grounds, verdict-grounds}
 use Rattle.session.proofs.Keeps.{effect-kept}
 use Rattle.session.proofs.MoveKept.{moved-at}
-use Rattle.session.proofs.Opened.{fresh-at, fresh-sound, never-unsound}
+use Rattle.session.proofs.Openings.{fresh-at, fresh-sound, never-unsound}
 use Rattle.session.proofs.Halves.{rate, used, rates-high, due-most, due-least, clock-not-past}
 use Rattle.session.proofs.Reasons.{Reasons, verdict-reasons}
 use Rattle.session.proofs.Within.{Safe, Plain, effect-safe}

@@ -3,13 +3,14 @@ use mathlib.Core.Path.{_≡_, refl}
 use mathlib.Core.List.{List, [], _∷_, _++_, map}
 use Prim.Native.Nat.{ℕ}
 use lib.Dec.{lit<}
-use Rattle.session.specs.Calls.{numberOf, answerTo, after}
+use Rattle.calls.specs.Replies.{numberOf}
+use Rattle.session.specs.Calls.{answerTo, after}
 use Rattle.session.specs.Opening.{openingOf}
 use Rattle.session.specs.Cases.{padded, twins}
 use Rattle.session.specs.Promise.{Moment, historyFrom, historyOf, withinBounds, sinceClosing, chargeOf, Promised, ClosedWell}
 use Rattle.session.specs.declared.Session.{Session}
-use Rattle.session.specs.declared.call.Call.{Call}
-use Rattle.session.specs.declared.call.Call.the-variants.{Arrival, Turn, OwnTurn, Done, Clock}
+use Rattle.calls.specs.declared.Call.{Call}
+use Rattle.calls.specs.declared.Call.the-variants.{Arrival, Turn, OwnTurn, Done, Clock}
 use Rattle.session.proofs.Rules.{rules}
 use Rattle.session.proofs.Promise.{promise}
 

@@ -8,7 +8,7 @@ use Rattle.session.specs.Session.{someFilled, noSlot}
 use Rattle.session.specs.Calls.{Verdict, refuse, append, send, move, wait, expire, finish, set-clock, callRefusal, refusal, turnEffect, effect, verdict}
 use Rattle.session.specs.Promise.{durationOf}
 use Rattle.session.specs.declared.Session.{Session}
-use Rattle.session.specs.declared.call.Call.{Call}
+use Rattle.calls.specs.declared.Call.{Call}
 use Rattle.session.proofs.Sound.{Sound, of-sound}
 use Rattle.session.proofs.Grounds.{call-refusal-high, ruled-by}
 

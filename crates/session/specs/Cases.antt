@@ -11,8 +11,8 @@ use Rattle.session.specs.Calls.{Line, after, linesFrom}
 use Rattle.session.specs.Opening.{openingOf}
 use Rattle.stream.specs.declared.Job.{Job}
 use Rattle.stream.specs.declared.Stream.{Stream}
-use Rattle.session.specs.declared.call.Call.{Call}
-use Rattle.session.specs.declared.call.Call.the-variants.{Arrival, Turn, Done, Clock}
+use Rattle.calls.specs.declared.Call.{Call}
+use Rattle.calls.specs.declared.Call.the-variants.{Arrival, Turn, Done, Clock}
 
 -- rows of numbers that the rules give, and those of the document
 pub record Case : Type 0 where

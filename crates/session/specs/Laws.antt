@@ -11,11 +11,12 @@ use Rattle.stream.specs.Laws.{GoesFirst}
 use Rattle.session.specs.Session.{streamAt, horizon, slotsAt, filledAt, inSet, someFilled, noSlot, scaledPart, latest, sound}
 use Rattle.stream.specs.Choice.{distance}
 use Rattle.session.specs.Choice.{nearestAt, sentBefore, chosen, expiresBefore, expiring}
-use Rattle.session.specs.Calls.{answerTo, after, numberOf}
+use Rattle.calls.specs.Replies.{numberOf}
+use Rattle.session.specs.Calls.{answerTo, after}
 use Rattle.session.specs.Opening.{zeroSession, openingOf}
 use Rattle.session.specs.Cases.{Case, cases}
 use Rattle.session.specs.declared.Session.{Session}
-use Rattle.session.specs.declared.call.Call.{Call}
+use Rattle.calls.specs.declared.Call.{Call}
 
 -- Each worked case of document 01 comes out as the document says.
 abbrev pub CasesHold : Type 0

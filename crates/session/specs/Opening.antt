@@ -10,7 +10,7 @@ use Rattle.time.specs.Time.{moment}
 use Rattle.stream.specs.Stream.{freshStream}
 use Rattle.stream.specs.declared.Stream.{Stream}
 use Rattle.session.specs.declared.Session.{Session}
-use Rattle.session.specs.declared.call.Opened.{Opened}
+use Rattle.session.specs.declared.Opened.{Opened}
 
 -- the stream at i of a session that is opened with a table; past the count a stream of zeros
 unfoldable pub openedStream : Table → ℕ → Stream

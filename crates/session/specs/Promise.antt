@@ -9,11 +9,12 @@ use Rattle.table.specs.Admission.{reservedAt, periodAt, grantedOf, admissionOf}
 use Rattle.table.specs.declared.Table.{Table}
 use Rattle.time.specs.Time.{moment, diskTime}
 use Rattle.session.specs.Session.{streamAt, horizon, sound}
-use Rattle.session.specs.Calls.{numberOf, streamOf, answerTo, after}
+use Rattle.calls.specs.Replies.{numberOf, streamOf}
+use Rattle.session.specs.Calls.{answerTo, after}
 use Rattle.session.specs.Opening.{openingOf}
 use Rattle.session.specs.declared.Session.{Session}
-use Rattle.session.specs.declared.call.Call.{Call}
-use Rattle.session.specs.declared.call.Answer.{Answer}
+use Rattle.calls.specs.declared.Call.{Call}
+use Rattle.session.specs.declared.Answer.{Answer}
 
 -- "Take a newly opened session and any calls, refused ones included, with the house's choice or any other choice from the set." What is remembered of a call: the session that it was handed, the call, and its answer. The history is the list of these, the newest first.
 pub record Moment : Type 0 where

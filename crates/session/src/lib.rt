@@ -1,8 +1,7 @@
 // A session: one disk, up to eight streams, and the calls that share it among them.
 mod arrivals;
-mod call;
-mod calls;
 mod completions;
+mod dispatch;
 mod lent;
 mod own_turns;
 mod reports;
@@ -14,10 +13,7 @@ ghost use mathlib.Core.Path.{_≡_};
 ghost use Prim.Native.Nat.{_<_};
 ghost use Rattle.table.specs.Fold.{listTo};
 ghost use Rattle.session.specs.Opening.{openedStream, freshSession, zeroSession, openingOf};
-pub use call::Answer;
-pub use call::Call;
-pub use call::Opened;
-pub use call::Reply;
+use calls::Reply;
 use stream::Stream;
 use table::Admission;
 use table::Table;
@@ -37,6 +33,16 @@ pub struct Session {
     pub served: usize,
     pub place: u64,
     pub streams: [Stream; 8],
+}
+
+pub struct Answer {
+    pub session: Session,
+    pub reply: Reply,
+}
+
+pub struct Opened {
+    pub session: Session,
+    pub admission: Admission,
 }
 
 impl Session {

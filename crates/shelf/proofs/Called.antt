@@ -9,9 +9,9 @@ use Rattle.table.specs.Admission.{numbersRefusal, admissionOf}
 use Rattle.session.specs.Session.{sound}
 use Rattle.session.specs.Calls.{apply, replyTo, answerTo}
 use Rattle.session.specs.declared.Session.{Session}
-use Rattle.session.specs.declared.call.Call.{Call}
-use Rattle.session.specs.declared.call.Answer.{Answer}
-use Rattle.session.specs.declared.call.Reply.{Reply}
+use Rattle.calls.specs.declared.Call.{Call}
+use Rattle.session.specs.declared.Answer.{Answer}
+use Rattle.calls.specs.declared.Reply.{Reply}
 use Rattle.session.proofs.Answers.{unsound-answer}
 use Rattle.shelf.specs.Image.{nearest-first, imageOf, sessionOf, toldAs, answeredAs}
 use Rattle.shelf.specs.InPlace.{countedOf, calledOf, changedAt, changeFrom, changeAs}

@@ -21,15 +21,15 @@ use Rattle.session.specs.Session.{noStream}
 use Rattle.session.specs.Calls.{Verdict, refuse, refusal, effect, ruled, verdict, apply, replyTo, answerTo}
 use Rattle.stream.specs.declared.Stream.{Stream}
 use Rattle.session.specs.declared.Session.{Session}
-use Rattle.session.specs.declared.call.Call.{Call}
+use Rattle.calls.specs.declared.Call.{Call}
 use Rattle.shelf.specs.Image.{nearest-first, imageOf, sessionOf, toldAs, answeredAs}
 use Rattle.shelf.specs.InPlace.{slotOf, changeFrom, changeAs}
 use Rattle.shelf.specs.declared.images.Image.{Image}
 use Rattle.shelf.specs.declared.images.Told.{Told}
 use Rattle.shelf.specs.declared.images.Answered.{Answered}
 use Rattle.shelf.specs.declared.images.Change.{Change}
-use Rattle.session.proofs.Elements.{vals-of, vals-many, vals-put, array-put}
-use Rattle.session.proofs.Settling.{Stored, Settling, tys, cells, after}
+use Rattle.shelf.proofs.Elements.{vals-of, vals-many, vals-put, array-put}
+use Rattle.shelf.proofs.Settling.{Stored, Settling, tys, cells, after}
 use Rattle.stream.proofs.Stream as E
 use Rattle.stream.proofs.Stream.Laws as E′
 use Rattle.shelf.proofs.images.Image as S

@@ -7,7 +7,7 @@ use Rattle.table.specs.Fold.{if}
 use Rattle.table.proofs.Tests.{by-if}
 use Rattle.session.specs.Calls.{refusal, ruled, verdict, apply, answerTo}
 use Rattle.session.specs.declared.Session.{Session}
-use Rattle.session.specs.declared.call.Call.{Call}
+use Rattle.calls.specs.declared.Call.{Call}
 use Rattle.shelf.specs.Image.{nearest-first, imageOf, sessionOf, answeredAs}
 use Rattle.shelf.specs.Laws.{NothingIsLost, RefusalChangesNothing}
 use Rattle.shelf.specs.declared.images.Image.{Image}

@@ -6,12 +6,13 @@ use Rattle.table.specs.declared.Table.{Table}
 use Rattle.table.specs.declared.Admission.{Admission}
 use Rattle.table.specs.declared.Admission.the-variants.{Admitted, Refused}
 use Rattle.session.specs.Opening.{zeroSession, openingOf}
-use Rattle.session.specs.Calls.{numberOf, valueOf, streamOf, answerTo}
+use Rattle.calls.specs.Replies.{numberOf, valueOf, streamOf}
+use Rattle.session.specs.Calls.{answerTo}
 use Rattle.session.specs.View.{viewOf, stateOf, closingOf}
 use Rattle.session.specs.declared.Session.{Session}
-use Rattle.session.specs.declared.call.Call.{Call}
-use Rattle.session.specs.declared.call.Reply.{Reply}
-use Rattle.session.specs.declared.call.Answer.{Answer}
+use Rattle.calls.specs.declared.Call.{Call}
+use Rattle.calls.specs.declared.Reply.{Reply}
+use Rattle.session.specs.declared.Answer.{Answer}
 use Rattle.session.specs.declared.view.View.{View}
 use Rattle.session.specs.declared.view.State.{State}
 use Rattle.session.specs.declared.view.Closing.{Closing}

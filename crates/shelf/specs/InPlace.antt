@@ -5,7 +5,7 @@ use lib.ListN.{getD}
 use Rattle.table.specs.Fold.{if}
 use Rattle.session.specs.Session.{noStream}
 use Rattle.session.specs.declared.Session.{Session}
-use Rattle.session.specs.declared.call.Call.{Call}
+use Rattle.calls.specs.declared.Call.{Call}
 use Rattle.shelf.specs.Image.{nearest-first, answeredAs}
 use Rattle.shelf.specs.declared.images.Image.{Image}
 use Rattle.shelf.specs.declared.images.Answered.{Answered}

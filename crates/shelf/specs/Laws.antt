@@ -3,7 +3,7 @@ use mathlib.Core.Path.{_≡_}
 use Prim.Native.Nat.{ℕ, suc}
 use Rattle.session.specs.Calls.{refusal}
 use Rattle.session.specs.declared.Session.{Session}
-use Rattle.session.specs.declared.call.Call.{Call}
+use Rattle.calls.specs.declared.Call.{Call}
 use Rattle.shelf.specs.Image.{nearest-first, imageOf, sessionOf, answeredAs}
 use Rattle.shelf.specs.declared.images.Image.{Image}
 

@@ -1,9 +1,9 @@
 // What crosses to C and Rust: structs of numbers, with their fields in order.
 ghost use mathlib.Core.Path.{_≡_};
 ghost use Rattle.shelf.specs.Image.{sessionOf, imageOf};
-use time::Clock;
 use session::Session;
 use stream::Stream;
+use time::Clock;
 
 // A session. The order of choice is 0, nearest first; another number stands for none.
 #[repr(C)]

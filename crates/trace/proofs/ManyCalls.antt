@@ -6,14 +6,15 @@ use lib.ListN.{replicate}
 use lib.Dec.{eqb}
 use Rattle.table.specs.Fold.{if}
 use Rattle.table.specs.declared.Table.{Table}
-use Rattle.session.specs.Calls.{numberOf, valueOf, answerTo, after}
+use Rattle.calls.specs.Replies.{numberOf, valueOf}
+use Rattle.session.specs.Calls.{answerTo, after}
 use Rattle.session.specs.Opening.{openingOf}
 use Rattle.session.specs.Cases.{padded, table}
 use Rattle.session.specs.Promise.{historyFrom, historyOf, withinBounds, Promised}
 use Rattle.session.specs.declared.Session.{Session}
-use Rattle.session.specs.declared.call.Call.{Call}
-use Rattle.session.specs.declared.call.Call.the-variants.{Arrival, Turn, Done, Clock}
-use Rattle.session.specs.declared.call.Reply.{Reply}
+use Rattle.calls.specs.declared.Call.{Call}
+use Rattle.calls.specs.declared.Call.the-variants.{Arrival, Turn, Done, Clock}
+use Rattle.calls.specs.declared.Reply.{Reply}
 use Rattle.session.proofs.Rules.{rules}
 use Rattle.session.proofs.Promise.{promise}
 

@@ -8,7 +8,7 @@ use Rattle.table.specs.declared.Table.{Table}
 use Rattle.session.specs.Calls.{answerTo, Line, lineOf}
 use Rattle.session.specs.Opening.{openingOf}
 use Rattle.session.specs.declared.Session.{Session}
-use Rattle.session.specs.declared.call.Call.{Call}
+use Rattle.calls.specs.declared.Call.{Call}
 use Rattle.file.specs.Reading.{eventAt, eventsIn, tableIn, traceIn, isLaidOut}
 use Rattle.file.specs.declared.event.Event.{Event}
 use Rattle.listing.specs.Line.{rendered, headerFields, eventFields, refusedFields, textOf}

@@ -1,7 +1,7 @@
 // A trace run through a session: each event is a call, and its answer a printed line.
+use calls::Call;
 use file::Event;
 use listing::Text;
-use session::Call;
 use session::Session;
 ghost use mathlib.Core.Path.{_≡_};
 ghost use Rattle.listing.specs.Line.{Within};

@@ -4,12 +4,12 @@ use mir.Syntax.{w64}
 use contract.Running.{givenOf, tables, tablesOf}
 use denote.Triple.Spec.{tripleOf}
 use denote.Triple.Table.{entered, cited}
-use Rattle.session.specs.declared.call.Call.{Call}
+use Rattle.calls.specs.declared.Call.{Call}
 use Rattle.shelf.specs.Image.{answeredAs}
 use Rattle.shelf.specs.InPlace.{changeAs}
 use Rattle.shelf.proofs.Changing.{low, eight, own-turn-left, by-change}
 use Rattle.session.proofs.Lending.{uint}
-use Rattle.session.proofs.Settling.{settle2}
+use Rattle.shelf.proofs.Settling.{settle2}
 use Rattle.shelf.proofs.answers.own_turn as g
 use Rattle.shelf.proofs.answers.own_turn.Symbol as g-def
 use Rattle.shelf.proofs.answers.own_turn.Symbol.{name as #g}

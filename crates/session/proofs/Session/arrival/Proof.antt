@@ -8,7 +8,7 @@ use lib.ListN.{length-map}
 use Rattle.table.specs.Refusal.{given, _or-next_}
 use Rattle.session.specs.Session.{sound}
 use Rattle.session.specs.Calls.{append, noSuchStream, callRefusal, effect, apply, replyTo, outcome, answerTo}
-use Rattle.session.specs.declared.call.Call.{Call}
+use Rattle.calls.specs.declared.Call.{Call}
 use Rattle.session.proofs.Outcomes.{appended}
 use Rattle.session.proofs.Answers.{unsound-answer, refused, accepted}
 use Rattle.session.proofs.Grounds.{named}

@@ -11,7 +11,7 @@ use Rattle.time.specs.Time.{session-end, moment}
 use Rattle.session.specs.Session.{horizon, latest, sound}
 use Rattle.session.specs.Calls.{set-clock, busy, late, callRefusal, effect, apply, replyTo, outcome, answerTo}
 use Rattle.time.specs.declared.Clock.{Clock}
-use Rattle.session.specs.declared.call.Call.{Call}
+use Rattle.calls.specs.declared.Call.{Call}
 use Rattle.session.proofs.Outcomes.{clocked-late, clocked}
 use Rattle.session.proofs.Answers.{unsound-answer, refused, accepted}
 use Rattle.session.proofs.Summing.{sumsTo, sums-none, sums-more, can-sum, can-end, until-is}

@@ -13,7 +13,7 @@ use Rattle.time.specs.Time.{session-end, moment, duration-max}
 use Rattle.stream.specs.Stream.{charged}
 use Rattle.session.specs.Session.{streamAt, horizon, sound}
 use Rattle.session.specs.Calls.{finish, busy, callRefusal, effect, apply, replyTo, outcome, answerTo}
-use Rattle.session.specs.declared.call.Call.{Call}
+use Rattle.calls.specs.declared.Call.{Call}
 use Rattle.time.specs.declared.Charge.{Charge}
 use Rattle.session.proofs.Outcomes.{finished-late, finished}
 use Rattle.session.proofs.Answers.{unsound-answer, refused, accepted}

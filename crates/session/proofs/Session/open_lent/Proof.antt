@@ -11,8 +11,8 @@ use Rattle.table.proofs.take_in.Symbol.{name as #t}
 use Rattle.table.proofs.take_in.Met as t-thm
 use Rattle.table.specs.Reservations.{tableOf, lentTable}
 use Rattle.session.specs.Opening.{openingOf}
-use Rattle.session.proofs.call.Opened as O
-use Rattle.session.proofs.call.Opened.Laws as O′
+use Rattle.session.proofs.Opened as O
+use Rattle.session.proofs.Opened.Laws as O′
 use Rattle.session.proofs.Session.open_taken as g
 use Rattle.session.proofs.Session.open_taken.Symbol as g-def
 use Rattle.session.proofs.Session.open_taken.Symbol.{name as #g}

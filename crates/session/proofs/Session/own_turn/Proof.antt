@@ -9,7 +9,7 @@ use Rattle.table.specs.Refusal.{given, _or-next_}
 use Rattle.time.specs.Time.{moment}
 use Rattle.session.specs.Session.{streamAt, horizon, sound}
 use Rattle.session.specs.Calls.{send, noSuchStream, busy, callRefusal, effect, apply, replyTo, outcome, answerTo}
-use Rattle.session.specs.declared.call.Call.{Call}
+use Rattle.calls.specs.declared.Call.{Call}
 use Rattle.session.proofs.Outcomes.{sent}
 use Rattle.session.proofs.Answers.{unsound-answer, refused, accepted, sendable}
 use Rattle.session.proofs.Grounds.{Grounds, named}

@@ -21,7 +21,7 @@ use Rattle.time.specs.declared.Clock.{Clock}
 use Rattle.stream.specs.declared.expiry.Lapse.{Lapse}
 use Rattle.stream.specs.declared.Stream.{Stream}
 use Rattle.session.specs.declared.Session.{Session}
-use Rattle.session.specs.declared.call.Call.{Call}
+use Rattle.calls.specs.declared.Call.{Call}
 use Rattle.session.proofs.Sound.{Sound, sound-of, admits, count-high, bounded, deadline-high}
 use Rattle.stream.proofs.Fits.{charge-high, expired-high}
 use Rattle.session.proofs.Grounds.{chosen-grounds, expiring-grounds}

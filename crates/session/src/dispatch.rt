@@ -2,8 +2,8 @@
 ghost use mathlib.Core.Path.{_≡_};
 ghost use Rattle.session.specs.Calls.{answerTo};
 use crate::Answer;
-use crate::Call;
 use crate::Session;
+use calls::Call;
 
 impl Session {
     // Any of these calls; each returns, so that its answer is not copied.

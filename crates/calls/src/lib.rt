@@ -1,8 +1,6 @@
 // The calls of a session and what they answer.
 ghost use mathlib.Core.Path.{_≡_};
-ghost use Rattle.session.specs.Calls.{numberOf, valueOf, calledStream, streamOf};
-use crate::Session;
-use table::Admission;
+ghost use Rattle.calls.specs.Replies.{numberOf, valueOf, calledStream, streamOf};
 use time::Charge;
 use time::Clock;
 
@@ -112,14 +110,4 @@ impl Reply {
             Reply::Late { time: _ } => 0,
         }
     }
-}
-
-pub struct Answer {
-    pub session: Session,
-    pub reply: Reply,
-}
-
-pub struct Opened {
-    pub session: Session,
-    pub admission: Admission,
 }

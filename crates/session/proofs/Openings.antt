@@ -16,13 +16,14 @@ use Rattle.table.proofs.Lists.{length-listTo, getD-listTo}
 use Rattle.table.proofs.Judged.{Admits, admits-of, admits-alike}
 use Rattle.stream.specs.Stream.{queue-max, soundQueue, unusedStream, zeroJob, freshStream}
 use Rattle.session.specs.Session.{noStream, streamAt, horizon, tableOf, soundDisk, sound}
-use Rattle.session.specs.Calls.{Verdict, refuse, append, send, move, wait, expire, finish, set-clock, verdict, replyTo, numberOf, answerTo, after}
+use Rattle.calls.specs.Replies.{numberOf}
+use Rattle.session.specs.Calls.{Verdict, refuse, append, send, move, wait, expire, finish, set-clock, verdict, replyTo, answerTo, after}
 use Rattle.session.specs.Opening.{openedStream, freshSession, openingOf}
 use Rattle.session.specs.Laws.{OpeningIsSound, NeverUnsound}
 use Rattle.stream.specs.declared.Stream.{Stream}
 use Rattle.session.specs.declared.Session.{Session}
-use Rattle.session.specs.declared.call.Call.{Call}
-use Rattle.session.specs.declared.call.Reply.{Reply}
+use Rattle.calls.specs.declared.Call.{Call}
+use Rattle.calls.specs.declared.Reply.{Reply}
 use Rattle.session.proofs.Rules.{rules}
 use Rattle.stream.proofs.Orderly.{InOrder}
 use Rattle.session.proofs.Sound.{Sound, sound-of, of-sound}

@@ -109,14 +109,14 @@ fn fresh(t: Table) -> Session
     }
 }
 
-// The eight streams of a session that is opened with a table.
+// The eight streams of a session that is opened with a table. Those past the count stay as they start, so that a small table costs little.
 fn opened_streams(t: Table) -> [Stream; 8]
     ensures { λ r. ⌜ r ≡ listTo (openedStream t) 8 ⌝ }
 {
     let unused = Stream::fresh(0, 0, 0);
     let mut streams = [unused; 8];
     let mut i: usize = 0;
-    while i < 8 {
+    while (i < t.count) & (i < 8) {
         let x = opened_stream(t, i);
         streams[i] = x;
         i += 1;
@@ -124,18 +124,14 @@ fn opened_streams(t: Table) -> [Stream; 8]
     streams
 }
 
-// One of them: past the table's count a stream of zeros.
+// One of them, below the count.
 fn opened_stream(t: Table, i: usize) -> Stream
-    requires { ⌜ i < 8 ⌝ }
+    requires { ⌜ (i < t .count) × (i < 8) ⌝ }
     ensures { λ r. ⌜ r ≡ openedStream t i ⌝ }
 {
-    if i < t.count {
-        let reserved = t.reserved;
-        let period = t.period;
-        let e = reserved[i];
-        let budget = table::granted(t.worst, t.padding, e);
-        Stream::fresh(e, period[i], budget)
-    } else {
-        Stream::fresh(0, 0, 0)
-    }
+    let reserved = t.reserved;
+    let period = t.period;
+    let e = reserved[i];
+    let budget = table::granted(t.worst, t.padding, e);
+    Stream::fresh(e, period[i], budget)
 }

@@ -3,7 +3,6 @@ use mathlib.Core.Path.{_≡_, refl, sym, ap, _∙_}
 use Prim.Native.Nat.{ℕ, suc}
 use lib.Dec.{eqb}
 use borrow.Author.Tests.{eqb-true}
-use Rattle.table.specs.Fold.{if}
 use Rattle.table.proofs.Tests.{by-if}
 use Rattle.session.specs.Calls.{refusal, ruled, verdict, apply, answerTo}
 use Rattle.session.specs.declared.Session.{Session}

@@ -12,7 +12,6 @@ use Rattle.session.specs.View.{viewOf, stateOf, closingOf}
 use Rattle.session.specs.declared.Session.{Session}
 use Rattle.calls.specs.declared.Call.{Call}
 use Rattle.calls.specs.declared.Reply.{Reply}
-use Rattle.session.specs.declared.Answer.{Answer}
 use Rattle.session.specs.declared.view.View.{View}
 use Rattle.session.specs.declared.view.State.{State}
 use Rattle.session.specs.declared.view.Closing.{Closing}

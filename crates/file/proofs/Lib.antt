@@ -1,3 +1,4 @@
+pub mod Bounds
 pub mod Columns
 pub mod Lengths
 pub mod Stores

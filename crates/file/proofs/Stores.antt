@@ -87,6 +87,10 @@ pub stored-there : (trace : List ℕ) (i : ℕ) {e known : Event} → e ≡ know
 unfolding withEvent if
 stored-there trace i is h = rw (is, lt-ltb i (eventsIn trace) h)
 
+pub now-stored : (trace : List ℕ) (i : ℕ) {e known : Event} {after : List ℕ} → after ≡ sets trace (event-size * i) (bytesOf known) → e ≡ known → i < eventsIn trace
+    → after ≡ withEvent trace i e
+now-stored trace i stored is h = stored ∙ stored-there trace i is h
+
 pub file-parts : (t : Table) (trace : List ℕ) → fileOf t trace ≡ contents (length (tableBody t)) (length trace) ++ tableBody t ++ trace
 unfolding fileOf
 file-parts t trace = refl

@@ -92,8 +92,9 @@ fn put_streams(out: &mut [u8], at: usize, table: Table)
     let period = table.period;
     let mut i = 0;
     while i < table.count {
-        put_word(out, at + 8 * i, reserved[i]);
-        put_word(out, at + 8 * i + 4, period[i]);
+        let cell = at + 8 * i;
+        put_word(out, cell, reserved[i]);
+        put_word(out, cell + 4, period[i]);
         i += 1;
     }
 }

@@ -103,19 +103,10 @@ fn put_cells(trace: &mut [u8], at: usize, kind: u64, stream: u64, value: u64)
 fn is_formed(event: Event) -> bool
     ensures { λ r. ⌜ r ≡ formed event ⌝ }
 {
-    match event {
-        Event::Arrival {
-            stream: _,
-            place: _,
-        } => true,
-        Event::Turn => true,
-        Event::OwnTurn {
-            stream: _,
-            index: _,
-        } => true,
-        Event::Done { duration: _ } => true,
-        Event::Clock { time: _ } => true,
-        Event::Malformed => false,
+    if let Event::Malformed = event {
+        false
+    } else {
+        true
     }
 }
 

@@ -58,8 +58,7 @@ impl Draft {
         match place {
             Place::Between => self.after_gap(byte),
             Place::Within => self.after_field(byte),
-            Place::Comment => self,
-            Place::Amiss => self,
+            Place::Comment | Place::Amiss => self,
         }
     }
 

@@ -102,17 +102,8 @@ fn end_line(notes: Notes, trace: &mut [u8]) -> Notes
 fn put_line(trace: &mut [u8], i: usize, line: Line)
     ensures { λ _. ⌜ now (trace .exit) ≡ traceAfter (now (trace .entry)) i line ⌝ }
 {
-    match line {
-        Line::Blank => {}
-        Line::Worst(_) => {}
-        Line::Span(_) => {}
-        Line::Padding(_) => {}
-        Line::Stream {
-            reserved: _,
-            period: _,
-        } => {}
-        Line::Call(event) => file::put_event(trace, i, event),
-        Line::Wrong => {}
+    if let Line::Call(event) = line {
+        file::put_event(trace, i, event);
     }
 }
 

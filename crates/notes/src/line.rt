@@ -51,9 +51,7 @@ pub(crate) fn line_of(draft: Draft) -> Line
 {
     let place = draft.place;
     match place {
-        Place::Between => fields_line(draft),
-        Place::Within => fields_line(draft),
-        Place::Comment => fields_line(draft),
+        Place::Between | Place::Within | Place::Comment => fields_line(draft),
         Place::Amiss => Line::Wrong,
     }
 }
@@ -204,13 +202,12 @@ pub fn shown(line: Line) -> Text
     ensures { λ r. ⌜ Within r ⌝ }
 {
     match line {
-        Line::Blank => bare(b""),
+        Line::Blank | Line::Wrong => bare(b""),
         Line::Worst(n) => with_one(b"worst", n as u64),
         Line::Span(n) => with_one(b"span", n as u64),
         Line::Padding(n) => with_one(b"padding", n as u64),
         Line::Stream { reserved, period } => with_two(b"stream", reserved as u64, period as u64),
         Line::Call(event) => event_shown(event),
-        Line::Wrong => bare(b""),
     }
 }
 

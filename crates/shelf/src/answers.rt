@@ -2,8 +2,8 @@
 ghost use mathlib.Core.Path.{_≡_};
 ghost use Prim.Native.Nat.{_<_};
 ghost use Rattle.table.specs.Reservations.{tableOf};
-ghost use Rattle.shelf.specs.Image.{refusalIn, openedAs, toldAs, answeredAs, shownOf, viewedAs, stateAs, closingAs};
-ghost use Rattle.shelf.specs.InPlace.{countedOf, calledOf, slotOf, changeAs};
+ghost use Rattle.shelf.specs.Image.{imageOf, refusalIn, openedAs, toldAs, answeredAs, shownOf, viewedAs, stateAs, closingAs};
+ghost use Rattle.shelf.specs.InPlace.{countedOf, calledOf, slotOf, changeFrom, changeAs};
 ghost use Rattle.shelf.specs.Filed.{readAs, writtenAs};
 use crate::Answered;
 use crate::Change;
@@ -16,6 +16,7 @@ use calls::Call;
 use calls::Reply;
 use file::Reading;
 use file::Writing;
+use session::Answer;
 use session::Closing;
 use session::Session;
 use session::State;
@@ -101,17 +102,11 @@ fn called(image: Image) -> Session
     }
 }
 
-// Each call has a function of its own, so that the compiler writes the call out where it is made; one function for all costs one or two more copies of the session.
-pub(crate) fn arrival(image: Image, number: u64, place: u64) -> Change
-    ensures { λ r. ⌜ r ≡ changeAs image (Call.Arrival number place) ⌝ }
+// What an answer changes, where the stream at an index is the one that it may change.
+fn changed(answer: Answer, call: Call, at: usize) -> Change
+    requires { ⌜ at < 8 ⌝ }
+    ensures { λ r. ⌜ r ≡ changeFrom at (record { session = imageOf (answer .session); reply = toldAs call (answer .reply) }) ⌝ }
 {
-    let call = Call::Arrival {
-        stream: number,
-        place: place,
-    };
-    let at = slot_of(number);
-    let session = called(image);
-    let answer = session.arrival(number, place);
     let after = answer.session;
     let answered = answer.reply;
     let reply = told(answered, call);
@@ -126,6 +121,20 @@ pub(crate) fn arrival(image: Image, number: u64, place: u64) -> Change
         place: after.place,
         reply: reply,
     }
+}
+
+// Each call has a function of its own, so that the compiler writes the call out where it is made; one function for all costs one or two more copies of the session.
+pub(crate) fn arrival(image: Image, number: u64, place: u64) -> Change
+    ensures { λ r. ⌜ r ≡ changeAs image (Call.Arrival number place) ⌝ }
+{
+    let call = Call::Arrival {
+        stream: number,
+        place: place,
+    };
+    let at = slot_of(number);
+    let session = called(image);
+    let answer = session.arrival(number, place);
+    changed(answer, call, at)
 }
 
 pub(crate) fn turn(image: Image) -> Answered
@@ -160,20 +169,7 @@ pub(crate) fn own_turn(image: Image, number: u64, index: u64) -> Change
     let at = slot_of(number);
     let session = called(image);
     let answer = session.own_turn(number, index);
-    let after = answer.session;
-    let answered = answer.reply;
-    let reply = told(answered, call);
-    let stream = after.streams[at];
-    let clock = after.clock;
-    Change {
-        at: at,
-        stream: stream,
-        clock: clock,
-        head: after.head,
-        served: after.served,
-        place: after.place,
-        reply: reply,
-    }
+    changed(answer, call, at)
 }
 
 pub(crate) fn done(image: Image, duration: u64) -> Change
@@ -183,20 +179,7 @@ pub(crate) fn done(image: Image, duration: u64) -> Change
     let at = slot_of(image.served as u64);
     let session = called(image);
     let answer = session.done(duration);
-    let after = answer.session;
-    let answered = answer.reply;
-    let reply = told(answered, call);
-    let stream = after.streams[at];
-    let clock = after.clock;
-    Change {
-        at: at,
-        stream: stream,
-        clock: clock,
-        head: after.head,
-        served: after.served,
-        place: after.place,
-        reply: reply,
-    }
+    changed(answer, call, at)
 }
 
 pub(crate) fn clock(image: Image, time: u64) -> Change
@@ -206,20 +189,7 @@ pub(crate) fn clock(image: Image, time: u64) -> Change
     let at: usize = 0;
     let session = called(image);
     let answer = session.clock(time);
-    let after = answer.session;
-    let answered = answer.reply;
-    let reply = told(answered, call);
-    let stream = after.streams[at];
-    let clock = after.clock;
-    Change {
-        at: at,
-        stream: stream,
-        clock: clock,
-        head: after.head,
-        served: after.served,
-        place: after.place,
-        reply: reply,
-    }
+    changed(answer, call, at)
 }
 
 // The session to be shown: one that stands for none is shown as the all-zero session, which is not sound.

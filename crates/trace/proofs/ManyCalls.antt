@@ -1,16 +1,18 @@
 -- The promise is not empty on a long run either: eight streams and 240 calls, by computing. It stands here and not beside the promise, since it is the dearest computation of all.
-use mathlib.Core.Path.{_≡_, refl}
+use mathlib.Core.Bool.{Bool, true, not, _&&_}
+use mathlib.Core.Path.{_≡_, refl, ap, _∙_}
 use mathlib.Core.List.{List, [], _∷_, map}
 use Prim.Native.Nat.{ℕ, zero, suc, _+_, _%_}
 use lib.ListN.{replicate}
 use lib.Dec.{eqb}
+use Rattle.table.specs.Admission.{admissionOf}
 use Rattle.table.specs.Fold.{if}
 use Rattle.table.specs.declared.Table.{Table}
 use Rattle.calls.specs.Replies.{numberOf, valueOf}
 use Rattle.session.specs.Calls.{answerTo, after}
 use Rattle.session.specs.Opening.{openingOf}
 use Rattle.session.specs.Cases.{padded, table}
-use Rattle.session.specs.Promise.{historyFrom, historyOf, withinBounds, Promised}
+use Rattle.session.specs.Promise.{Moment, historyFrom, historyOf, withinBounds, Promised}
 use Rattle.session.specs.declared.Session.{Session}
 use Rattle.calls.specs.declared.Call.{Call}
 use Rattle.calls.specs.declared.Call.the-variants.{Arrival, Turn, Done, Clock}
@@ -40,12 +42,53 @@ callsFrom (suc n) s r =
 abbrev manyCalls : List Call
 manyCalls = callsFrom 240 (openingOf eight .session) (Reply.Refused 0)
 
+-- the same run, made once for all that is asked of it: whether every answer was within bounds, and the deadlines afterwards
+abbrev deadlines : Session → List ℕ
+deadlines s = map (λ x. x .deadline .0) (s .streams)
+
+unfoldable ranFrom : ℕ → Bool → Session → Reply → Bool × List ℕ
+ranFrom zero within s r = (within, deadlines s)
+ranFrom (suc n) within s r =
+    let a = answerTo s (nextCall n r) in
+    ranFrom n (not (eqb (numberOf (a .reply)) 26) && not (eqb (numberOf (a .reply)) 28) && within) (a .session) (a .reply)
+
+ran-within : (n : ℕ) (past : List Moment) (s : Session) (r : Reply) → withinBounds (historyFrom past s (callsFrom n s r)) ≡ ranFrom n (withinBounds past) s r .0
+unfolding historyFrom withinBounds callsFrom ranFrom
+ran-within zero past s r = refl
+ran-within (suc n) past s r =
+    let k = nextCall n r in
+    let a = answerTo s k in
+    ran-within n (record { before = s; call = k; answer = a } ∷ past) (a .session) (a .reply)
+
+ran-ends : (n : ℕ) (within : Bool) (s : Session) (r : Reply) → deadlines (after s (callsFrom n s r)) ≡ ranFrom n within s r .1
+unfolding after callsFrom ranFrom
+ran-ends zero within s r = refl
+ran-ends (suc n) within s r =
+    let a = answerTo s (nextCall n r) in
+    ran-ends n (not (eqb (numberOf (a .reply)) 26) && not (eqb (numberOf (a .reply)) 28) && within) (a .session) (a .reply)
+
+abbrev closed : List ℕ
+closed = 90_000 ∷ 90_000 ∷ 100_000 ∷ 100_000 ∷ 90_000 ∷ 90_000 ∷ 120_000 ∷ 120_000 ∷ []
+
+ran : ranFrom 240 true (openingOf eight .session) (Reply.Refused 0) ≡ (true, closed)
+unfolding rules padded nextCall ranFrom
+ran = refl
+
+admitted : admissionOf eight ≡ 0
+unfolding rules padded
+admitted = refl
+
+none-past : withinBounds [] ≡ true
+unfolding withinBounds
+none-past = refl
+
 many-promised : Promised eight (after (openingOf eight .session) manyCalls) (historyOf eight manyCalls)
-unfolding rules padded historyFrom withinBounds nextCall callsFrom
-many-promised = promise eight manyCalls refl refl
+many-promised =
+    promise eight manyCalls admitted
+    (ran-within 240 [] (openingOf eight .session) (Reply.Refused 0)
+    ∙ ap (λ (within : Bool). ranFrom 240 within (openingOf eight .session) (Reply.Refused 0) .0) none-past
+    ∙ ap (λ (b : Bool × List ℕ). b .0) ran)
 
 -- the deadlines afterwards show how many jobs were closed: 8, 8, 4, 4, 2, 2, 1 and 1
-many-closed : map (λ x. x .deadline .0) (after (openingOf eight .session) manyCalls .streams)
-    ≡ 90_000 ∷ 90_000 ∷ 100_000 ∷ 100_000 ∷ 90_000 ∷ 90_000 ∷ 120_000 ∷ 120_000 ∷ []
-unfolding rules padded nextCall callsFrom
-many-closed = refl
+many-closed : deadlines (after (openingOf eight .session) manyCalls) ≡ closed
+many-closed = ran-ends 240 true (openingOf eight .session) (Reply.Refused 0) ∙ ap (λ (b : Bool × List ℕ). b .1) ran

@@ -1,4 +1,6 @@
 -- `read` answers as `readOf`: each way out is a law of `Accepted`, test by test.
+use borrow.Author.Needs.{zero≤}
+use lib.Dec.{lit<}
 use mathlib.Core.Path.{_≡_, sym, ap, _∙_}
 use mathlib.Core.List.{List}
 use Prim.Native.Nat.{ℕ, _+_, _≤_}
@@ -11,7 +13,7 @@ use Rattle.file.proofs.read.Statement.{statement}
 use Rattle.file.proofs.read.Tie as tie
 
 add-number-at : tie.Need-add-number-at
-add-number-at c = omega arith
+add-number-at c = record { fits = lit< tt }
 
 number-at-requires : tie.Need-number-at-requires
 number-at-requires c κs = tt
@@ -22,7 +24,7 @@ returns c =
     sym (read-refused file (count-fails file (rw (c .before .number-at .ensures) at (c .if1 .taken))))
 
 table-length-requires : tie.Need-table-length-requires
-table-length-requires c κs = omega arith
+table-length-requires c κs = c .if1 .left
 
 add-start : tie.Need-add-start
 add-start c = omega (arith, c .table-length .ensures)
@@ -38,7 +40,7 @@ returns-2 c =
     sym (read-refused file (length-fails file count (omega (arith, n, c .before .table-length .ensures))))
 
 sub-end : tie.Need-sub-end
-sub-end c = omega arith
+sub-end c = zero≤
 
 is-contents-requires : tie.Need-is-contents-requires
 is-contents-requires c κs = (omega arith, omega arith)

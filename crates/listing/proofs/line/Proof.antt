@@ -1,5 +1,6 @@
 -- `line` stores the first number, and then the others behind it.
 use borrow.Author.Needs.{needs}
+use mathlib.Core.Path.{refl}
 use native.Mathlib.Omega.{arith}
 use mathlib.Core.List.{[], _∷_, map}
 use lib.ListN.{replicate}
@@ -12,7 +13,7 @@ use Rattle.listing.proofs.line.Statement.{statement}
 use Rattle.listing.proofs.line.Tie as tie
 
 slice-aggregate-put-decimal : tie.Need-slice-aggregate-put-decimal
-slice-aggregate-put-decimal c = search needs
+slice-aggregate-put-decimal c = refl
 
 put-decimal-requires : tie.Need-put-decimal-requires
 put-decimal-requires c κs = omega (arith, decimal-is-short (c .before .args .number) (c .before .fits .number .fits))
@@ -21,7 +22,7 @@ slice-aggregate-put-onward : tie.Need-slice-aggregate-put-onward
 slice-aggregate-put-onward c = search needs
 
 slice-aggregate-put-onward-2 : tie.Need-slice-aggregate-put-onward-2
-slice-aggregate-put-onward-2 c = search needs
+slice-aggregate-put-onward-2 c = refl
 
 put-onward-requires : tie.Need-put-onward-requires
 unfolding Each eventFields

@@ -1,5 +1,4 @@
 -- `put_decimal` stores the digits from the last one on: `digit-more` is the turn, `last-all` the start.
-use borrow.Author.Needs.{needs}
 use Prim.Native.Nat.{_+_, _-_, _≤_}
 use native.Mathlib.Omega.{arith}
 use mathlib.Core.Path.{_≡_, refl, ap, _∙_}
@@ -18,7 +17,7 @@ abbrev μ-loop : tie.MeasureT-loop
 μ-loop out₀ at n end rest₀ i₀ out rest i = i
 
 digit-count-requires : tie.Need-digit-count-requires Inv-loop μ-loop
-digit-count-requires c κs = search needs
+digit-count-requires c κs = tt
 
 add-end : tie.Need-add-end Inv-loop μ-loop
 add-end c = omega (arith, c .digit-count .ensures)

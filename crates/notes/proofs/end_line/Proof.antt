@@ -8,10 +8,10 @@ use Rattle.notes.proofs.end_line.Statement.{statement}
 use Rattle.notes.proofs.end_line.Tie as tie
 
 line-of-requires : tie.Need-line-of-requires
-line-of-requires c κs = search needs
+line-of-requires c κs = tt
 
 after-requires : tie.Need-after-requires
-after-requires c κs = search needs
+after-requires c κs = tt
 
 returns : tie.Need-returns
 unfolding lineEnded if
@@ -21,7 +21,7 @@ returns c =
     (e, rw (← e, c .if1 .taken))
 
 put-line-requires : tie.Need-put-line-requires
-put-line-requires c κs = search needs
+put-line-requires c κs = tt
 
 same-length : tie.Need-same-length
 same-length c = search needs

@@ -5,10 +5,10 @@ use Rattle.notes.proofs.finish.Statement.{statement}
 use Rattle.notes.proofs.finish.Tie as tie
 
 with-byte-requires : tie.Need-with-byte-requires
-with-byte-requires c κs = search needs
+with-byte-requires c κs = tt
 
 filed-requires : tie.Need-filed-requires
-filed-requires c κs = search needs
+filed-requires c κs = tt
 
 same-length : tie.Need-same-length
 same-length c = search needs

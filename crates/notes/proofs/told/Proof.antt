@@ -1,5 +1,4 @@
 -- `told` hands on what the writer says.
-use borrow.Author.Needs.{needs}
 use mathlib.Core.Path.{sym, ap}
 use Rattle.file.specs.declared.Writing.{Writing}
 use Rattle.notes.specs.Notes.{told}
@@ -7,10 +6,10 @@ use Rattle.notes.proofs.told.Statement.{statement}
 use Rattle.notes.proofs.told.Tie as tie
 
 enum-known-writing : tie.Need-enum-known-writing
-enum-known-writing c = search needs
+enum-known-writing c = c .match .keys1
 
 enum-known-writing-2 : tie.Need-enum-known-writing-2
-enum-known-writing-2 c = search needs
+enum-known-writing-2 c = c .match .keys2
 
 returns : tie.Need-returns
 returns c = ap (λ (writing : Writing). told writing) (sym (c .before .writing .given .1))

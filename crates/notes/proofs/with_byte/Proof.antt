@@ -9,7 +9,7 @@ returns : tie.Need-returns
 returns c = rw (byte-stopped (c .before .before .args .notes) (c .before .before .args .trace .now) (c .before .before .args .byte) (c .if1 .taken)) (refl, refl)
 
 end-line-requires : tie.Need-end-line-requires
-end-line-requires c κs = search needs
+end-line-requires c κs = tt
 
 same-length : tie.Need-same-length
 same-length c = search needs
@@ -18,7 +18,7 @@ returns-2 : tie.Need-returns-2
 returns-2 c = rw (byte-ends (c .before .before .before .before .before .before .before .args .notes) (c .before .before .before .before .before .before .before .args .trace .now) (c .before .before .before .before .before .before .before .args .byte) (c .before .before .before .before .before .if1 .left) (c .before .before .before .before .if2 .taken)) (c .before .before .end-line .ensures)
 
 lengthened-requires : tie.Need-lengthened-requires
-lengthened-requires c κs = search needs
+lengthened-requires c κs = tt
 
 returns-3 : tie.Need-returns-3
 returns-3 c = rw (byte-lengthens (c .before .before .before .before .args .notes) (c .before .before .before .before .args .trace .now) (c .before .before .before .before .args .byte) (c .before .before .if1 .left) (c .before .if2 .left)) (c .lengthened .ensures, refl)

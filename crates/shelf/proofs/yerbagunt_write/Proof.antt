@@ -6,10 +6,10 @@ use Rattle.shelf.proofs.yerbagunt_write.Statement.{statement}
 use Rattle.shelf.proofs.yerbagunt_write.Tie as tie
 
 write-requires : tie.Need-write-requires
-write-requires c κs = search needs
+write-requires c κs = tt
 
 written-requires : tie.Need-written-requires
-written-requires c κs = search needs
+written-requires c κs = tt
 
 same-length : tie.Need-same-length
 same-length c = search needs

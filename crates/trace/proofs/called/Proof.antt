@@ -1,27 +1,26 @@
 -- `called` makes the call and renders its answer: each number of the line is what the definitions say of the reply.
 use Rattle.session.specs.Calls.{lineOf}
 use Rattle.trace.specs.Trace.{called, handed}
-use borrow.Author.Needs.{needs}
 use Rattle.trace.proofs.called.Statement.{statement}
 use Rattle.trace.proofs.called.Tie as tie
 
 call-requires : tie.Need-call-requires
-call-requires c κs = search needs
+call-requires c κs = tt
 
 number-requires : tie.Need-number-requires
-number-requires c κs = search needs
+number-requires c κs = tt
 
 stream-requires : tie.Need-stream-requires
-stream-requires c κs = search needs
+stream-requires c κs = tt
 
 value-requires : tie.Need-value-requires
-value-requires c κs = search needs
+value-requires c κs = tt
 
 micros-requires : tie.Need-micros-requires
-micros-requires c κs = search needs
+micros-requires c κs = tt
 
 line-requires : tie.Need-line-requires
-line-requires c κs = search needs
+line-requires c κs = tt
 
 returns : tie.Need-returns
 unfolding called handed lineOf

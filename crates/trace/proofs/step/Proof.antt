@@ -4,7 +4,6 @@ use Rattle.trace.specs.Trace.{applied, handed}
 use Rattle.file.specs.declared.event.Event.{Event}
 use Rattle.session.specs.declared.Session.{Session}
 use Prim.Native.Nat.{ℕ}
-use borrow.Author.Needs.{needs}
 use Rattle.trace.proofs.step.Statement.{statement}
 use Rattle.trace.proofs.step.Tie as tie
 
@@ -13,43 +12,43 @@ asked-for : (s : Session) (n : ℕ) {e known : Event} → e ≡ known → handed
 asked-for s n is = ap (λ (e : Event). handed (applied s n e)) (sym is)
 
 enum-known-event : tie.Need-enum-known-event
-enum-known-event c = search needs
+enum-known-event c = c .match .keys1
 
 called-requires : tie.Need-called-requires
-called-requires c κs = search needs
+called-requires c κs = tt
 
 enum-told : tie.Need-enum-told
-enum-told c = search needs
+enum-told c = c .match .keys2
 
 called-requires-2 : tie.Need-called-requires-2
-called-requires-2 c κs = search needs
+called-requires-2 c κs = tt
 
 enum-known-event-2 : tie.Need-enum-known-event-2
-enum-known-event-2 c = search needs
+enum-known-event-2 c = c .match .keys3
 
 called-requires-3 : tie.Need-called-requires-3
-called-requires-3 c κs = search needs
+called-requires-3 c κs = tt
 
 enum-known-event-3 : tie.Need-enum-known-event-3
-enum-known-event-3 c = search needs
+enum-known-event-3 c = c .match .keys4
 
 called-requires-4 : tie.Need-called-requires-4
-called-requires-4 c κs = search needs
+called-requires-4 c κs = tt
 
 enum-known-event-4 : tie.Need-enum-known-event-4
-enum-known-event-4 c = search needs
+enum-known-event-4 c = c .match .keys5
 
 called-requires-5 : tie.Need-called-requires-5
-called-requires-5 c κs = search needs
+called-requires-5 c κs = tt
 
 enum-told-2 : tie.Need-enum-told-2
-enum-told-2 c = search needs
+enum-told-2 c = c .match .keys6
 
 micros-requires : tie.Need-micros-requires
-micros-requires c κs = search needs
+micros-requires c κs = tt
 
 line-requires : tie.Need-line-requires
-line-requires c κs = search needs
+line-requires c κs = tt
 
 returns : tie.Need-returns
 unfolding applied handed

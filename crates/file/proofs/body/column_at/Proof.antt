@@ -1,12 +1,13 @@
 -- `column_at` fills the eight places: those that the loop has passed are as the definition says.
+use borrow.Author.Needs.{zero≤}
 use mathlib.Core.Path.{_≡_, refl, subst}
 use Prim.Native.Nat.{ℕ, _+_, _-_, _*_, _≤_}
-use native.Mathlib.Omega.{arith}
 use lib.Dec.{ltb}
 use Rattle.table.specs.Fold.{if, listTo}
 use Rattle.table.proofs.Lists.{Filled, filled-more, filled-all}
 use Rattle.cells.specs.Cells.{numberAt}
 use Rattle.file.specs.Reading.{column}
+use Rattle.file.proofs.Bounds.{words-fit, next-fits, next-in, fewer, all-passed}
 use Rattle.file.proofs.body.column_at.Statement.{statement}
 use Rattle.file.proofs.body.column_at.Tie as tie
 
@@ -19,29 +20,29 @@ abbrev μ-loop : tie.MeasureT-loop
 
 loop-holds : tie.Need-loop-holds Inv-loop μ-loop
 unfolding listTo
-loop-holds c = (omega arith, record { cells = refl; front = refl })
+loop-holds c = (zero≤, record { cells = refl; front = refl })
 
 used-at-requires : tie.Need-used-at-requires Inv-loop μ-loop
-used-at-requires c κs = (omega arith, omega arith)
+used-at-requires c κs = (c .before .before .before .pre, c .loop-test .taken)
 
 mul-numbers : tie.Need-mul-numbers Inv-loop μ-loop
-mul-numbers c = omega arith
+mul-numbers c = words-fit _ (c .before .loop-test .taken)
 
 array-write-numbers : tie.Need-array-write-numbers Inv-loop μ-loop
-array-write-numbers c = omega arith
+array-write-numbers c = c .before .loop-test .taken
 
 add-i : tie.Need-add-i Inv-loop μ-loop
-add-i c = omega arith
+add-i c = next-fits _ (c .before .loop-test .taken)
 
 loop-less : tie.Need-loop-less Inv-loop μ-loop
-loop-less c = omega arith
+loop-less c = fewer 8 _ (c .before .loop-test .taken)
 
 loop-again : tie.Need-loop-again Inv-loop μ-loop
 loop-again c =
     let d = c .before .before .loop in
     let a = c .before .before .before .before .args in
     let f : ℕ → ℕ = λ j. if (ltb j (a .count)) (numberAt 4 (a .file .now) (a .from + 8 * j)) 0 in
-    (omega arith, rw (c .used-at .ensures) (filled-more f (d .numbers) (d .i) 8 (omega arith) (d .inv .1)))
+    (next-in _ 8 (c .before .loop-test .taken), rw (c .used-at .ensures) (filled-more f (d .numbers) (d .i) 8 (c .before .loop-test .taken) (d .inv .1)))
 
 returns : tie.Need-returns Inv-loop μ-loop
 unfolding column
@@ -49,7 +50,7 @@ returns c =
     let d = c .before .loop in
     let a = c .before .before .before .args in
     let f : ℕ → ℕ = λ j. if (ltb j (a .count)) (numberAt 4 (a .file .now) (a .from + 8 * j)) 0 in
-    let e : d .i ≡ 8 = omega arith in
+    let e : d .i ≡ 8 = all-passed _ 8 (d .inv .0) (c .loop-test .left) in
     filled-all f (d .numbers) 8 (subst (λ (n : ℕ). Filled f (d .numbers) n 8) e (d .inv .1))
 
 pub column-at-spec : {M : Type 1} → statement M

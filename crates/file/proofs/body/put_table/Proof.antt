@@ -1,7 +1,7 @@
 -- `put_table` stores four cells and the streams, each where the one before it ends.
-use native.Mathlib.Omega.{arith}
 use borrow.Author.Needs.{needs}
 use Rattle.file.proofs.Stores.{table-stored}
+use Rattle.file.proofs.Bounds.{place-fits, place-low}
 use Rattle.file.proofs.body.put_table.Statement.{statement}
 use Rattle.file.proofs.body.put_table.Tie as tie
 
@@ -9,28 +9,28 @@ put-word-requires : tie.Need-put-word-requires
 put-word-requires c κs = tt
 
 add-put-word : tie.Need-add-put-word
-add-put-word c = omega arith
+add-put-word c = place-fits _ 4 (c .before .before .before .before .before .before .pre .0) tt
 
 put-word-requires-2 : tie.Need-put-word-requires-2
 put-word-requires-2 c κs = tt
 
 add-put-word-2 : tie.Need-add-put-word-2
-add-put-word-2 c = omega arith
+add-put-word-2 c = place-fits _ 8 (c .before .before .before .before .before .before .before .before .before .before .pre .0) tt
 
 put-word-requires-3 : tie.Need-put-word-requires-3
 put-word-requires-3 c κs = tt
 
 add-put-number : tie.Need-add-put-number
-add-put-number c = omega arith
+add-put-number c = place-fits _ 12 (c .before .before .before .before .before .before .before .before .before .before .before .before .before .before .pre .0) tt
 
 put-number-requires : tie.Need-put-number-requires
 put-number-requires c κs = tt
 
 add-put-streams : tie.Need-add-put-streams
-add-put-streams c = omega arith
+add-put-streams c = place-fits _ 16 (c .before .before .before .before .before .before .before .before .before .before .before .before .before .before .before .before .before .before .pre .0) tt
 
 put-streams-requires : tie.Need-put-streams-requires
-put-streams-requires c κs = (omega arith, omega arith)
+put-streams-requires c κs = let asked = c .before .before .before .before .before .before .before .before .before .before .before .before .before .before .before .before .before .before .pre in (place-low _ 16 (asked .0), asked .1)
 
 same-length : tie.Need-same-length
 same-length c = search needs

@@ -1,12 +1,14 @@
 -- `table_at` is its definition: every number is read where it says.
-use native.Mathlib.Omega.{arith}
+use native.Mathlib.Nat.{le-trans}
+use lib.Dec.{lit≤}
 use borrow.Author.Needs.{needs}
 use Rattle.file.specs.Reading.{tableAt}
+use Rattle.file.proofs.Bounds.{place-fits, place-low}
 use Rattle.file.proofs.body.table_at.Statement.{statement}
 use Rattle.file.proofs.body.table_at.Tie as tie
 
 add-word-at : tie.Need-add-word-at
-add-word-at c = omega arith
+add-word-at c = place-fits _ 12 (c .before .pre) tt
 
 word-at-requires : tie.Need-word-at-requires
 word-at-requires c κs = tt
@@ -15,28 +17,28 @@ cast-count : tie.Need-cast-count
 cast-count c = search needs
 
 add-column-at : tie.Need-add-column-at
-add-column-at c = omega arith
+add-column-at c = place-fits _ 16 (c .before .before .pre) tt
 
 column-at-requires : tie.Need-column-at-requires
-column-at-requires c κs = omega arith
+column-at-requires c κs = le-trans (place-low _ 16 (c .before .before .pre)) (lit≤ tt)
 
 add-column-at-2 : tie.Need-add-column-at-2
-add-column-at-2 c = omega arith
+add-column-at-2 c = place-fits _ 20 (c .before .before .before .pre) tt
 
 column-at-requires-2 : tie.Need-column-at-requires-2
-column-at-requires-2 c κs = omega arith
+column-at-requires-2 c κs = place-low _ 20 (c .before .before .before .pre)
 
 word-at-requires-2 : tie.Need-word-at-requires-2
 word-at-requires-2 c κs = tt
 
 add-word-at-2 : tie.Need-add-word-at-2
-add-word-at-2 c = omega arith
+add-word-at-2 c = place-fits _ 4 (c .before .before .before .before .before .pre) tt
 
 word-at-requires-3 : tie.Need-word-at-requires-3
 word-at-requires-3 c κs = tt
 
 add-word-at-3 : tie.Need-add-word-at-3
-add-word-at-3 c = omega arith
+add-word-at-3 c = place-fits _ 8 (c .before .before .before .before .before .before .pre) tt
 
 word-at-requires-4 : tie.Need-word-at-requires-4
 word-at-requires-4 c κs = tt

@@ -1,5 +1,5 @@
 -- `is_contents` is its definition: the number of entries, and an entry for each body.
-use native.Mathlib.Omega.{arith}
+use lib.Dec.{lit≤}
 use Rattle.file.specs.Reading.{isContents}
 use Rattle.file.proofs.contents.is_contents.Statement.{statement}
 use Rattle.file.proofs.contents.is_contents.Tie as tie
@@ -8,16 +8,16 @@ number-at-requires : tie.Need-number-at-requires
 number-at-requires c κs = tt
 
 sub-is-entry : tie.Need-sub-is-entry
-sub-is-entry c = omega arith
+sub-is-entry c = c .before .before .pre .0
 
 is-entry-requires : tie.Need-is-entry-requires
-is-entry-requires c κs = omega arith
+is-entry-requires c κs = lit≤ tt
 
 sub-is-entry-2 : tie.Need-sub-is-entry-2
-sub-is-entry-2 c = omega arith
+sub-is-entry-2 c = c .before .before .before .pre .1
 
 is-entry-requires-2 : tie.Need-is-entry-requires-2
-is-entry-requires-2 c κs = omega arith
+is-entry-requires-2 c κs = lit≤ tt
 
 returns : tie.Need-returns
 unfolding isContents

@@ -1,6 +1,6 @@
 -- `is_entry` is its definition: the three numbers are read where it says.
-use native.Mathlib.Omega.{arith}
 use Rattle.file.specs.Reading.{isEntry}
+use Rattle.file.proofs.Bounds.{place-fits}
 use Rattle.file.proofs.contents.is_entry.Statement.{statement}
 use Rattle.file.proofs.contents.is_entry.Tie as tie
 
@@ -8,13 +8,13 @@ number-at-requires : tie.Need-number-at-requires
 number-at-requires c κs = tt
 
 add-number-at : tie.Need-add-number-at
-add-number-at c = omega arith
+add-number-at c = place-fits _ 4 (c .before .before .pre) tt
 
 number-at-requires-2 : tie.Need-number-at-requires-2
 number-at-requires-2 c κs = tt
 
 add-number-at-2 : tie.Need-add-number-at-2
-add-number-at-2 c = omega arith
+add-number-at-2 c = place-fits _ 8 (c .before .before .before .pre) tt
 
 number-at-requires-3 : tie.Need-number-at-requires-3
 number-at-requires-3 c κs = tt

@@ -1,7 +1,8 @@
 -- `put_contents` stores the number of entries and an entry for each body, each where the one before it ends.
-use native.Mathlib.Omega.{arith}
+use lib.Dec.{lit≤}
 use borrow.Author.Needs.{needs}
 use Rattle.file.proofs.Stores.{contents-stored}
+use Rattle.file.proofs.Bounds.{add-fits}
 use Rattle.file.proofs.contents.put_contents.Statement.{statement}
 use Rattle.file.proofs.contents.put_contents.Tie as tie
 
@@ -9,13 +10,13 @@ put-number-requires : tie.Need-put-number-requires
 put-number-requires c κs = tt
 
 put-entry-requires : tie.Need-put-entry-requires
-put-entry-requires c κs = omega arith
+put-entry-requires c κs = lit≤ tt
 
 add-put-entry : tie.Need-add-put-entry
-add-put-entry c = omega arith
+add-put-entry c = add-fits 26 80 (lit≤ tt) (c .before .before .before .before .before .before .before .before .before .before .pre) tt
 
 put-entry-requires-2 : tie.Need-put-entry-requires-2
-put-entry-requires-2 c κs = omega arith
+put-entry-requires-2 c κs = lit≤ tt
 
 same-length : tie.Need-same-length
 same-length c = search needs

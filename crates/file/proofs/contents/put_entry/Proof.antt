@@ -1,7 +1,7 @@
 -- `put_entry` stores three cells, each where the one before it ends.
-use native.Mathlib.Omega.{arith}
 use borrow.Author.Needs.{needs}
 use Rattle.file.proofs.Stores.{entry-stored}
+use Rattle.file.proofs.Bounds.{place-fits}
 use Rattle.file.proofs.contents.put_entry.Statement.{statement}
 use Rattle.file.proofs.contents.put_entry.Tie as tie
 
@@ -9,13 +9,13 @@ put-number-requires : tie.Need-put-number-requires
 put-number-requires c κs = tt
 
 add-put-number : tie.Need-add-put-number
-add-put-number c = omega arith
+add-put-number c = place-fits _ 4 (c .before .before .before .before .before .before .pre) tt
 
 put-number-requires-2 : tie.Need-put-number-requires-2
 put-number-requires-2 c κs = tt
 
 add-put-number-2 : tie.Need-add-put-number-2
-add-put-number-2 c = omega arith
+add-put-number-2 c = place-fits _ 8 (c .before .before .before .before .before .before .before .before .before .before .pre) tt
 
 put-number-requires-3 : tie.Need-put-number-requires-3
 put-number-requires-3 c κs = tt

@@ -5,25 +5,25 @@ use Rattle.file.proofs.event.put_cells.Statement.{statement}
 use Rattle.file.proofs.event.put_cells.Tie as tie
 
 put-number-requires : tie.Need-put-number-requires
-put-number-requires c κs = search needs
+put-number-requires c κs = tt
 
 add-put-number : tie.Need-add-put-number
 add-put-number c = search needs
 
 put-number-requires-2 : tie.Need-put-number-requires-2
-put-number-requires-2 c κs = search needs
+put-number-requires-2 c κs = tt
 
 add-put-number-2 : tie.Need-add-put-number-2
 add-put-number-2 c = search needs
 
 put-number-requires-3 : tie.Need-put-number-requires-3
-put-number-requires-3 c κs = search needs
+put-number-requires-3 c κs = tt
 
 add-put-number-3 : tie.Need-add-put-number-3
 add-put-number-3 c = search needs
 
 put-number-requires-4 : tie.Need-put-number-requires-4
-put-number-requires-4 c κs = search needs
+put-number-requires-4 c κs = tt
 
 same-length : tie.Need-same-length
 same-length c = search needs

@@ -1,8 +1,8 @@
 -- `put_event` stores the cells that an event has; past the last one it stores nothing.
 use borrow.Author.Needs.{needs}
-use mathlib.Core.Path.{_∙_}
-use Rattle.file.specs.File.{bytesOf}
-use Rattle.file.proofs.Stores.{stored-past, stored-there}
+use Prim.Native.Nat.{_+_, _*_, _^_, _≤_}
+use Rattle.file.specs.File.{event-size, bytesOf}
+use Rattle.file.proofs.Stores.{stored-past, stored-there, now-stored}
 use Rattle.file.proofs.event.put_event.Statement.{statement}
 use Rattle.file.proofs.event.put_event.Tie as tie
 
@@ -14,38 +14,42 @@ returns c =
 mul-at : tie.Need-mul-at
 mul-at c = search needs
 
+-- an event that is there has its 16 bytes within the slice
+room : (c : tie.Else1) → event-size * c .before .before .args .i + event-size ≤ 2 ^ 63
+room c = search needs
+
 enum-known-event : tie.Need-enum-known-event
-enum-known-event c = search needs
+enum-known-event c = c .match .keys1
 
 put-cells-requires : tie.Need-put-cells-requires
-put-cells-requires c κs = search needs
+put-cells-requires c κs = room (c .before .before .before .before)
 
 enum-told : tie.Need-enum-told
-enum-told c = search needs
+enum-told c = c .match .keys2
 
 put-cells-requires-2 : tie.Need-put-cells-requires-2
-put-cells-requires-2 c κs = search needs
+put-cells-requires-2 c κs = room (c .before .before .before)
 
 enum-known-event-2 : tie.Need-enum-known-event-2
-enum-known-event-2 c = search needs
+enum-known-event-2 c = c .match .keys3
 
 put-cells-requires-3 : tie.Need-put-cells-requires-3
-put-cells-requires-3 c κs = search needs
+put-cells-requires-3 c κs = room (c .before .before .before .before)
 
 enum-known-event-3 : tie.Need-enum-known-event-3
-enum-known-event-3 c = search needs
+enum-known-event-3 c = c .match .keys4
 
 put-cells-requires-4 : tie.Need-put-cells-requires-4
-put-cells-requires-4 c κs = search needs
+put-cells-requires-4 c κs = room (c .before .before .before .before)
 
 enum-known-event-4 : tie.Need-enum-known-event-4
-enum-known-event-4 c = search needs
+enum-known-event-4 c = c .match .keys5
 
 put-cells-requires-5 : tie.Need-put-cells-requires-5
-put-cells-requires-5 c κs = search needs
+put-cells-requires-5 c κs = room (c .before .before .before .before)
 
 enum-told-2 : tie.Need-enum-told-2
-enum-told-2 c = search needs
+enum-told-2 c = c .match .keys6
 
 same-length : tie.Need-same-length
 same-length c = search needs
@@ -54,7 +58,7 @@ returns-2 : tie.Need-returns-2
 unfolding bytesOf
 returns-2 c =
     let a = c .before .before .before .before .before .before .before .before .before .args in
-    c .before .before .put-cells .ensures ∙ stored-there (a .trace .now) (a .i) (c .before .before .before .before .before .event .given .1) (c .before .before .before .before .before .before .before .if1 .left)
+    now-stored (a .trace .now) (a .i) (c .before .before .put-cells .ensures) (c .before .before .before .before .before .event .given .1) (c .before .before .before .before .before .before .before .if1 .left)
 
 same-length-2 : tie.Need-same-length-2
 same-length-2 c = search needs
@@ -63,7 +67,7 @@ returns-3 : tie.Need-returns-3
 unfolding bytesOf
 returns-3 c =
     let a = c .before .before .before .before .before .before .before .before .args in
-    c .before .before .put-cells2 .ensures ∙ stored-there (a .trace .now) (a .i) (c .before .before .before .before .enum-told .given .1) (c .before .before .before .before .before .before .if1 .left)
+    now-stored (a .trace .now) (a .i) (c .before .before .put-cells2 .ensures) (c .before .before .before .before .enum-told .given .1) (c .before .before .before .before .before .before .if1 .left)
 
 same-length-3 : tie.Need-same-length-3
 same-length-3 c = search needs
@@ -72,7 +76,7 @@ returns-4 : tie.Need-returns-4
 unfolding bytesOf
 returns-4 c =
     let a = c .before .before .before .before .before .before .before .before .before .args in
-    c .before .before .put-cells3 .ensures ∙ stored-there (a .trace .now) (a .i) (c .before .before .before .before .before .event2 .given .1) (c .before .before .before .before .before .before .before .if1 .left)
+    now-stored (a .trace .now) (a .i) (c .before .before .put-cells3 .ensures) (c .before .before .before .before .before .event2 .given .1) (c .before .before .before .before .before .before .before .if1 .left)
 
 same-length-4 : tie.Need-same-length-4
 same-length-4 c = search needs
@@ -81,7 +85,7 @@ returns-5 : tie.Need-returns-5
 unfolding bytesOf
 returns-5 c =
     let a = c .before .before .before .before .before .before .before .before .before .args in
-    c .before .before .put-cells4 .ensures ∙ stored-there (a .trace .now) (a .i) (c .before .before .before .before .before .event3 .given .1) (c .before .before .before .before .before .before .before .if1 .left)
+    now-stored (a .trace .now) (a .i) (c .before .before .put-cells4 .ensures) (c .before .before .before .before .before .event3 .given .1) (c .before .before .before .before .before .before .before .if1 .left)
 
 same-length-5 : tie.Need-same-length-5
 same-length-5 c = search needs
@@ -90,7 +94,7 @@ returns-6 : tie.Need-returns-6
 unfolding bytesOf
 returns-6 c =
     let a = c .before .before .before .before .before .before .before .before .before .args in
-    c .before .before .put-cells5 .ensures ∙ stored-there (a .trace .now) (a .i) (c .before .before .before .before .before .event4 .given .1) (c .before .before .before .before .before .before .before .if1 .left)
+    now-stored (a .trace .now) (a .i) (c .before .before .put-cells5 .ensures) (c .before .before .before .before .before .event4 .given .1) (c .before .before .before .before .before .before .before .if1 .left)
 
 returns-7 : tie.Need-returns-7
 unfolding bytesOf

@@ -1,13 +1,12 @@
 -- `advanced` begins the next line.
-use borrow.Author.Needs.{needs}
 use Rattle.notes.proofs.Notes.advanced.Statement.{statement}
 use Rattle.notes.proofs.Notes.advanced.Tie as tie
 
 next-line-requires : tie.Need-next-line-requires
-next-line-requires c κs = search needs
+next-line-requires c κs = tt
 
 blank-requires : tie.Need-blank-requires
-blank-requires c κs = search needs
+blank-requires c κs = tt
 
 returns : tie.Need-returns
 returns c = rw (c .blank .ensures, c .before .next-line .ensures)

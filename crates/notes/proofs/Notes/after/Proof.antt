@@ -1,5 +1,4 @@
 -- `after` goes by the kind of a line.
-use borrow.Author.Needs.{needs}
 use mathlib.Core.Path.{_≡_, sym, ap, _∙_}
 use Rattle.notes.specs.declared.Notes.{Notes}
 use Rattle.notes.specs.declared.line.Line.{Line}
@@ -11,46 +10,46 @@ as-told : (n : Notes) {line known : Line} → line ≡ known → after n known �
 as-told n is = ap (λ (line : Line). after n line) (sym is)
 
 enum-told : tie.Need-enum-told
-enum-told c = search needs
+enum-told c = c .match .keys1
 
 after-blank-requires : tie.Need-after-blank-requires
-after-blank-requires c κs = search needs
+after-blank-requires c κs = tt
 
 enum-known-line : tie.Need-enum-known-line
-enum-known-line c = search needs
+enum-known-line c = c .match .keys2
 
 after-worst-requires : tie.Need-after-worst-requires
-after-worst-requires c κs = search needs
+after-worst-requires c κs = tt
 
 enum-known-line-2 : tie.Need-enum-known-line-2
-enum-known-line-2 c = search needs
+enum-known-line-2 c = c .match .keys3
 
 after-span-requires : tie.Need-after-span-requires
-after-span-requires c κs = search needs
+after-span-requires c κs = tt
 
 enum-known-line-3 : tie.Need-enum-known-line-3
-enum-known-line-3 c = search needs
+enum-known-line-3 c = c .match .keys4
 
 after-padding-requires : tie.Need-after-padding-requires
-after-padding-requires c κs = search needs
+after-padding-requires c κs = tt
 
 enum-known-line-4 : tie.Need-enum-known-line-4
-enum-known-line-4 c = search needs
+enum-known-line-4 c = c .match .keys5
 
 after-stream-requires : tie.Need-after-stream-requires
-after-stream-requires c κs = search needs
+after-stream-requires c κs = tt
 
 enum-told-2 : tie.Need-enum-told-2
-enum-told-2 c = search needs
+enum-told-2 c = c .match .keys6
 
 after-event-requires : tie.Need-after-event-requires
-after-event-requires c κs = search needs
+after-event-requires c κs = tt
 
 enum-told-3 : tie.Need-enum-told-3
-enum-told-3 c = search needs
+enum-told-3 c = c .match .keys7
 
 stopped-requires : tie.Need-stopped-requires
-stopped-requires c κs = search needs
+stopped-requires c κs = tt
 
 returns : tie.Need-returns
 returns c = c .after-blank .ensures ∙ as-told (c .before .before .before .args .self) (c .before .enum-told .given .1)

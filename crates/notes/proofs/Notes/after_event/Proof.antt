@@ -8,14 +8,14 @@ use Rattle.notes.proofs.Notes.after_event.Statement.{statement}
 use Rattle.notes.proofs.Notes.after_event.Tie as tie
 
 stopped-requires : tie.Need-stopped-requires
-stopped-requires c κs = search needs
+stopped-requires c κs = tt
 
 returns : tie.Need-returns
 unfolding afterEvent if
 returns c = rw (ne-eqb _ 3 (c .before .if1 .taken)) (c .stopped .ensures)
 
 stopped-requires-2 : tie.Need-stopped-requires-2
-stopped-requires-2 c κs = search needs
+stopped-requires-2 c κs = tt
 
 returns-2 : tie.Need-returns-2
 unfolding afterEvent if
@@ -25,7 +25,7 @@ add-advanced : tie.Need-add-advanced
 add-advanced c = search needs
 
 advanced-requires : tie.Need-advanced-requires
-advanced-requires c κs = search needs
+advanced-requires c κs = tt
 
 returns-3 : tie.Need-returns-3
 unfolding afterEvent if

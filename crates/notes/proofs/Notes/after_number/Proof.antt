@@ -10,14 +10,14 @@ add-advanced : tie.Need-add-advanced
 add-advanced c = search needs
 
 advanced-requires : tie.Need-advanced-requires
-advanced-requires c κs = search needs
+advanced-requires c κs = tt
 
 returns : tie.Need-returns
 unfolding afterNumber if
 returns c = rw (eq-eqb _ _ (c .before .if1 .taken)) (c .advanced .ensures)
 
 stopped-requires : tie.Need-stopped-requires
-stopped-requires c κs = search needs
+stopped-requires c κs = tt
 
 returns-2 : tie.Need-returns-2
 unfolding afterNumber if

@@ -8,21 +8,21 @@ use Rattle.notes.proofs.Notes.after_stream.Statement.{statement}
 use Rattle.notes.proofs.Notes.after_stream.Tie as tie
 
 stopped-requires : tie.Need-stopped-requires
-stopped-requires c κs = search needs
+stopped-requires c κs = tt
 
 returns : tie.Need-returns
 unfolding afterStream if
 returns c = rw (ne-eqb _ 3 (c .before .if1 .taken)) (c .stopped .ensures)
 
 stopped-requires-2 : tie.Need-stopped-requires-2
-stopped-requires-2 c κs = search needs
+stopped-requires-2 c κs = tt
 
 returns-2 : tie.Need-returns-2
 unfolding afterStream if
 returns-2 c = rw (eq-eqb _ 3 (c .before .before .before .if1 .left), ne-eqb _ 0 (c .before .if2 .taken)) (c .stopped2 .ensures)
 
 stopped-requires-3 : tie.Need-stopped-requires-3
-stopped-requires-3 c κs = search needs
+stopped-requires-3 c κs = tt
 
 returns-3 : tie.Need-returns-3
 unfolding afterStream if
@@ -44,7 +44,7 @@ add-table : tie.Need-add-table
 add-table c = search needs
 
 advanced-requires : tie.Need-advanced-requires
-advanced-requires c κs = search needs
+advanced-requires c κs = tt
 
 returns-4 : tie.Need-returns-4
 unfolding afterStream if

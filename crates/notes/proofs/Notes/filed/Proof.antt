@@ -8,13 +8,13 @@ use Rattle.notes.proofs.Notes.filed.Statement.{statement}
 use Rattle.notes.proofs.Notes.filed.Tie as tie
 
 expected-requires : tie.Need-expected-requires
-expected-requires c κs = search needs
+expected-requires c κs = tt
 
 returns : tie.Need-returns
 returns c = rw (filed-wrong (c .before .before .before .before .args .self) (c .before .before .before .before .args .trace .now) (c .before .before .before .before .args .out .now) (c .before .if1 .taken), c .expected .ensures) (refl, refl)
 
 expected-requires-2 : tie.Need-expected-requires-2
-expected-requires-2 c κs = search needs
+expected-requires-2 c κs = tt
 
 returns-2 : tie.Need-returns-2
 returns-2 c = rw (filed-unfinished (c .before .before .before .before .before .before .args .self) (c .before .before .before .before .before .before .args .trace .now) (c .before .before .before .before .before .before .args .out .now) (c .before .before .before .if1 .left) (c .before .if2 .taken), c .expected2 .ensures) (refl, refl)
@@ -29,10 +29,10 @@ slice-aggregate-write : tie.Need-slice-aggregate-write
 slice-aggregate-write c = sym (length-take-le _ (c .before .before .before .before .before .before .before .before .args .trace .now) (omega (arith, c .before .before .if3 .left)))
 
 write-requires : tie.Need-write-requires
-write-requires c κs = search needs
+write-requires c κs = tt
 
 told-requires : tie.Need-told-requires
-told-requires c κs = search needs
+told-requires c κs = tt
 
 same-length : tie.Need-same-length
 same-length c = search needs

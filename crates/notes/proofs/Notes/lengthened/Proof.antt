@@ -1,10 +1,9 @@
 -- `lengthened` hands the byte to the line that is being read.
-use borrow.Author.Needs.{needs}
 use Rattle.notes.proofs.Notes.lengthened.Statement.{statement}
 use Rattle.notes.proofs.Notes.lengthened.Tie as tie
 
 with-requires : tie.Need-with-requires
-with-requires c κs = search needs
+with-requires c κs = tt
 
 returns : tie.Need-returns
 returns c = rw (c .with .ensures)

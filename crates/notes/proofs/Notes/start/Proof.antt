@@ -1,10 +1,9 @@
 -- `start` begins at line 1.
-use borrow.Author.Needs.{needs}
 use Rattle.notes.proofs.Notes.start.Statement.{statement}
 use Rattle.notes.proofs.Notes.start.Tie as tie
 
 blank-requires : tie.Need-blank-requires
-blank-requires c κs = search needs
+blank-requires c κs = tt
 
 returns : tie.Need-returns
 returns c = rw (c .blank .ensures)

@@ -7,7 +7,7 @@ use Rattle.notes.proofs.draft.lengthens.Statement.{statement}
 use Rattle.notes.proofs.draft.lengthens.Tie as tie
 
 is-digit-requires : tie.Need-is-digit-requires
-is-digit-requires c κs = search needs
+is-digit-requires c κs = tt
 
 sub-result : tie.Need-sub-result
 sub-result c = digit-low _ (sym (c .before .is-digit .ensures) ∙ c .if1 .taken)

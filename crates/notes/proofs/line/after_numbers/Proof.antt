@@ -1,5 +1,4 @@
 -- `after_numbers` counts the streams, and then the events.
-use borrow.Author.Needs.{needs}
 use borrow.Author.Tests.{lt-ltb, le-ltb}
 use Rattle.table.specs.Fold.{if}
 use Rattle.notes.specs.Line.{afterNumbers}
@@ -7,14 +6,14 @@ use Rattle.notes.proofs.line.after_numbers.Statement.{statement}
 use Rattle.notes.proofs.line.after_numbers.Tie as tie
 
 stream-at-requires : tie.Need-stream-at-requires
-stream-at-requires c κs = search needs
+stream-at-requires c κs = tt
 
 returns : tie.Need-returns
 unfolding afterNumbers if
 returns c = rw (lt-ltb _ _ (c .before .if1 .taken)) (c .stream-at .ensures)
 
 event-at-requires : tie.Need-event-at-requires
-event-at-requires c κs = search needs
+event-at-requires c κs = tt
 
 returns-2 : tie.Need-returns-2
 unfolding afterNumbers if

@@ -1,6 +1,5 @@
 -- `event_shown` shows the word and the numbers of an event.
-use borrow.Author.Needs.{needs}
-use mathlib.Core.Path.{_≡_, sym, ap, _∙_}
+use mathlib.Core.Path.{refl, _≡_, sym, ap, _∙_}
 use Rattle.listing.specs.Line.{ascii, textOf}
 use Rattle.file.specs.declared.event.Event.{Event}
 use Rattle.notes.specs.Line.{eventShown}
@@ -11,58 +10,58 @@ as-told : {event known : Event} → event ≡ known → textOf (eventShown known
 as-told is = ap (λ (event : Event). textOf (eventShown event)) (sym is)
 
 enum-known-event : tie.Need-enum-known-event
-enum-known-event c = search needs
+enum-known-event c = c .match .keys1
 
 slice-aggregate-with-two : tie.Need-slice-aggregate-with-two
-slice-aggregate-with-two c = search needs
+slice-aggregate-with-two c = refl
 
 with-two-requires : tie.Need-with-two-requires
-with-two-requires c κs = search needs
+with-two-requires c κs = tt
 
 enum-told : tie.Need-enum-told
-enum-told c = search needs
+enum-told c = c .match .keys2
 
 slice-aggregate-bare : tie.Need-slice-aggregate-bare
-slice-aggregate-bare c = search needs
+slice-aggregate-bare c = refl
 
 bare-requires : tie.Need-bare-requires
-bare-requires c κs = search needs
+bare-requires c κs = tt
 
 enum-known-event-2 : tie.Need-enum-known-event-2
-enum-known-event-2 c = search needs
+enum-known-event-2 c = c .match .keys3
 
 slice-aggregate-with-two-2 : tie.Need-slice-aggregate-with-two-2
-slice-aggregate-with-two-2 c = search needs
+slice-aggregate-with-two-2 c = refl
 
 with-two-requires-2 : tie.Need-with-two-requires-2
-with-two-requires-2 c κs = search needs
+with-two-requires-2 c κs = tt
 
 enum-known-event-3 : tie.Need-enum-known-event-3
-enum-known-event-3 c = search needs
+enum-known-event-3 c = c .match .keys4
 
 slice-aggregate-with-one : tie.Need-slice-aggregate-with-one
-slice-aggregate-with-one c = search needs
+slice-aggregate-with-one c = refl
 
 with-one-requires : tie.Need-with-one-requires
-with-one-requires c κs = search needs
+with-one-requires c κs = tt
 
 enum-known-event-4 : tie.Need-enum-known-event-4
-enum-known-event-4 c = search needs
+enum-known-event-4 c = c .match .keys5
 
 slice-aggregate-with-one-2 : tie.Need-slice-aggregate-with-one-2
-slice-aggregate-with-one-2 c = search needs
+slice-aggregate-with-one-2 c = refl
 
 with-one-requires-2 : tie.Need-with-one-requires-2
-with-one-requires-2 c κs = search needs
+with-one-requires-2 c κs = tt
 
 enum-told-2 : tie.Need-enum-told-2
-enum-told-2 c = search needs
+enum-told-2 c = c .match .keys6
 
 slice-aggregate-bare-2 : tie.Need-slice-aggregate-bare-2
-slice-aggregate-bare-2 c = search needs
+slice-aggregate-bare-2 c = refl
 
 bare-requires-2 : tie.Need-bare-requires-2
-bare-requires-2 c κs = search needs
+bare-requires-2 c κs = tt
 
 returns : tie.Need-returns
 unfolding ascii

@@ -1,5 +1,4 @@
 -- `fields_line` goes by the number of fields.
-use borrow.Author.Needs.{needs}
 use borrow.Author.Tests.{eq-eqb, ne-eqb}
 use Rattle.table.specs.Fold.{if}
 use Rattle.notes.specs.Line.{fieldsLine}
@@ -11,21 +10,21 @@ unfolding fieldsLine if
 returns c = rw (eq-eqb _ 0 (c .if1 .taken))
 
 word-line-requires : tie.Need-word-line-requires
-word-line-requires c κs = search needs
+word-line-requires c κs = tt
 
 returns-2 : tie.Need-returns-2
 unfolding fieldsLine if
 returns-2 c = rw (ne-eqb _ 0 (c .before .before .before .if1 .left), eq-eqb _ 1 (c .before .if2 .taken)) (c .word-line .ensures)
 
 number-line-requires : tie.Need-number-line-requires
-number-line-requires c κs = search needs
+number-line-requires c κs = tt
 
 returns-3 : tie.Need-returns-3
 unfolding fieldsLine if
 returns-3 c = rw (ne-eqb _ 0 (c .before .before .before .before .before .if1 .left), ne-eqb _ 1 (c .before .before .before .if2 .left), eq-eqb _ 2 (c .before .if3 .taken)) (c .number-line .ensures)
 
 pair-line-requires : tie.Need-pair-line-requires
-pair-line-requires c κs = search needs
+pair-line-requires c κs = tt
 
 returns-4 : tie.Need-returns-4
 unfolding fieldsLine if

@@ -22,7 +22,7 @@ sub-after-numbers : tie.Need-sub-after-numbers
 sub-after-numbers c = search needs
 
 after-numbers-requires : tie.Need-after-numbers-requires
-after-numbers-requires c κs = search needs
+after-numbers-requires c κs = tt
 
 returns-4 : tie.Need-returns-4
 unfolding lineAt if

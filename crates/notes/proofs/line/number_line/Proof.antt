@@ -21,7 +21,7 @@ cast-table-line : tie.Need-cast-table-line
 cast-table-line c = search needs
 
 table-line-requires : tie.Need-table-line-requires
-table-line-requires c κs = search needs
+table-line-requires c κs = tt
 
 returns-3 : tie.Need-returns-3
 unfolding numberLine if heldAfter ascii

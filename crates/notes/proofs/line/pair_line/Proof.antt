@@ -1,5 +1,4 @@
 -- `pair_line` knows a stream, and the events of two numbers.
-use borrow.Author.Needs.{needs}
 use borrow.Author.Tests.{eq-eqb, ne-eqb, lt-ltb, le-ltb}
 use Prim.Native.Nat.{_^_}
 use Rattle.table.specs.Fold.{if}
@@ -10,7 +9,7 @@ use Rattle.notes.proofs.line.pair_line.Statement.{statement}
 use Rattle.notes.proofs.line.pair_line.Tie as tie
 
 stream-line-requires : tie.Need-stream-line-requires
-stream-line-requires c κs = search needs
+stream-line-requires c κs = tt
 
 returns : tie.Need-returns
 unfolding pairLine if heldAfter ascii

@@ -1,65 +1,76 @@
 -- `shown` shows the word and the numbers of a line.
 use borrow.Author.Needs.{needs}
-use mathlib.Core.Path.{_≡_, sym, ap, _∙_}
-use Rattle.listing.specs.Line.{ascii, textOf}
+use denote.Enum.Declared.{tagOf}
+use mathlib.Core.List.{[], _∷_}
+use mathlib.Core.Path.{_≡_, refl, sym, ap, _∙_}
+use types.Run.{OneOf, miss}
+use Rattle.listing.specs.Line.{ascii, wordedFields, textOf}
 use Rattle.notes.specs.declared.line.Line.{Line}
 use Rattle.notes.specs.Line.{lineShown}
+use Rattle.notes.proofs.line.Line.{the-type}
 use Rattle.notes.proofs.line.shown.Statement.{statement}
 use Rattle.notes.proofs.line.shown.Tie as tie
 
 as-told : {line known : Line} → line ≡ known → textOf (lineShown known) ≡ textOf (lineShown line)
 as-told is = ap (λ (line : Line). textOf (lineShown line)) (sym is)
 
-enum-told : tie.Need-enum-told
-enum-told c = search needs
+-- what is blank or no line is shown as an empty one
+empty : (line : Line) → OneOf (0 ∷ 6 ∷ []) (tagOf the-type line) → textOf (wordedFields [] []) ≡ textOf (lineShown line)
+empty Line.Blank is = refl
+empty (Line.Worst n) is = absurd (miss (0 ∷ 6 ∷ []) 1 tt is)
+empty (Line.Span n) is = absurd (miss (0 ∷ 6 ∷ []) 2 tt is)
+empty (Line.Padding n) is = absurd (miss (0 ∷ 6 ∷ []) 3 tt is)
+empty (Line.Stream reserved period) is = absurd (miss (0 ∷ 6 ∷ []) 4 tt is)
+empty (Line.Call event) is = absurd (miss (0 ∷ 6 ∷ []) 5 tt is)
+empty Line.Wrong is = refl
 
 slice-aggregate-bare : tie.Need-slice-aggregate-bare
-slice-aggregate-bare c = search needs
+slice-aggregate-bare c = refl
 
 bare-requires : tie.Need-bare-requires
-bare-requires c κs = search needs
+bare-requires c κs = tt
 
 enum-known-line : tie.Need-enum-known-line
-enum-known-line c = search needs
+enum-known-line c = c .match .keys2
 
 slice-aggregate-with-one : tie.Need-slice-aggregate-with-one
-slice-aggregate-with-one c = search needs
+slice-aggregate-with-one c = refl
 
 cast-with-one : tie.Need-cast-with-one
 cast-with-one c = search needs
 
 with-one-requires : tie.Need-with-one-requires
-with-one-requires c κs = search needs
+with-one-requires c κs = tt
 
 enum-known-line-2 : tie.Need-enum-known-line-2
-enum-known-line-2 c = search needs
+enum-known-line-2 c = c .match .keys3
 
 slice-aggregate-with-one-2 : tie.Need-slice-aggregate-with-one-2
-slice-aggregate-with-one-2 c = search needs
+slice-aggregate-with-one-2 c = refl
 
 cast-with-one-2 : tie.Need-cast-with-one-2
 cast-with-one-2 c = search needs
 
 with-one-requires-2 : tie.Need-with-one-requires-2
-with-one-requires-2 c κs = search needs
+with-one-requires-2 c κs = tt
 
 enum-known-line-3 : tie.Need-enum-known-line-3
-enum-known-line-3 c = search needs
+enum-known-line-3 c = c .match .keys4
 
 slice-aggregate-with-one-3 : tie.Need-slice-aggregate-with-one-3
-slice-aggregate-with-one-3 c = search needs
+slice-aggregate-with-one-3 c = refl
 
 cast-with-one-3 : tie.Need-cast-with-one-3
 cast-with-one-3 c = search needs
 
 with-one-requires-3 : tie.Need-with-one-requires-3
-with-one-requires-3 c κs = search needs
+with-one-requires-3 c κs = tt
 
 enum-known-line-4 : tie.Need-enum-known-line-4
-enum-known-line-4 c = search needs
+enum-known-line-4 c = c .match .keys5
 
 slice-aggregate-with-two : tie.Need-slice-aggregate-with-two
-slice-aggregate-with-two c = search needs
+slice-aggregate-with-two c = refl
 
 cast-with-two : tie.Need-cast-with-two
 cast-with-two c = search needs
@@ -68,26 +79,16 @@ cast-with-two-2 : tie.Need-cast-with-two-2
 cast-with-two-2 c = search needs
 
 with-two-requires : tie.Need-with-two-requires
-with-two-requires c κs = search needs
+with-two-requires c κs = tt
 
 enum-known-line-5 : tie.Need-enum-known-line-5
-enum-known-line-5 c = search needs
+enum-known-line-5 c = c .match .keys6
 
 event-shown-requires : tie.Need-event-shown-requires
-event-shown-requires c κs = search needs
-
-enum-told-2 : tie.Need-enum-told-2
-enum-told-2 c = search needs
-
-slice-aggregate-bare-2 : tie.Need-slice-aggregate-bare-2
-slice-aggregate-bare-2 c = search needs
-
-bare-requires-2 : tie.Need-bare-requires-2
-bare-requires-2 c κs = search needs
+event-shown-requires c κs = tt
 
 returns : tie.Need-returns
-unfolding ascii
-returns c = (c .bare .ensures .0 ∙ as-told (c .before .before .enum-told .given .1), c .bare .ensures .1)
+returns c = (c .bare .ensures .0 ∙ empty (c .before .before .before .args .line) (c .before .before .match .keys1), c .bare .ensures .1)
 
 returns-2 : tie.Need-returns-2
 unfolding ascii
@@ -109,15 +110,10 @@ returns-6 : tie.Need-returns-6
 unfolding ascii
 returns-6 c = (c .event-shown .ensures .0 ∙ as-told (c .before .before .line5 .given .1), c .event-shown .ensures .1)
 
-returns-7 : tie.Need-returns-7
-unfolding ascii
-returns-7 c = (c .bare2 .ensures .0 ∙ as-told (c .before .before .enum-told2 .given .1), c .bare2 .ensures .1)
-
 pub shown-spec : {M : Type 1} → statement M
 shown-spec =
     tie.close
     (tie.spec
-    enum-told
     slice-aggregate-bare
     bare-requires
     enum-known-line
@@ -139,13 +135,9 @@ shown-spec =
     with-two-requires
     enum-known-line-5
     event-shown-requires
-    enum-told-2
-    slice-aggregate-bare-2
-    bare-requires-2
     returns
     returns-2
     returns-3
     returns-4
     returns-5
-    returns-6
-    returns-7)
+    returns-6)

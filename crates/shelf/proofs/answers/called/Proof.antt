@@ -1,11 +1,10 @@
 -- `called` gives the session that a call is made to.
 use Rattle.shelf.specs.InPlace.{calledOf}
-use borrow.Author.Needs.{needs}
 use Rattle.shelf.proofs.answers.called.Statement.{statement}
 use Rattle.shelf.proofs.answers.called.Tie as tie
 
 counted-requires : tie.Need-counted-requires
-counted-requires c κs = search needs
+counted-requires c κs = tt
 
 returns : tie.Need-returns
 unfolding calledOf

@@ -1,15 +1,14 @@
 -- `filed` says what was read as numbers, case by case.
 use mathlib.Core.Path.{sym, ap}
-use borrow.Author.Needs.{needs}
 use Rattle.shelf.specs.Filed.{readAs}
 use Rattle.shelf.proofs.answers.filed.Statement.{statement}
 use Rattle.shelf.proofs.answers.filed.Tie as tie
 
 enum-known-reading : tie.Need-enum-known-reading
-enum-known-reading c = search needs
+enum-known-reading c = c .match .keys1
 
 enum-known-reading-2 : tie.Need-enum-known-reading-2
-enum-known-reading-2 c = search needs
+enum-known-reading-2 c = c .match .keys2
 
 returns : tie.Need-returns
 returns c = sym (ap readAs (c .before .reading .given .1))

@@ -1,5 +1,4 @@
 -- `shown` judges the order.
-use borrow.Author.Needs.{needs}
 use borrow.Author.Tests.{eq-eqb, ne-eqb}
 use Rattle.table.specs.Fold.{if}
 use Rattle.shelf.specs.Image.{shownOf}
@@ -7,14 +6,14 @@ use Rattle.shelf.proofs.answers.shown.Statement.{statement}
 use Rattle.shelf.proofs.answers.shown.Tie as tie
 
 zero-requires : tie.Need-zero-requires
-zero-requires c κs = search needs
+zero-requires c κs = tt
 
 returns : tie.Need-returns
 unfolding shownOf if
 returns c = rw (ne-eqb _ _ (c .before .if1 .taken), c .zero .ensures)
 
 session-requires : tie.Need-session-requires
-session-requires c κs = search needs
+session-requires c κs = tt
 
 returns-2 : tie.Need-returns-2
 unfolding shownOf if

@@ -1,17 +1,16 @@
 -- `told` gives the three numbers of a reply.
-use borrow.Author.Needs.{needs}
 use Rattle.shelf.specs.Image.{toldAs}
 use Rattle.shelf.proofs.answers.told.Statement.{statement}
 use Rattle.shelf.proofs.answers.told.Tie as tie
 
 number-requires : tie.Need-number-requires
-number-requires c κs = search needs
+number-requires c κs = tt
 
 stream-requires : tie.Need-stream-requires
-stream-requires c κs = search needs
+stream-requires c κs = tt
 
 value-requires : tie.Need-value-requires
-value-requires c κs = search needs
+value-requires c κs = tt
 
 returns : tie.Need-returns
 unfolding toldAs

@@ -1,5 +1,4 @@
 -- `turn` judges the order first, and then answers as the session does.
-use borrow.Author.Needs.{needs}
 use borrow.Author.Tests.{eq-eqb, ne-eqb}
 use Rattle.table.specs.Fold.{if}
 use Rattle.shelf.specs.Image.{answeredAs}
@@ -7,23 +6,23 @@ use Rattle.shelf.proofs.answers.turn.Statement.{statement}
 use Rattle.shelf.proofs.answers.turn.Tie as tie
 
 told-requires : tie.Need-told-requires
-told-requires c κs = search needs
+told-requires c κs = tt
 
 returns : tie.Need-returns
 unfolding answeredAs if
 returns c = rw (ne-eqb _ _ (c .before .if1 .taken), c .told .ensures)
 
 session-requires : tie.Need-session-requires
-session-requires c κs = search needs
+session-requires c κs = tt
 
 turn-requires : tie.Need-turn-requires
-turn-requires c κs = search needs
+turn-requires c κs = tt
 
 of-requires : tie.Need-of-requires
-of-requires c κs = search needs
+of-requires c κs = tt
 
 told-requires-2 : tie.Need-told-requires-2
-told-requires-2 c κs = search needs
+told-requires-2 c κs = tt
 
 returns-2 : tie.Need-returns-2
 unfolding answeredAs if

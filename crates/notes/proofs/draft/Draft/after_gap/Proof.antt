@@ -1,5 +1,4 @@
 -- `after_gap` tells a space, a comment and the first byte of a field.
-use borrow.Author.Needs.{needs}
 use borrow.Author.Tests.{eq-eqb, ne-eqb}
 use Rattle.table.specs.Fold.{if}
 use Rattle.notes.specs.Draft.{hash, afterGap}
@@ -12,14 +11,14 @@ unfolding afterGap if
 returns c = rw (eq-eqb _ space (c .if1 .taken))
 
 at-requires : tie.Need-at-requires
-at-requires c κs = search needs
+at-requires c κs = tt
 
 returns-2 : tie.Need-returns-2
 unfolding afterGap if
 returns-2 c = rw (ne-eqb _ space (c .before .before .if1 .left), eq-eqb _ hash (c .before .if2 .taken)) (c .at .ensures)
 
 begun-requires : tie.Need-begun-requires
-begun-requires c κs = search needs
+begun-requires c κs = tt
 
 returns-3 : tie.Need-returns-3
 unfolding afterGap if

@@ -10,14 +10,14 @@ add-t6 : tie.Need-add-t6
 add-t6 c = search needs
 
 in-field-requires : tie.Need-in-field-requires
-in-field-requires c κs = search needs
+in-field-requires c κs = tt
 
 returns : tie.Need-returns
 unfolding begun if
 returns c = rw (lt-ltb _ 3 (c .before .before .if1 .taken)) (c .in-field .ensures)
 
 amiss-requires : tie.Need-amiss-requires
-amiss-requires c κs = search needs
+amiss-requires c κs = tt
 
 returns-2 : tie.Need-returns-2
 unfolding begun if

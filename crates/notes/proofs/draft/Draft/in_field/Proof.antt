@@ -1,5 +1,4 @@
 -- `in_field` goes by the field that is being read.
-use borrow.Author.Needs.{needs}
 use borrow.Author.Tests.{eq-eqb, ne-eqb}
 use Rattle.table.specs.Fold.{if}
 use Rattle.notes.specs.Draft.{inField}
@@ -7,21 +6,21 @@ use Rattle.notes.proofs.draft.Draft.in_field.Statement.{statement}
 use Rattle.notes.proofs.draft.Draft.in_field.Tie as tie
 
 lettered-requires : tie.Need-lettered-requires
-lettered-requires c κs = search needs
+lettered-requires c κs = tt
 
 returns : tie.Need-returns
 unfolding inField if
 returns c = rw (eq-eqb _ 1 (c .before .if1 .taken)) (c .lettered .ensures)
 
 first-longer-requires : tie.Need-first-longer-requires
-first-longer-requires c κs = search needs
+first-longer-requires c κs = tt
 
 returns-2 : tie.Need-returns-2
 unfolding inField if
 returns-2 c = rw (ne-eqb _ 1 (c .before .before .before .if1 .left), eq-eqb _ 2 (c .before .if2 .taken)) (c .first-longer .ensures)
 
 second-longer-requires : tie.Need-second-longer-requires
-second-longer-requires c κs = search needs
+second-longer-requires c κs = tt
 
 returns-3 : tie.Need-returns-3
 unfolding inField if

@@ -1,5 +1,4 @@
 -- `lettered` takes a letter, up to eight.
-use borrow.Author.Needs.{needs}
 use borrow.Author.Tests.{ltb-true}
 use Rattle.table.specs.Fold.{if}
 use lib.Dec.{ltb}
@@ -11,7 +10,7 @@ use Rattle.notes.proofs.draft.Draft.lettered.Statement.{statement}
 use Rattle.notes.proofs.draft.Draft.lettered.Tie as tie
 
 is-letter-requires : tie.Need-is-letter-requires
-is-letter-requires c κs = search needs
+is-letter-requires c κs = tt
 
 mul-t7 : tie.Need-mul-t7
 mul-t7 c = omega (arith, ltb-true (c .before .before .before .before .args .self .word) (256 ^ 7) (both (c .before .before .before .is-letter .result) (ltb (c .before .before .before .before .args .self .word) (256 ^ 7)) (c .before .if1 .taken) .1))
@@ -24,7 +23,7 @@ unfolding lettered if
 returns c = rw (rw (c .before .before .before .is-letter .ensures) at (c .before .if1 .taken))
 
 amiss-requires : tie.Need-amiss-requires
-amiss-requires c κs = search needs
+amiss-requires c κs = tt
 
 returns-2 : tie.Need-returns-2
 unfolding lettered if

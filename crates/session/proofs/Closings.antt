@@ -8,15 +8,16 @@ use lib.Seq.{getD-set-other}
 use Rattle.table.specs.Fold.{smallestTo, listTo}
 use Rattle.table.proofs.Folds.{smallest-agree}
 use Rattle.table.proofs.Lists.{Filled, filled-more, filled-on, filled-all, mapped}
-use Rattle.time.specs.Time.{moment}
+use Rattle.time.specs.Time.{session-end, moment}
 use Rattle.stream.specs.Stream.{moved}
 use Rattle.session.specs.Session.{noStream, streamAt, horizon, withStreams, withStream}
-use Rattle.session.specs.Calls.{move, apply, replyTo, outcome}
+use Rattle.session.specs.Calls.{move, apply, replyTo, outcome, answerTo}
 use Rattle.time.specs.declared.Clock.{Clock}
 use Rattle.stream.specs.declared.Stream.{Stream}
 use Rattle.session.specs.declared.Session.{Session}
 use Rattle.calls.specs.declared.Reply.{Reply}
-use Rattle.session.proofs.Sound.{Sound, admits, unused-deadline}
+use Rattle.calls.specs.declared.Call.{Call}
+use Rattle.session.proofs.Sound.{Sound, admits, deadline-high, unused-deadline}
 use Rattle.session.proofs.MoveKept.{moving, next, stays, moved-at}
 
 module _ (s : Session) (q : Sound s) where
@@ -30,16 +31,37 @@ module _ (s : Session) (q : Sound s) where
     pub rest : (j : ℕ) → i ≤ j → streamAt after j ≡ streamAt s j
     pub ahead : h ≡ moment (smallestTo (λ j. movedAt j .deadline .0) i)
 
-  pub moving-none : Moving s (movedAt 0 .deadline) 0
+  pub moving-none : (until : Clock) (y : Stream) → until ≡ moment (horizon s) → y ≡ moved (s .clock) (until .0) (streamAt s 0) → Moving s (y .deadline) 0
   unfolding smallestTo listTo
-  moving-none = record { cells = refl; front = record { cells = q .eight; front = refl }; rest = λ j le. refl; ahead = refl }
+  moving-none until y until-is y-is =
+      let first : y ≡ movedAt 0 = rw until-is at y-is in
+      record {
+        cells = refl;
+        front = record { cells = q .eight; front = refl };
+        rest = λ j le. refl;
+        ahead = ap (λ (x : Stream). x .deadline) first;
+      }
 
-  pub moving-more : (after : Session) (h : Clock) (i : ℕ) (now later : Clock) (until : ℕ) (y : Stream)
+  -- it goes on over used streams, and each can be moved
+  module _ (after : Session) (h : Clock) (i : ℕ) (m : Moving after h i) where
+    kept : after .count ≡ s .count
+    kept = ap (λ (z : Session). z .count) (m .cells)
+
+    pub moving-in : i < after .count → i < 8
+    moving-in l = omega (arith, l, kept, admits s q .numbers .count-high)
+
+    pub can-move : i < 8 → streamAt after i .deadline .0 ≤ session-end
+    can-move l = rw (m .rest i (omega arith)) (deadline-high s q i l)
+
+    pub passed : i ≤ after .count → after .count ≤ i → i ≡ s .count
+    passed le past = omega (arith, le, past, kept)
+
+  pub moving-more : (after : Session) (h : Clock) (i : ℕ) (now later until : Clock) (y : Stream)
       → i < 8
       → Moving after h i
       → now ≡ s .clock
-      → until ≡ horizon s
-      → y ≡ moved now until (streamAt after i)
+      → until ≡ moment (horizon s)
+      → y ≡ moved now (until .0) (streamAt after i)
       → later ≡ moment (min (h .0) (y .deadline .0))
       → Moving (withStream after i y) later (i + 1)
   unfolding smallestTo
@@ -53,9 +75,9 @@ module _ (s : Session) (q : Sound s) where
       }
 
   -- past the count nothing is due, so that all is moved
-  pub moving-all : (after : Session) (h : Clock) → Moving after h (s .count) → record { session = after; reply = Reply.Moved h } ≡ outcome s move
+  pub moving-all : (k : Call) (after : Session) (h : Clock) → Moving after h (s .count) → answerTo s k ≡ outcome s move → record { session = after; reply = Reply.Moved h } ≡ answerTo s k
   unfolding apply replyTo horizon
-  moving-all after h m =
+  moving-all k after h m is =
       let high = admits s q .numbers .count-high in
       let full = filled-on movedAt (after .streams) noStream (s .count) 8 high
       (λ j past l. m .rest j past ∙ sym (stays s q (streamAt s j) (unused-deadline (streamAt s j) (q .others j past l)))) (m .front) in
@@ -63,4 +85,4 @@ module _ (s : Session) (q : Sound s) where
       let after-is = m .cells ∙ ap (withStreams s) streams in
       let ahead-is = m .ahead ∙ ap moment (smallest-agree (λ j. movedAt j .deadline .0) (λ j. streamAt (next s q) j .deadline .0) (s .count) (admits s q .numbers .count-low)
       (λ j l. ap (λ (x : Stream). x .deadline .0) (sym (moved-at s q j)))) in
-      ap₂ (λ (a : Session) (c : Clock). record { session = a; reply = Reply.Moved c }) after-is ahead-is
+      ap₂ (λ (z : Session) (c : Clock). record { session = z; reply = Reply.Moved c }) after-is ahead-is ∙ sym is

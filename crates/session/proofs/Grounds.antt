@@ -67,6 +67,9 @@ served-of s h at-disk =
     let a = both (leb (s .served) (s .count)) (leb 1 (slotsAt s (s .served - 1))) (rw (ne-eqb (s .served) 0 at-disk) at h) in
     (leb-true _ _ (a .0), leb-true 1 (slotsAt s (s .served - 1)) (a .1))
 
+pub served-in : (s : Session) → Sound s → (s .served ≡ 0 → ⊥) → (1 ≤ s .served) × (s .served - 1 < s .count)
+served-in s q at-disk = let high = served-of s (q .disk) at-disk .0 in (omega arith, omega arith)
+
 -- the stream that a turn serves has a filled slot
 pub chosen-grounds : (s : Session) → s .served ≡ 0 → someFilled s ≡ true → Grounds s (send (chosen s) (nearestAt s (chosen s)))
 unfolding someFilled chosen

@@ -16,9 +16,11 @@ use Rattle.table.proofs.Judged.{numbers-of}
 use Rattle.time.specs.Time.{moment}
 use Rattle.stream.specs.Stream.{unusedStream}
 use Rattle.session.specs.Session.{streamAt, horizon, tableOf, soundRest, sound}
-use Rattle.stream.specs.Search.{begun, counted, Countable, says, Judgeable}
+use Rattle.stream.specs.Search.{inOrder, begun, counted, Countable, says, Judgeable}
+use Rattle.stream.specs.declared.Stream.{Stream}
 use Rattle.stream.specs.declared.census.Census.{Census}
 use Rattle.session.specs.declared.Session.{Session}
+use Rattle.session.proofs.Sound.{sound-of, admits}
 use Rattle.session.proofs.Counted.{CountedTo, counted-none, counted-more, countable, horizon-is, judgeable, decides}
 
 -- an index of the eight streams, or of a queue, counted on or multiplied by the size of what it stands for, fits 64 bits
@@ -38,8 +40,25 @@ below-eight i n l le = omega (arith, l, le)
 pub fewer : (n i : ℕ) → i < n → n - (i + 1) < n - i
 fewer n i l = omega (arith, l)
 
+pub first-in : 0 < 8
+first-in = omega arith
+
+pub none-passed : (n : ℕ) → 0 ≤ n
+none-passed n = omega arith
+
+pub one-passed : (i n : ℕ) → i < n → i + 1 ≤ n
+one-passed i n l = omega (arith, l)
+
 pub all-passed : (i n : ℕ) → i ≤ n → n ≤ i → i ≡ n
 all-passed i n le past = omega (arith, le, past)
+
+-- what a sound session's call may take fits too
+pub worst-fits : (s : Session) → sound s ≡ true → Fits w64 (s .worst)
+worst-fits s ok = omega (arith, admits s (sound-of s ok) .numbers .worst-high)
+
+-- a number that is not its bound is below it
+pub below-bound : (n m : ℕ) → n ≤ m → (n ≡ m → ⊥) → n < m
+below-bound n m le other = omega (arith, le, other)
 
 module _ (s : Session) where
   -- the first loop: the streams below i are counted
@@ -48,8 +67,8 @@ module _ (s : Session) where
     pub eight : length (s .streams) ≡ 8
     pub counts : CountedTo s c i
 
-  pub counting-none : length (s .streams) ≡ 8 → Counting (begun (s .worst) (s .span) (s .padding) (s .count) (streamAt s 0)) 0
-  counting-none eight = record { inside = omega arith; eight = eight; counts = counted-none s }
+  pub counting-none : (c : Census) → c ≡ begun (s .worst) (s .span) (s .padding) (s .count) (streamAt s 0) → length (s .streams) ≡ 8 → Counting c 0
+  counting-none c e eight = record { inside = omega arith; eight = eight; counts = rw e (counted-none s) }
 
   -- it goes on while all is in order, over used streams
   module _ (c : Census) (i : ℕ) (m : Counting c i) (going : (c .sound && ltb i (s .count)) ≡ true) where
@@ -62,11 +81,18 @@ module _ (s : Session) where
     pub below : i < 8
     below = omega (arith, used, numbers-of _ (m .counts .passed ok .numbers) .count-high)
 
-    pub can-count : Countable c
+    can-count : Countable c
     can-count = countable s c i (m .inside) ok (m .counts)
 
-    pub counting-more : Counting (counted c (streamAt s i)) (i + 1)
-    counting-more = record { inside = omega (arith, used); eight = m .eight; counts = counted-more s c i used ok (m .counts) }
+    pub worst-positive : 0 < s .worst
+    worst-positive = rw (sym (m .counts .worst)) (can-count .worst-low)
+
+    pub can-take : (ordered : Bool) (x : Stream) → ordered ≡ inOrder (s .worst) (s .span) (s .padding) x → Countable c × (ordered ≡ inOrder (c .worst) (c .span) (c .padding) x)
+    can-take ordered x e = (can-count, rw (m .counts .worst, m .counts .span, m .counts .padding) e)
+
+    pub counting-more : (more : Census) → more ≡ counted c (streamAt s i) → Counting more (i + 1)
+    counting-more more e =
+        record { inside = omega (arith, used); eight = m .eight; counts = rw e (counted-more s c i used ok (m .counts)) }
 
   abbrev unusedTo : ℕ → Bool
   unusedTo = allTo (λ n. ltb n (s .count) || unusedStream (streamAt s n))
@@ -94,13 +120,13 @@ module _ (s : Session) where
         failed = m .counts .failed;
       }
 
-  pub resting-more : (c : Census) (rest : Bool) (j : ℕ) → Resting c rest j → j < 8 → Resting c (rest && unusedStream (streamAt s j)) (j + 1)
+  pub resting-more : (c : Census) (rest : Bool) (j : ℕ) → Resting c rest j → j < 8 → (here : Bool) → here ≡ unusedStream (streamAt s j) → Resting c (rest && here) (j + 1)
   unfolding allTo
-  resting-more c rest j m l =
+  resting-more c rest j m l here e =
       record {
         past = omega (arith, m .past);
         within = λ le. omega (arith, l);
-        zeros = rw (add-one, m .zeros, le-ltb _ _ (m .past));
+        zeros = rw (add-one, m .zeros, e, le-ltb _ _ (m .past));
         eight = m .eight;
         all = m .all;
         failed = m .failed;
@@ -117,9 +143,9 @@ module _ (s : Session) where
     abbrev verdict : Bool
     verdict = rest && says c (s .clock) (s .served) (s .place) (streamAt s at)
 
-    pub judged : 8 ≤ j → (verdict ≡ sound s) × (verdict ≡ true → c .horizon ≡ moment (horizon s))
+    decided : 8 ≤ j → (verdict ≡ sound s) × (verdict ≡ true → c .horizon ≡ moment (horizon s))
     unfolding says soundRest
-    judged low = go (c .sound) refl
+    decided low = go (c .sound) refl
       where
         go : (b : Bool) → c .sound ≡ b → (verdict ≡ sound s) × (verdict ≡ true → c .horizon ≡ moment (horizon s))
         go true fine =
@@ -128,3 +154,6 @@ module _ (s : Session) where
             let rest-is : rest ≡ soundRest (s .streams) (s .count) = rw (m .zeros, e, eq-eqb _ _ (m .eight)) in
             (decides s c k fine _ at-disk rest rest-is, λ t. horizon-is s c k fine)
         go false bad = rw (bad, and-false, m .failed bad) (refl, λ t. absurd (false≢true t))
+
+    pub judged : 8 ≤ j → (used : Bool) → used ≡ says c (s .clock) (s .served) (s .place) (streamAt s at) → ((rest && used) ≡ sound s) × ((rest && used) ≡ true → c .horizon ≡ moment (horizon s))
+    judged low used e = rw e (decided low)

@@ -13,6 +13,7 @@ pub mod Choices
 pub mod Changes
 pub mod MoveKept
 pub mod Closings
+pub mod Surveys
 pub mod Keeps
 pub mod Openings
 pub mod Answers

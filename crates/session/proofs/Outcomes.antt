@@ -1,6 +1,6 @@
--- What a call hands back is the outcome of its verdict: for each verdict that changes the session, from the stream, the clock and the place that were stored.
-use mathlib.Core.Bool.{true, false}
-use mathlib.Core.Path.{_≡_}
+-- What a call hands back is its answer, where that is the outcome of a verdict: for each verdict, from the stream, the clock and the place that were stored.
+use mathlib.Core.Bool.{Bool, true, false, _&&_}
+use mathlib.Core.Path.{_≡_, sym}
 use Prim.Native.Nat.{ℕ, _+_}
 use lib.Dec.{ltb}
 use lib.ListN.{getD}
@@ -8,50 +8,60 @@ use Rattle.table.specs.Fold.{if}
 use Rattle.time.specs.Time.{moment}
 use Rattle.stream.specs.Stream.{arrived, without, charged, lapsed}
 use Rattle.session.specs.Session.{streamAt, latest, withStream, withDisk}
-use Rattle.session.specs.Calls.{append, send, wait, expire, finish, set-clock, overlong, late, apply, replyTo, outcome}
+use Rattle.session.specs.Calls.{refuse, append, send, wait, expire, finish, set-clock, overlong, late, apply, replyTo, outcome, answerTo}
 use Rattle.time.specs.declared.Clock.{Clock}
 use Rattle.stream.specs.declared.Stream.{Stream}
 use Rattle.session.specs.declared.Answer.{Answer}
+use Rattle.calls.specs.declared.Call.{Call}
 use Rattle.calls.specs.declared.Reply.{Reply}
 use Rattle.session.specs.declared.Session.{Session}
 
 abbrev with-reply : Session → Reply → Answer
 with-reply s r = record { session = s; reply = r }
 
-module _ (s : Session) where
-  pub appended : (i place : ℕ) (y : Stream) → y ≡ arrived place (streamAt s i) → with-reply (withStream s i y) (Reply.Arrived (i + 1) (y .queued)) ≡ outcome s (append i place)
+-- a time is late by the moments that are compared
+pub late-is : (s : Session) (t : ℕ) (now until : Clock) (a b : Bool) → now ≡ moment t → until ≡ moment (latest s) → a ≡ ltb (until .0) (now .0) → b ≡ ltb (s .clock .0) (now .0) → (a && b) ≡ late s t
+unfolding late
+late-is s t now until a b now-is until-is a-is b-is = rw (a-is, b-is, now-is, until-is)
+
+module _ (s : Session) (k : Call) where
+  pub refuses : (n : ℕ) → answerTo s k ≡ outcome s (refuse n) → with-reply s (Reply.Refused n) ≡ answerTo s k
+  unfolding apply replyTo
+  refuses n is = sym is
+
+  pub appends : (i place : ℕ) (y : Stream) → y ≡ arrived place (streamAt s i) → answerTo s k ≡ outcome s (append i place) → with-reply (withStream s i y) (Reply.Arrived (i + 1) (y .queued)) ≡ answerTo s k
   unfolding apply replyTo arrived
-  appended i place y e = rw e
+  appends i place y e is = rw e (sym is)
 
-  pub sent : (i j : ℕ) (y : Stream) → y ≡ without j (streamAt s i) → let place = getD (streamAt s i .places) j 0 in
-      with-reply (withDisk (withStream s i y) (s .clock) place (i + 1) place) (Reply.Sent (i + 1) place) ≡ outcome s (send i j)
+  pub sends : (i j : ℕ) (y : Stream) → y ≡ without j (streamAt s i) → answerTo s k ≡ outcome s (send i j) → let place = getD (streamAt s i .places) j 0 in
+      with-reply (withDisk (withStream s i y) (s .clock) place (i + 1) place) (Reply.Sent (i + 1) place) ≡ answerTo s k
   unfolding apply replyTo
-  sent i j y e = rw e
+  sends i j y e is = rw e (sym is)
 
-  pub lapsed-one : (i : ℕ) (y : Stream) → y ≡ lapsed (s .worst) (streamAt s i) → with-reply (withStream s i y) (Reply.Expired (i + 1) (y .charge)) ≡ outcome s (expire i)
+  pub expires : (i : ℕ) (y : Stream) → y ≡ lapsed (s .worst) (streamAt s i) → answerTo s k ≡ outcome s (expire i) → with-reply (withStream s i y) (Reply.Expired (i + 1) (y .charge)) ≡ answerTo s k
   unfolding apply replyTo lapsed
-  lapsed-one i y e = rw e
+  expires i y e is = rw e (sym is)
 
-  pub waited : (until : Clock) → until ≡ moment (latest s) → with-reply s (Reply.Wait until) ≡ outcome s wait
+  pub waits : (until : Clock) → until ≡ moment (latest s) → answerTo s k ≡ outcome s wait → with-reply s (Reply.Wait until) ≡ answerTo s k
   unfolding apply replyTo
-  waited until e = rw e
+  waits until e is = rw e (sym is)
 
   -- a completion, overlong or not
-  module _ (i a : ℕ) (y : Stream) (now : Clock) (stored : y ≡ charged a (streamAt s i)) (grown : now ≡ moment (s .clock .0 + a)) where
-    pub finished-late : ltb (s .worst) a ≡ true → with-reply (withDisk (withStream s i y) now (s .head) 0 0) (Reply.Overlong (i + 1) (y .charge)) ≡ outcome s (finish i a)
+  module _ (i d : ℕ) (y : Stream) (now : Clock) (stored : y ≡ charged d (streamAt s i)) (grown : now ≡ moment (s .clock .0 + d)) (is : answerTo s k ≡ outcome s (finish i d)) where
+    pub finishes-late : ltb (s .worst) d ≡ true → with-reply (withDisk (withStream s i y) now (s .head) 0 0) (Reply.Overlong (i + 1) (y .charge)) ≡ answerTo s k
     unfolding apply replyTo charged overlong if
-    finished-late long = rw (stored, grown, long)
+    finishes-late long = rw (is, stored, grown, long)
 
-    pub finished : ltb (s .worst) a ≡ false → with-reply (withDisk (withStream s i y) now (s .head) 0 0) (Reply.Done (i + 1) (y .charge)) ≡ outcome s (finish i a)
+    pub finishes : ltb (s .worst) d ≡ false → with-reply (withDisk (withStream s i y) now (s .head) 0 0) (Reply.Done (i + 1) (y .charge)) ≡ answerTo s k
     unfolding apply replyTo charged overlong if
-    finished short = rw (stored, grown, short)
+    finishes short = rw (is, stored, grown, short)
 
   -- a report of the time, late or not
-  module _ (t : ℕ) (now : Clock) (reported : now ≡ moment t) where
-    pub clocked-late : late s t ≡ true → with-reply (withDisk s now (s .head) (s .served) (s .place)) (Reply.Late now) ≡ outcome s (set-clock t)
+  module _ (t : ℕ) (now : Clock) (reported : now ≡ moment t) (is : answerTo s k ≡ outcome s (set-clock t)) where
+    pub reports-late : late s t ≡ true → with-reply (withDisk s now (s .head) (s .served) (s .place)) (Reply.Late now) ≡ answerTo s k
     unfolding apply replyTo if
-    clocked-late l = rw (reported, l)
+    reports-late l = rw (is, reported, l)
 
-    pub clocked : late s t ≡ false → with-reply (withDisk s now (s .head) (s .served) (s .place)) (Reply.Clock now) ≡ outcome s (set-clock t)
+    pub reports : late s t ≡ false → with-reply (withDisk s now (s .head) (s .served) (s .place)) (Reply.Clock now) ≡ answerTo s k
     unfolding apply replyTo if
-    clocked l = rw (reported, l)
+    reports l = rw (is, reported, l)

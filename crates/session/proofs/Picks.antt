@@ -1,15 +1,18 @@
 -- The search for the request to send, step by step.
 use mathlib.Core.Bool.{Bool, true, false, not, _&&_, _||_, or-true, or-false, false≢true}
 use mathlib.Core.Path.{_≡_, refl, sym, _∙_, ap}
-use Prim.Native.Nat.{ℕ, zero, suc}
+use Prim.Native.Nat.{ℕ, zero, suc, _+_}
+use native.Mathlib.Numerals.{add-one}
 use native.Mathlib.Omega.{arith}
 use lib.Dec.{leb, ltb, eqb}
 use borrow.Author.Tests.{eq-eqb, ne-eqb, le-leb, lt-leb}
 use Rattle.table.specs.Fold.{if, someTo}
+use Rattle.time.specs.Time.{moment}
 use Rattle.session.specs.Session.{streamAt, horizon, filledAt}
 use Rattle.stream.specs.Choice.{firstBest, distance}
 use Rattle.session.specs.Choice.{nearestAt, distanceAt, sentBefore}
 use Rattle.stream.specs.Search.{considered}
+use Rattle.time.specs.declared.Clock.{Clock}
 use Rattle.stream.specs.declared.choice.Pick.{Pick}
 use Rattle.session.specs.declared.Session.{Session}
 use Rattle.stream.proofs.Best.{best-skips, best-starts, best-next}
@@ -99,13 +102,17 @@ module _ (s : Session) (i : ℕ) (p : Pick) (q : Picked s i p) where
     meets f true e = rw (ne-eqb (filledAt s i) 0 some, test f ∙ ap not e) (taken (step f true e))
     meets f false e = rw (ne-eqb (filledAt s i) 0 some, test f ∙ ap not e) (kept f (step f false e))
 
-  pub picked-next : Picked s (suc i) next
+  picked-next : Picked s (suc i) next
   picked-next = go (filledAt s i) refl (p .found) refl
     where
       go : (m : ℕ) → filledAt s i ≡ m → (f : Bool) → p .found ≡ f → Picked s (suc i) next
       go zero e f ef = stays e
       go (suc m) e true ef = meets (λ z. omega (arith, e)) ef (sentBefore s i (p .stream)) refl
       go (suc m) e false ef = starts (λ z. omega (arith, e)) ef
+
+  -- one stream further, by a horizon h that was found before
+  pub picked-more : (h : Clock) (more : Pick) → h ≡ moment (horizon s) → more ≡ considered (s .worst) (h .0) (s .head) p (streamAt s i) i → Picked s (i + 1) more
+  picked-more h more ahead e = rw (e, ahead, add-one) picked-next
 
 pub picked-none : (s : Session) (p : Pick) → p .found ≡ false → p .stream ≡ 0 → Picked s 0 p
 unfolding someTo firstBest

@@ -11,10 +11,11 @@ use Rattle.table.specs.Admission.{grantedOf, admissionOf}
 use Rattle.table.proofs.Tests.{both, le-or-lt}
 use Rattle.table.proofs.Folds.{all-at, all-of, smallest-le}
 use Rattle.table.proofs.Judged.{Fits-in, Admits, admits-of}
-use Rattle.time.specs.Time.{session-end}
+use Rattle.time.specs.Time.{session-end, moment}
 use Rattle.stream.specs.Stream.{soundStream, unusedStream}
 use Rattle.stream.specs.Bounds.{Bounded}
 use Rattle.session.specs.Session.{noStream, streamAt, horizon, tableOf, soundDisk, soundRest, usedStreams, sound}
+use Rattle.time.specs.declared.Clock.{Clock}
 use Rattle.stream.specs.declared.Stream.{Stream}
 use Rattle.session.specs.declared.Session.{Session}
 use Rattle.stream.proofs.Orderly.{InOrder, used-or-zero, or-right, stream-of, of-stream}
@@ -134,6 +135,10 @@ reservation s q = used-reservation s (used s q)
 
 pub bounded : (s : Session) → Sound s → (i : ℕ) → i < s .count → Bounded (s .worst) (horizon s) (streamAt s i)
 bounded s q = used-bounded s (used s q)
+
+-- by a horizon h that was found before
+pub bounded-by : (s : Session) → Sound s → (h : Clock) → h ≡ moment (horizon s) → (i : ℕ) → i < s .count → Bounded (s .worst) (h .0) (streamAt s i)
+bounded-by s q h ahead i l = rw ahead (bounded s q i l)
 
 -- an unused stream has the deadline 0
 pub unused-deadline : (x : Stream) → unusedStream x ≡ true → x .deadline .0 ≡ 0

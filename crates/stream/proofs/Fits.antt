@@ -1,13 +1,18 @@
 -- Bounds on the numbers of a sound session, by which 64 bits are enough.
+use mathlib.Core.Bool.{false}
+use mathlib.Core.Path.{_≡_}
 use Prim.Native.Nat.{ℕ, _+_, _-_, _*_, _/_, _%_, _^_, _≤_}
 use native.Mathlib.Nat.{mul-le-mul, mul-le-mul-right, mul-right-comm, mul-div-le, le-trans, lt-of-le-of-lt, div-le-self, mod-lt, le-mul-of-pos-right}
 use native.Mathlib.Omega.{arith}
 use lib.Dec.{T, ltb, lit<}
 use mir.Syntax.{w64}
 use mir.Val.{Fits}
-use Rattle.time.specs.Time.{duration-max}
+use Rattle.time.specs.Time.{session-end, duration-max, diskTime}
 use Rattle.table.specs.Ranges.{worst-max, span-max, period-max}
+use Rattle.table.specs.Refusal.{outside}
+use Rattle.table.proofs.Tests.{within}
 use Rattle.stream.specs.Bounds.{Bounded}
+use Rattle.time.specs.declared.Charge.{Charge}
 use Rattle.stream.specs.declared.Stream.{Stream}
 
 -- a product of bounded numbers fits where the bounds' product does
@@ -21,6 +26,9 @@ charge-max = period-max + duration-max
 module _ {worst h : ℕ} {x : Stream} (q : Bounded worst h x) where
   pub charge-high : x .charge .0 ≤ charge-max
   charge-high = omega (arith, q .charge-high, q .budget-high, q .period-high)
+
+  pub charge-within : x .charge .0 ≤ session-end
+  charge-within = omega (arith, charge-high)
 
   pub ahead-high : h - x .release .0 ≤ period-max
   ahead-high = omega (arith, q .ahead, q .due, q .period-high)
@@ -49,10 +57,17 @@ module _ {worst h : ℕ} {x : Stream} (q : Bounded worst h x) where
   pub expired-high : x .expired ≤ charge-max
   expired-high = omega (arith, charge-high, q .expiries, le-mul-of-pos-right (x .expired) (q .worst-low))
 
+  pub expired-within : x .expired ≤ session-end
+  expired-within = omega (arith, expired-high)
+
+-- a duration in its range
+pub duration-within : (a : ℕ) (d : Charge) → outside 1 duration-max a ≡ false → d ≡ diskTime a → d .0 ≤ session-end
+duration-within a d in-range e = rw e (omega (arith, within 1 duration-max a in-range))
+
 part-most : (a g p span : ℕ) → a ≤ p → g ≤ period-max → span ≤ span-max → a * g * (span / p) ≤ span-max * period-max
-part-most a g p span within budget whole =
+part-most a g p span most budget whole =
     rw mul-right-comm
-    (mul-le-mul {n₂ = span-max} {m₂ = period-max} (le-trans (mul-le-mul-right (span / p) within) (le-trans (mul-div-le span p) whole)) budget)
+    (mul-le-mul {n₂ = span-max} {m₂ = period-max} (le-trans (mul-le-mul-right (span / p) most) (le-trans (mul-div-le span p) whole)) budget)
 
 -- the horizon is within a stream's period, so its part is at most its budget times the span
 pub part-high : {worst h : ℕ} {x : Stream} → Bounded worst h x → (span : ℕ) → span ≤ span-max

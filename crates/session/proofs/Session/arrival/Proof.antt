@@ -1,19 +1,17 @@
 -- `Session::arrival` judges the session, refuses by 31, 8 and 9 and puts the request into the queue: each way out rewrites the tests that led there.
-use borrow.Author.Tests.{eq-eqb, ne-eqb, not-true, not-false}
+use borrow.Author.Tests.{not-true, not-false}
 use mathlib.Core.Bool.{true, false, _&&_}
 use mathlib.Core.Path.{_≡_, sym, _∙_}
-use native.Mathlib.Omega.{arith}
 use Prim.Native.Nat.{_≤_, _<_, _-_}
 use lib.ListN.{length-map}
-use Rattle.table.specs.Refusal.{given, _or-next_}
 use Rattle.session.specs.Session.{sound}
-use Rattle.session.specs.Calls.{append, noSuchStream, callRefusal, effect, apply, replyTo, outcome, answerTo}
+use Rattle.session.specs.Calls.{append, noSuchStream, outcome, answerTo}
 use Rattle.calls.specs.declared.Call.{Call}
-use Rattle.session.proofs.Outcomes.{appended}
-use Rattle.session.proofs.Answers.{unsound-answer, refused, accepted}
+use Rattle.session.proofs.Outcomes.{refuses, appends}
+use Rattle.session.proofs.Answers.{unsound-answer, arrival-nowhere, arrival-full, arrival-joins}
 use Rattle.session.proofs.Grounds.{named}
 use Rattle.session.proofs.Sound.{sound-of, count-high, bounded}
-use Rattle.session.proofs.Judging.{offset-fits, next-fits, below-eight, fewer, Counting, Resting, counting-none, used, below, can-count, counting-more, resting-none, resting-more, can-judge, judged}
+use Rattle.session.proofs.Judging.{offset-fits, next-fits, below-eight, below-bound, fewer, first-in, Counting, Resting, counting-none, used, below, worst-positive, can-take, counting-more, resting-none, resting-more, can-judge, judged}
 use Rattle.session.proofs.Session.arrival.Statement.{statement}
 use Rattle.session.proofs.Session.arrival.Tie as tie
 
@@ -30,7 +28,7 @@ abbrev μ-loop2 : tie.MeasureT-loop2
 μ-loop2 stream place s census i rest₀ j₀ rest j = 8 - j
 
 element-copy-out-first : tie.Need-element-copy-out-first Inv-loop μ-loop Inv-loop2 μ-loop2
-element-copy-out-first c = omega arith
+element-copy-out-first c = first-in
 
 begin-requires : tie.Need-begin-requires Inv-loop μ-loop Inv-loop2 μ-loop2
 begin-requires c κs = tt
@@ -40,7 +38,7 @@ loop-holds : tie.Need-loop-holds Inv-loop μ-loop Inv-loop2 μ-loop2
 loop-holds c =
     let s = c .before .before .args .t1 in
     let array = c .before .before .good .0 .1 .1 .1 .1 .1 .1 .1 .1 .1 .1 .0 in
-    rw (c .begin .ensures) (counting-none s (sym (length-map (s .streams) _) ∙ array .1 .0 .1))
+    counting-none s _ (c .begin .ensures) (sym (length-map (s .streams) _) ∙ array .1 .0 .1)
 
 mul-x : tie.Need-mul-x Inv-loop μ-loop Inv-loop2 μ-loop2
 mul-x c = offset-fits _ (below _ _ _ (c .before .before .loop .inv) (c .if1 .taken))
@@ -49,13 +47,10 @@ element-copy-out-x : tie.Need-element-copy-out-x Inv-loop μ-loop Inv-loop2 μ-l
 element-copy-out-x c = below _ _ _ (c .before .before .loop .inv) (c .if1 .taken)
 
 is-in-order-requires : tie.Need-is-in-order-requires Inv-loop μ-loop Inv-loop2 μ-loop2
-is-in-order-requires c κs = let at = c .before .before .before .loop in rw (sym (at .inv .counts .worst)) (can-count _ _ _ (at .inv) (c .before .if1 .taken) .worst-low)
+is-in-order-requires c κs = worst-positive _ _ _ (c .before .before .before .loop .inv) (c .before .if1 .taken)
 
 with-requires : tie.Need-with-requires Inv-loop μ-loop Inv-loop2 μ-loop2
-with-requires c κs =
-    let at = c .before .before .before .before .loop in
-    let k = at .inv .counts in
-    (can-count _ _ _ (at .inv) (c .before .before .if1 .taken), rw (k .worst, k .span, k .padding) (c .is-in-order .ensures))
+with-requires c κs = can-take _ _ _ (c .before .before .before .before .loop .inv) (c .before .before .if1 .taken) _ _ (c .is-in-order .ensures)
 
 add-i : tie.Need-add-i Inv-loop μ-loop Inv-loop2 μ-loop2
 add-i c = next-fits _ (below _ _ _ (c .before .before .before .before .before .loop .inv) (c .before .before .before .if1 .taken))
@@ -64,7 +59,7 @@ loop-less : tie.Need-loop-less Inv-loop μ-loop Inv-loop2 μ-loop2
 loop-less c = fewer _ _ (used _ _ _ (c .before .before .before .before .before .loop .inv) (c .before .before .before .if1 .taken))
 
 loop-again : tie.Need-loop-again Inv-loop μ-loop Inv-loop2 μ-loop2
-loop-again c = let at = c .before .before .before .before .before .loop in rw (c .with .ensures) (counting-more _ _ _ (at .inv) (c .before .before .before .if1 .taken))
+loop-again c = counting-more _ _ _ (c .before .before .before .before .before .loop .inv) (c .before .before .before .if1 .taken) _ (c .with .ensures)
 
 loop2-holds : tie.Need-loop2-holds Inv-loop μ-loop Inv-loop2 μ-loop2
 loop2-holds c = resting-none _ _ _ (c .before .before .loop .inv) (c .if1 .left)
@@ -85,7 +80,7 @@ loop2-less : tie.Need-loop2-less Inv-loop μ-loop Inv-loop2 μ-loop2
 loop2-less c = fewer 8 _ (c .before .before .loop2-test .taken)
 
 loop2-again : tie.Need-loop2-again Inv-loop μ-loop Inv-loop2 μ-loop2
-loop2-again c = rw (c .is-unused .ensures) (resting-more _ _ _ _ (c .before .before .before .loop2 .inv) (c .before .before .loop2-test .taken))
+loop2-again c = resting-more _ _ _ _ (c .before .before .before .loop2 .inv) (c .before .before .loop2-test .taken) _ (c .is-unused .ensures)
 
 slot-of-requires : tie.Need-slot-of-requires Inv-loop μ-loop Inv-loop2 μ-loop2
 slot-of-requires c κs = tt
@@ -102,7 +97,7 @@ is-sound-requires c κs = can-judge _ _ _ _ (c .before .before .before .before .
 -- what the test for 31 says
 tested : (c : tie.After-is-sound Inv-loop μ-loop Inv-loop2 μ-loop2) → let s = c .before .before .before .before .before .before .before .before .before .before .before .args .t1 in
     ((c .before .before .before .before .before .loop2 .rest && c .is-sound .result) ≡ sound s)
-tested c = rw (c .is-sound .ensures) (judged _ _ _ _ (c .before .before .before .before .before .loop2 .inv) _ (c .before .before .before .slot-of .ensures .1) (c .before .before .before .before .loop2-test .left) .0)
+tested c = judged _ _ _ _ (c .before .before .before .before .before .loop2 .inv) _ (c .before .before .before .slot-of .ensures .1) (c .before .before .before .before .loop2-test .left) _ (c .is-sound .ensures) .0
 
 -- past 31 the session is sound, and past 8 the stream is one of its own
 ok : (c : tie.Then2 Inv-loop μ-loop Inv-loop2 μ-loop2) → sound (c .before .before .before .before .before .before .before .before .before .before .before .before .args .t1) ≡ true
@@ -129,10 +124,7 @@ element-copy-out-x-3 : tie.Need-element-copy-out-x-3 Inv-loop μ-loop Inv-loop2 
 element-copy-out-x-3 c = inside c
 
 arrived-requires : tie.Need-arrived-requires Inv-loop μ-loop Inv-loop2 μ-loop2
-arrived-requires c κs =
-    let a = c .before .before .before .before .before .before .before .before .before .before .before .before .before .before .before .before .args in
-    let high = bounded (a .t1) (sound-of _ (ok (c .before .before .before .before))) (a .stream - 1) (here (c .before .before .before) .1) .queued-high in
-    omega (arith, high, c .if4 .taken)
+arrived-requires c κs = below-bound _ _ (bounded _ (sound-of _ (ok (c .before .before .before .before))) _ (here (c .before .before .before) .1) .queued-high) (c .if4 .taken)
 
 mul-y : tie.Need-mul-y Inv-loop μ-loop Inv-loop2 μ-loop2
 mul-y c = offset-fits _ (inside (c .before .before .before .before))
@@ -145,28 +137,28 @@ add-number c = next-fits _ (inside (c .before .before .before .before))
 
 -- what an arrival is answered
 arrives : (c : tie.After-arrived Inv-loop μ-loop Inv-loop2 μ-loop2) → let a = c .before .before .before .before .before .before .before .before .before .before .before .before .before .before .before .before .before .args in answerTo (a .t1) (Call.Arrival (a .stream) (a .place)) ≡ outcome (a .t1) (append (a .stream - 1) (a .place))
-unfolding callRefusal given _or-next_ effect
-arrives c = let a = c .before .before .before .before .before .before .before .before .before .before .before .before .before .before .before .before .before .args in accepted (a .t1) (Call.Arrival (a .stream) (a .place)) (ok (c .before .before .before .before .before)) (rw (own (c .before .before .before .before), ne-eqb _ _ (c .before .if4 .taken)))
+arrives c = arrival-joins _ _ _ (ok (c .before .before .before .before .before)) (own (c .before .before .before .before)) (c .before .if4 .taken)
 
 returns : tie.Need-returns Inv-loop μ-loop Inv-loop2 μ-loop2
 returns c =
     let a = c .before .before .before .before .before .before .before .before .before .before .before .before .before .before .before .before .before .args in
-    appended (a .t1) _ _ _ (c .arrived .ensures) ∙ sym (arrives c)
+    appends (a .t1) (Call.Arrival (a .stream) (a .place)) (a .stream - 1) (a .place) (c .arrived .result) (c .arrived .ensures) (arrives c)
 
 returns-2 : tie.Need-returns-2 Inv-loop μ-loop Inv-loop2 μ-loop2
-unfolding callRefusal given _or-next_ apply replyTo
-returns-2 c = sym (refused _ (Call.Arrival _ _) (ok (c .before .before .before .before)) 8 (rw (own (c .before .before .before), eq-eqb _ _ (c .if4 .left))))
+returns-2 c =
+    let a = c .before .before .before .before .before .before .before .before .before .before .before .before .before .before .before .before .args in
+    refuses (a .t1) (Call.Arrival (a .stream) (a .place)) 9 (arrival-full (a .t1) (a .stream) (a .place) (ok (c .before .before .before .before)) (own (c .before .before .before)) (c .if4 .left))
 
 returns-3 : tie.Need-returns-3 Inv-loop μ-loop Inv-loop2 μ-loop2
-unfolding callRefusal given _or-next_ noSuchStream apply replyTo
+unfolding noSuchStream
 returns-3 c =
     let a = c .before .before .before .before .before .before .before .before .before .before .before .before .before .args in
-    let none : noSuchStream (a .t1) (a .stream) ≡ true = not-false _ (c .if3 .left) in
-    sym (refused (a .t1) (Call.Arrival (a .stream) (a .place)) (ok (c .before)) 7 (rw none))
+    refuses (a .t1) (Call.Arrival (a .stream) (a .place)) 8 (arrival-nowhere (a .t1) (a .stream) (a .place) (ok (c .before)) (not-false _ (c .if3 .left)))
 
 returns-4 : tie.Need-returns-4 Inv-loop μ-loop Inv-loop2 μ-loop2
-unfolding apply replyTo
-returns-4 c = sym (unsound-answer _ _ (sym (tested (c .before)) ∙ c .if2 .left))
+returns-4 c =
+    let a = c .before .before .before .before .before .before .before .before .before .before .before .before .args in
+    refuses (a .t1) (Call.Arrival (a .stream) (a .place)) 31 (unsound-answer (a .t1) (Call.Arrival (a .stream) (a .place)) (sym (tested (c .before)) ∙ c .if2 .left))
 
 pub arrival-spec : {M : Type 1} → statement M
 arrival-spec =

@@ -1,22 +1,20 @@
 -- `Session::clock` judges the session, refuses by 31, 10, 13 and 14 and sets the clock: each way out rewrites the tests that led there.
-use borrow.Author.Tests.{eq-eqb, ne-eqb, not-true, not-false}
+use borrow.Author.Tests.{not-true, not-false}
 use mathlib.Core.Bool.{true, false, _&&_}
 use mathlib.Core.Path.{_≡_, sym, ap, _∙_}
-use native.Mathlib.Omega.{arith}
-use Prim.Native.Nat.{_≤_, _-_}
+use Prim.Native.Nat.{_≤_, _<_, _-_}
 use lib.Dec.{ltb}
 use lib.ListN.{length-map}
-use Rattle.table.specs.Refusal.{given, _or-next_}
 use Rattle.time.specs.Time.{session-end, moment}
 use Rattle.session.specs.Session.{horizon, latest, sound}
-use Rattle.session.specs.Calls.{set-clock, busy, late, callRefusal, effect, apply, replyTo, outcome, answerTo}
+use Rattle.session.specs.Calls.{set-clock, late, outcome, answerTo}
 use Rattle.time.specs.declared.Clock.{Clock}
 use Rattle.calls.specs.declared.Call.{Call}
-use Rattle.session.proofs.Outcomes.{clocked-late, clocked}
-use Rattle.session.proofs.Answers.{unsound-answer, refused, accepted}
+use Rattle.session.proofs.Outcomes.{refuses, late-is, reports-late, reports}
+use Rattle.session.proofs.Answers.{unsound-answer, clock-busy, clock-back, clock-ends, clock-sets}
 use Rattle.session.proofs.Summing.{sumsTo, sums-none, sums-more, can-sum, can-end, until-is}
 use Rattle.session.proofs.Sound.{sound-of, count-high}
-use Rattle.session.proofs.Judging.{offset-fits, next-fits, fewer, Counting, Resting, counting-none, used, below, can-count, counting-more, resting-none, resting-more, can-judge, judged}
+use Rattle.session.proofs.Judging.{offset-fits, next-fits, below-eight, fewer, first-in, none-passed, one-passed, all-passed, Counting, Resting, counting-none, used, below, worst-positive, can-take, counting-more, resting-none, resting-more, can-judge, judged}
 use Rattle.session.proofs.Session.clock.Statement.{statement}
 use Rattle.session.proofs.Session.clock.Tie as tie
 
@@ -39,7 +37,7 @@ abbrev μ-loop3 : tie.MeasureT-loop3
 μ-loop3 time s i rest j at used before now back past h sums₀ k₀ sums k = s .count - k
 
 element-copy-out-first : tie.Need-element-copy-out-first Inv-loop μ-loop Inv-loop2 μ-loop2 Inv-loop3 μ-loop3
-element-copy-out-first c = omega arith
+element-copy-out-first c = first-in
 
 begin-requires : tie.Need-begin-requires Inv-loop μ-loop Inv-loop2 μ-loop2 Inv-loop3 μ-loop3
 begin-requires c κs = tt
@@ -49,7 +47,7 @@ loop-holds : tie.Need-loop-holds Inv-loop μ-loop Inv-loop2 μ-loop2 Inv-loop3 �
 loop-holds c =
     let s = c .before .before .args .t1 in
     let array = c .before .before .good .0 .1 .1 .1 .1 .1 .1 .1 .1 .1 .1 .0 in
-    rw (c .begin .ensures) (counting-none s (sym (length-map (s .streams) _) ∙ array .1 .0 .1))
+    counting-none s _ (c .begin .ensures) (sym (length-map (s .streams) _) ∙ array .1 .0 .1)
 
 mul-x : tie.Need-mul-x Inv-loop μ-loop Inv-loop2 μ-loop2 Inv-loop3 μ-loop3
 mul-x c = offset-fits _ (below _ _ _ (c .before .before .loop .inv) (c .if1 .taken))
@@ -58,13 +56,10 @@ element-copy-out-x : tie.Need-element-copy-out-x Inv-loop μ-loop Inv-loop2 μ-l
 element-copy-out-x c = below _ _ _ (c .before .before .loop .inv) (c .if1 .taken)
 
 is-in-order-requires : tie.Need-is-in-order-requires Inv-loop μ-loop Inv-loop2 μ-loop2 Inv-loop3 μ-loop3
-is-in-order-requires c κs = let at = c .before .before .before .loop in rw (sym (at .inv .counts .worst)) (can-count _ _ _ (at .inv) (c .before .if1 .taken) .worst-low)
+is-in-order-requires c κs = worst-positive _ _ _ (c .before .before .before .loop .inv) (c .before .if1 .taken)
 
 with-requires : tie.Need-with-requires Inv-loop μ-loop Inv-loop2 μ-loop2 Inv-loop3 μ-loop3
-with-requires c κs =
-    let at = c .before .before .before .before .loop in
-    let k = at .inv .counts in
-    (can-count _ _ _ (at .inv) (c .before .before .if1 .taken), rw (k .worst, k .span, k .padding) (c .is-in-order .ensures))
+with-requires c κs = can-take _ _ _ (c .before .before .before .before .loop .inv) (c .before .before .if1 .taken) _ _ (c .is-in-order .ensures)
 
 add-i : tie.Need-add-i Inv-loop μ-loop Inv-loop2 μ-loop2 Inv-loop3 μ-loop3
 add-i c = next-fits _ (below _ _ _ (c .before .before .before .before .before .loop .inv) (c .before .before .before .if1 .taken))
@@ -73,7 +68,7 @@ loop-less : tie.Need-loop-less Inv-loop μ-loop Inv-loop2 μ-loop2 Inv-loop3 μ-
 loop-less c = fewer _ _ (used _ _ _ (c .before .before .before .before .before .loop .inv) (c .before .before .before .if1 .taken))
 
 loop-again : tie.Need-loop-again Inv-loop μ-loop Inv-loop2 μ-loop2 Inv-loop3 μ-loop3
-loop-again c = let at = c .before .before .before .before .before .loop in rw (c .with .ensures) (counting-more _ _ _ (at .inv) (c .before .before .before .if1 .taken))
+loop-again c = counting-more _ _ _ (c .before .before .before .before .before .loop .inv) (c .before .before .before .if1 .taken) _ (c .with .ensures)
 
 loop2-holds : tie.Need-loop2-holds Inv-loop μ-loop Inv-loop2 μ-loop2 Inv-loop3 μ-loop3
 loop2-holds c = resting-none _ _ _ (c .before .before .loop .inv) (c .if1 .left)
@@ -94,7 +89,7 @@ loop2-less : tie.Need-loop2-less Inv-loop μ-loop Inv-loop2 μ-loop2 Inv-loop3 �
 loop2-less c = fewer 8 _ (c .before .before .loop2-test .taken)
 
 loop2-again : tie.Need-loop2-again Inv-loop μ-loop Inv-loop2 μ-loop2 Inv-loop3 μ-loop3
-loop2-again c = rw (c .is-unused .ensures) (resting-more _ _ _ _ (c .before .before .before .loop2 .inv) (c .before .before .loop2-test .taken))
+loop2-again c = resting-more _ _ _ _ (c .before .before .before .loop2 .inv) (c .before .before .loop2-test .taken) _ (c .is-unused .ensures)
 
 slot-of-requires : tie.Need-slot-of-requires Inv-loop μ-loop Inv-loop2 μ-loop2 Inv-loop3 μ-loop3
 slot-of-requires c κs = tt
@@ -112,7 +107,7 @@ is-sound-requires c κs = can-judge _ _ _ _ (c .before .before .before .before .
 tested : (c : tie.After-is-sound Inv-loop μ-loop Inv-loop2 μ-loop2 Inv-loop3 μ-loop3) → let s = c .before .before .before .before .before .before .before .before .before .before .before .args .t1 in
     let test = c .before .before .before .before .before .loop2 .rest && c .is-sound .result in
     (test ≡ sound s) × (test ≡ true → c .before .before .before .before .before .before .before .before .loop .census .horizon ≡ moment (horizon s))
-tested c = rw (c .is-sound .ensures) (judged _ _ _ _ (c .before .before .before .before .before .loop2 .inv) _ (c .before .before .before .slot-of .ensures .1) (c .before .before .before .before .loop2-test .left))
+tested c = judged _ _ _ _ (c .before .before .before .before .before .loop2 .inv) _ (c .before .before .before .slot-of .ensures .1) (c .before .before .before .before .loop2-test .left) _ (c .is-sound .ensures)
 
 ok : (c : tie.Then2 Inv-loop μ-loop Inv-loop2 μ-loop2 Inv-loop3 μ-loop3) → sound (c .before .before .before .before .before .before .before .before .before .before .before .before .args .t1) ≡ true
 ok c = sym (tested (c .before) .0) ∙ c .if2 .taken
@@ -127,55 +122,64 @@ is-after-requires : tie.Need-is-after-requires Inv-loop μ-loop Inv-loop2 μ-loo
 is-after-requires c κs = tt
 
 -- past 10 the disk is free, past 13 the time is not below the clock, and past 14 it stays in the session
+back : (c : tie.After-is-after Inv-loop μ-loop Inv-loop2 μ-loop2 Inv-loop3 μ-loop3) → let a = c .before .before .before .before .before .before .before .before .before .before .before .before .before .before .before .before .args in c .is-after .result ≡ ltb (a .time) (a .t1 .clock .0)
+back c = c .is-after .ensures ∙ ap (λ (now : Clock). ltb (now .0) (c .before .before .before .before .before .before .before .before .before .before .before .before .before .before .before .before .args .t1 .clock .0)) (c .before .at .ensures)
+
 onward : (c : tie.Then4 Inv-loop μ-loop Inv-loop2 μ-loop2 Inv-loop3 μ-loop3) → let a = c .before .before .before .before .before .before .before .before .before .before .before .before .before .before .before .before .before .args in ltb (a .time) (a .t1 .clock .0) ≡ false
-onward c = rw (c .before .before .at .ensures) at (sym (c .before .is-after .ensures) ∙ not-true _ (c .if4 .taken))
+onward c = sym (back (c .before)) ∙ not-true _ (c .if4 .taken)
 
 is-past-end-requires : tie.Need-is-past-end-requires Inv-loop μ-loop Inv-loop2 μ-loop2 Inv-loop3 μ-loop3
 is-past-end-requires c κs = tt
 
-in-time : (c : tie.Then5 Inv-loop μ-loop Inv-loop2 μ-loop2 Inv-loop3 μ-loop3) → let a = c .before .before .before .before .before .before .before .before .before .before .before .before .before .before .before .before .before .before .before .args in ltb session-end (a .time) ≡ false
-in-time c = rw (c .before .before .before .before .at .ensures) at (sym (c .before .is-past-end .ensures) ∙ not-true _ (c .if5 .taken))
+past : (c : tie.After-is-past-end Inv-loop μ-loop Inv-loop2 μ-loop2 Inv-loop3 μ-loop3) → c .is-past-end .result ≡ ltb session-end (c .before .before .before .before .before .before .before .before .before .before .before .before .before .before .before .before .before .before .args .time)
+past c = c .is-past-end .ensures ∙ ap (λ (now : Clock). ltb session-end (now .0)) (c .before .before .before .at .ensures)
+
+in-time : (c : tie.Then5 Inv-loop μ-loop Inv-loop2 μ-loop2 Inv-loop3 μ-loop3) → ltb session-end (c .before .before .before .before .before .before .before .before .before .before .before .before .before .before .before .before .before .before .before .args .time) ≡ false
+in-time c = sym (past (c .before)) ∙ not-true _ (c .if5 .taken)
 
 of-requires : tie.Need-of-requires Inv-loop μ-loop Inv-loop2 μ-loop2 Inv-loop3 μ-loop3
 of-requires c κs = tt
 
 loop3-holds : tie.Need-loop3-holds Inv-loop μ-loop Inv-loop2 μ-loop2 Inv-loop3 μ-loop3
-loop3-holds c = (omega arith, rw (c .of .ensures) (sums-none _))
+loop3-holds c = (none-passed _, sums-none _ _ (c .of .ensures))
+
+-- the sums go over used streams
+inside : (c : tie.In-loop3 Inv-loop μ-loop Inv-loop2 μ-loop2 Inv-loop3 μ-loop3) → c .before .loop3 .k < 8
+inside c = below-eight _ _ (c .loop3-test .taken) (count-high _ (ok (c .before .before .before .before .before .before .before .before .before .before .before)))
 
 mul-x-3 : tie.Need-mul-x-3 Inv-loop μ-loop Inv-loop2 μ-loop2 Inv-loop3 μ-loop3
-mul-x-3 c = omega (arith, count-high _ (ok (c .before .before .before .before .before .before .before .before .before .before .before)))
+mul-x-3 c = offset-fits _ (inside c)
 
 element-copy-out-x-3 : tie.Need-element-copy-out-x-3 Inv-loop μ-loop Inv-loop2 μ-loop2 Inv-loop3 μ-loop3
-element-copy-out-x-3 c = omega (arith, count-high _ (ok (c .before .before .before .before .before .before .before .before .before .before .before)))
+element-copy-out-x-3 c = inside c
 
 summed-requires : tie.Need-summed-requires Inv-loop μ-loop Inv-loop2 μ-loop2 Inv-loop3 μ-loop3
 summed-requires c κs =
     let at = c .before .before .loop3 in
-    rw (at .inv .1, ahead (c .before .before .before .before .before .before .before .before .before .before .before .before)) (can-sum _ (sound-of _ (ok (c .before .before .before .before .before .before .before .before .before .before .before .before))) (at .k) (omega arith))
+    can-sum _ _ (ahead (c .before .before .before .before .before .before .before .before .before .before .before .before)) (sound-of _ (ok (c .before .before .before .before .before .before .before .before .before .before .before .before))) (at .k) (at .sums) (at .inv .1) (c .before .loop3-test .taken)
 
 add-k : tie.Need-add-k Inv-loop μ-loop Inv-loop2 μ-loop2 Inv-loop3 μ-loop3
-add-k c = omega (arith, count-high _ (ok (c .before .before .before .before .before .before .before .before .before .before .before .before .before)))
+add-k c = next-fits _ (inside (c .before .before))
 
 loop3-less : tie.Need-loop3-less Inv-loop μ-loop Inv-loop2 μ-loop2 Inv-loop3 μ-loop3
-loop3-less c = omega arith
+loop3-less c = fewer _ _ (c .before .before .loop3-test .taken)
 
 loop3-again : tie.Need-loop3-again Inv-loop μ-loop Inv-loop2 μ-loop2 Inv-loop3 μ-loop3
 loop3-again c =
     let at = c .before .before .before .loop3 in
-    (omega arith, rw (c .summed .ensures, ahead (c .before .before .before .before .before .before .before .before .before .before .before .before .before), at .inv .1) (sums-more _ (at .k)))
+    (one-passed _ _ (c .before .before .loop3-test .taken), sums-more _ _ (ahead (c .before .before .before .before .before .before .before .before .before .before .before .before .before)) (at .k) (at .sums) _ (at .inv .1) (c .summed .ensures))
 
 -- the loop ends with the sums of all streams
-whole : (c : tie.After-loop3 Inv-loop μ-loop Inv-loop2 μ-loop2 Inv-loop3 μ-loop3) → c .before .loop3 .sums ≡ sumsTo (c .before .before .before .before .before .before .before .before .before .before .before .before .before .before .before .before .before .before .before .before .before .before .before .args .t1) (c .before .before .before .before .before .before .before .before .before .before .before .before .before .before .before .before .before .before .before .before .before .before .before .args .t1 .count)
+whole : (c : tie.After-loop3 Inv-loop μ-loop Inv-loop2 μ-loop2 Inv-loop3 μ-loop3) → let s = c .before .before .before .before .before .before .before .before .before .before .before .before .before .before .before .before .before .before .before .before .before .before .before .args .t1 in c .before .loop3 .sums ≡ sumsTo s (s .count)
 whole c =
     let at = c .before .loop3 in
-    let e : at .k ≡ c .before .before .before .before .before .before .before .before .before .before .before .before .before .before .before .before .before .before .before .before .before .before .before .args .t1 .count = omega arith in
-    at .inv .1 ∙ ap (sumsTo (c .before .before .before .before .before .before .before .before .before .before .before .before .before .before .before .before .before .before .before .before .before .before .before .args .t1)) e
+    at .inv .1 ∙ ap (sumsTo (c .before .before .before .before .before .before .before .before .before .before .before .before .before .before .before .before .before .before .before .before .before .before .before .args .t1)) (all-passed _ _ (at .inv .0) (c .loop3-test .left))
 
 less-remainders-requires : tie.Need-less-remainders-requires Inv-loop μ-loop Inv-loop2 μ-loop2 Inv-loop3 μ-loop3
-less-remainders-requires c κs = rw (whole c, ahead (c .before .before .before .before .before .before .before .before .before .before .before)) (can-end _ (sound-of _ (ok (c .before .before .before .before .before .before .before .before .before .before .before))))
+less-remainders-requires c κs = can-end _ _ (ahead (c .before .before .before .before .before .before .before .before .before .before .before)) (sound-of _ (ok (c .before .before .before .before .before .before .before .before .before .before .before))) _ (whole c)
 
 until : (c : tie.After-less-remainders Inv-loop μ-loop Inv-loop2 μ-loop2 Inv-loop3 μ-loop3) → c .less-remainders .result ≡ moment (latest (c .before .before .before .before .before .before .before .before .before .before .before .before .before .before .before .before .before .before .before .before .before .before .before .before .args .t1))
-until c = rw (c .less-remainders .ensures, whole (c .before), ahead (c .before .before .before .before .before .before .before .before .before .before .before .before)) (until-is _)
+until c = until-is _ _ (ahead (c .before .before .before .before .before .before .before .before .before .before .before .before)) _ _ (whole (c .before)) (c .less-remainders .ensures)
 
 is-after-requires-2 : tie.Need-is-after-requires-2 Inv-loop μ-loop Inv-loop2 μ-loop2 Inv-loop3 μ-loop3
 is-after-requires-2 c κs = tt
@@ -185,44 +189,40 @@ is-after-requires-3 c κs = tt
 
 -- what a report of the time is answered
 answered : (c : tie.After-is-after3 Inv-loop μ-loop Inv-loop2 μ-loop2 Inv-loop3 μ-loop3) → let a = c .before .before .before .before .before .before .before .before .before .before .before .before .before .before .before .before .before .before .before .before .before .before .before .before .before .before .args in answerTo (a .t1) (Call.Clock (a .time)) ≡ outcome (a .t1) (set-clock (a .time))
-unfolding callRefusal given _or-next_ busy effect
-answered c =
-    let a = c .before .before .before .before .before .before .before .before .before .before .before .before .before .before .before .before .before .before .before .before .before .before .before .before .before .before .args in
-    accepted (a .t1) (Call.Clock (a .time)) (ok (c .before .before .before .before .before .before .before .before .before .before .before .before .before .before)) (rw (eq-eqb _ _ (c .before .before .before .before .before .before .before .before .before .before .before .before .before .if3 .taken), onward (c .before .before .before .before .before .before .before .before .before), in-time (c .before .before .before .before .before .before .before)))
+answered c = clock-sets _ _ (ok (c .before .before .before .before .before .before .before .before .before .before .before .before .before .before)) (c .before .before .before .before .before .before .before .before .before .before .before .before .before .if3 .taken) (onward (c .before .before .before .before .before .before .before .before .before)) (in-time (c .before .before .before .before .before .before .before))
 
 lateness : (c : tie.After-is-after3 Inv-loop μ-loop Inv-loop2 μ-loop2 Inv-loop3 μ-loop3) → let a = c .before .before .before .before .before .before .before .before .before .before .before .before .before .before .before .before .before .before .before .before .before .before .before .before .before .before .args in (c .before .is-after2 .result && c .is-after3 .result) ≡ late (a .t1) (a .time)
-unfolding late
-lateness c = rw (c .before .is-after2 .ensures, c .is-after3 .ensures, until (c .before .before), c .before .before .before .before .before .before .before .before .before .before .before .at .ensures)
+lateness c = late-is _ _ _ _ _ _ (c .before .before .before .before .before .before .before .before .before .before .before .at .ensures) (until (c .before .before)) (c .before .is-after2 .ensures) (c .is-after3 .ensures)
 
 returns : tie.Need-returns Inv-loop μ-loop Inv-loop2 μ-loop2 Inv-loop3 μ-loop3
-returns c = clocked-late _ _ _ (c .before .before .before .before .before .before .before .before .before .before .before .before .at .ensures) (sym (lateness (c .before)) ∙ c .if6 .taken) ∙ sym (answered (c .before))
+returns c =
+    let a = c .before .before .before .before .before .before .before .before .before .before .before .before .before .before .before .before .before .before .before .before .before .before .before .before .before .before .before .args in
+    reports-late (a .t1) (Call.Clock (a .time)) (a .time) (c .before .before .before .before .before .before .before .before .before .before .before .before .at .result) (c .before .before .before .before .before .before .before .before .before .before .before .before .at .ensures) (answered (c .before)) (sym (lateness (c .before)) ∙ c .if6 .taken)
 
 returns-2 : tie.Need-returns-2 Inv-loop μ-loop Inv-loop2 μ-loop2 Inv-loop3 μ-loop3
-returns-2 c = clocked _ _ _ (c .before .before .before .before .before .before .before .before .before .before .before .before .at .ensures) (sym (lateness (c .before)) ∙ c .if6 .left) ∙ sym (answered (c .before))
+returns-2 c =
+    let a = c .before .before .before .before .before .before .before .before .before .before .before .before .before .before .before .before .before .before .before .before .before .before .before .before .before .before .before .args in
+    reports (a .t1) (Call.Clock (a .time)) (a .time) (c .before .before .before .before .before .before .before .before .before .before .before .before .at .result) (c .before .before .before .before .before .before .before .before .before .before .before .before .at .ensures) (answered (c .before)) (sym (lateness (c .before)) ∙ c .if6 .left)
 
 returns-3 : tie.Need-returns-3 Inv-loop μ-loop Inv-loop2 μ-loop2 Inv-loop3 μ-loop3
-unfolding callRefusal given _or-next_ busy apply replyTo
 returns-3 c =
     let a = c .before .before .before .before .before .before .before .before .before .before .before .before .before .before .before .before .before .before .before .args in
-    let test = rw (c .before .before .before .before .at .ensures) at (sym (c .before .is-past-end .ensures) ∙ not-false _ (c .if5 .left)) in
-    sym (refused (a .t1) (Call.Clock (a .time)) (ok (c .before .before .before .before .before .before .before)) 13 (rw (eq-eqb _ _ (c .before .before .before .before .before .before .if3 .taken), onward (c .before .before), test)))
+    refuses (a .t1) (Call.Clock (a .time)) 14 (clock-ends (a .t1) (a .time) (ok (c .before .before .before .before .before .before .before)) (c .before .before .before .before .before .before .if3 .taken) (onward (c .before .before)) (sym (past (c .before)) ∙ not-false _ (c .if5 .left)))
 
 returns-4 : tie.Need-returns-4 Inv-loop μ-loop Inv-loop2 μ-loop2 Inv-loop3 μ-loop3
-unfolding callRefusal given _or-next_ busy apply replyTo
 returns-4 c =
     let a = c .before .before .before .before .before .before .before .before .before .before .before .before .before .before .before .before .before .args in
-    let test = rw (c .before .before .at .ensures) at (sym (c .before .is-after .ensures) ∙ not-false _ (c .if4 .left)) in
-    sym (refused (a .t1) (Call.Clock (a .time)) (ok (c .before .before .before .before .before)) 12 (rw (eq-eqb _ _ (c .before .before .before .before .if3 .taken), test)))
+    refuses (a .t1) (Call.Clock (a .time)) 13 (clock-back (a .t1) (a .time) (ok (c .before .before .before .before .before)) (c .before .before .before .before .if3 .taken) (sym (back (c .before)) ∙ not-false _ (c .if4 .left)))
 
 returns-5 : tie.Need-returns-5 Inv-loop μ-loop Inv-loop2 μ-loop2 Inv-loop3 μ-loop3
-unfolding callRefusal given _or-next_ busy apply replyTo
 returns-5 c =
     let a = c .before .before .before .before .before .before .before .before .before .before .before .before .before .args in
-    sym (refused (a .t1) (Call.Clock (a .time)) (ok (c .before)) 9 (rw (ne-eqb _ _ (c .if3 .left))))
+    refuses (a .t1) (Call.Clock (a .time)) 10 (clock-busy (a .t1) (a .time) (ok (c .before)) (c .if3 .left))
 
 returns-6 : tie.Need-returns-6 Inv-loop μ-loop Inv-loop2 μ-loop2 Inv-loop3 μ-loop3
-unfolding apply replyTo
-returns-6 c = sym (unsound-answer _ _ (sym (tested (c .before) .0) ∙ c .if2 .left))
+returns-6 c =
+    let a = c .before .before .before .before .before .before .before .before .before .before .before .before .args in
+    refuses (a .t1) (Call.Clock (a .time)) 31 (unsound-answer (a .t1) (Call.Clock (a .time)) (sym (tested (c .before) .0) ∙ c .if2 .left))
 
 pub clock-spec : {M : Type 1} → statement M
 clock-spec =

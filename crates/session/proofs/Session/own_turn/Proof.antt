@@ -1,20 +1,20 @@
 -- `Session::own_turn` judges the session, refuses by 31, 10, 8 and 15 and sends the request asked for: each way out rewrites the tests that led there.
-use borrow.Author.Tests.{eq-eqb, ne-eqb, lt-ltb, le-ltb, not-true, not-false}
+use borrow.Author.Tests.{not-true, not-false}
 use mathlib.Core.Bool.{true, false, _&&_}
-use mathlib.Core.Path.{_≡_, sym, _∙_}
-use native.Mathlib.Omega.{arith}
-use Prim.Native.Nat.{_≤_, _<_, _-_}
+use mathlib.Core.Path.{_≡_, sym, ap, subst, _∙_}
+use Prim.Native.Nat.{ℕ, _≤_, _<_, _-_}
 use lib.ListN.{length-map}
-use Rattle.table.specs.Refusal.{given, _or-next_}
 use Rattle.time.specs.Time.{moment}
-use Rattle.session.specs.Session.{streamAt, horizon, sound}
-use Rattle.session.specs.Calls.{send, noSuchStream, busy, callRefusal, effect, apply, replyTo, outcome, answerTo}
+use Rattle.stream.specs.Stream.{filled}
+use Rattle.session.specs.Session.{streamAt, horizon, filledAt, sound}
+use Rattle.session.specs.Calls.{send, noSuchStream, outcome, answerTo}
+use Rattle.time.specs.declared.Clock.{Clock}
 use Rattle.calls.specs.declared.Call.{Call}
-use Rattle.session.proofs.Outcomes.{sent}
-use Rattle.session.proofs.Answers.{unsound-answer, refused, accepted, sendable}
+use Rattle.session.proofs.Outcomes.{refuses, sends}
+use Rattle.session.proofs.Answers.{unsound-answer, sendable, own-busy, own-nowhere, own-outside, own-sends}
 use Rattle.session.proofs.Grounds.{Grounds, named}
-use Rattle.session.proofs.Sound.{sound-of, count-high, bounded}
-use Rattle.session.proofs.Judging.{offset-fits, next-fits, fewer, Counting, Resting, counting-none, used, below, can-count, counting-more, resting-none, resting-more, can-judge, judged}
+use Rattle.session.proofs.Sound.{sound-of, count-high, bounded-by}
+use Rattle.session.proofs.Judging.{offset-fits, place-fits, next-fits, below-eight, fewer, first-in, Counting, Resting, counting-none, used, below, worst-positive, can-take, counting-more, resting-none, resting-more, can-judge, judged}
 use Rattle.session.proofs.Session.own_turn.Statement.{statement}
 use Rattle.session.proofs.Session.own_turn.Tie as tie
 
@@ -31,7 +31,7 @@ abbrev μ-loop2 : tie.MeasureT-loop2
 μ-loop2 stream index s census i rest₀ j₀ rest j = 8 - j
 
 element-copy-out-first : tie.Need-element-copy-out-first Inv-loop μ-loop Inv-loop2 μ-loop2
-element-copy-out-first c = omega arith
+element-copy-out-first c = first-in
 
 begin-requires : tie.Need-begin-requires Inv-loop μ-loop Inv-loop2 μ-loop2
 begin-requires c κs = tt
@@ -41,7 +41,7 @@ loop-holds : tie.Need-loop-holds Inv-loop μ-loop Inv-loop2 μ-loop2
 loop-holds c =
     let s = c .before .before .args .t1 in
     let array = c .before .before .good .0 .1 .1 .1 .1 .1 .1 .1 .1 .1 .1 .0 in
-    rw (c .begin .ensures) (counting-none s (sym (length-map (s .streams) _) ∙ array .1 .0 .1))
+    counting-none s _ (c .begin .ensures) (sym (length-map (s .streams) _) ∙ array .1 .0 .1)
 
 mul-x : tie.Need-mul-x Inv-loop μ-loop Inv-loop2 μ-loop2
 mul-x c = offset-fits _ (below _ _ _ (c .before .before .loop .inv) (c .if1 .taken))
@@ -50,13 +50,10 @@ element-copy-out-x : tie.Need-element-copy-out-x Inv-loop μ-loop Inv-loop2 μ-l
 element-copy-out-x c = below _ _ _ (c .before .before .loop .inv) (c .if1 .taken)
 
 is-in-order-requires : tie.Need-is-in-order-requires Inv-loop μ-loop Inv-loop2 μ-loop2
-is-in-order-requires c κs = let at = c .before .before .before .loop in rw (sym (at .inv .counts .worst)) (can-count _ _ _ (at .inv) (c .before .if1 .taken) .worst-low)
+is-in-order-requires c κs = worst-positive _ _ _ (c .before .before .before .loop .inv) (c .before .if1 .taken)
 
 with-requires : tie.Need-with-requires Inv-loop μ-loop Inv-loop2 μ-loop2
-with-requires c κs =
-    let at = c .before .before .before .before .loop in
-    let k = at .inv .counts in
-    (can-count _ _ _ (at .inv) (c .before .before .if1 .taken), rw (k .worst, k .span, k .padding) (c .is-in-order .ensures))
+with-requires c κs = can-take _ _ _ (c .before .before .before .before .loop .inv) (c .before .before .if1 .taken) _ _ (c .is-in-order .ensures)
 
 add-i : tie.Need-add-i Inv-loop μ-loop Inv-loop2 μ-loop2
 add-i c = next-fits _ (below _ _ _ (c .before .before .before .before .before .loop .inv) (c .before .before .before .if1 .taken))
@@ -65,7 +62,7 @@ loop-less : tie.Need-loop-less Inv-loop μ-loop Inv-loop2 μ-loop2
 loop-less c = fewer _ _ (used _ _ _ (c .before .before .before .before .before .loop .inv) (c .before .before .before .if1 .taken))
 
 loop-again : tie.Need-loop-again Inv-loop μ-loop Inv-loop2 μ-loop2
-loop-again c = let at = c .before .before .before .before .before .loop in rw (c .with .ensures) (counting-more _ _ _ (at .inv) (c .before .before .before .if1 .taken))
+loop-again c = counting-more _ _ _ (c .before .before .before .before .before .loop .inv) (c .before .before .before .if1 .taken) _ (c .with .ensures)
 
 loop2-holds : tie.Need-loop2-holds Inv-loop μ-loop Inv-loop2 μ-loop2
 loop2-holds c = resting-none _ _ _ (c .before .before .loop .inv) (c .if1 .left)
@@ -86,7 +83,7 @@ loop2-less : tie.Need-loop2-less Inv-loop μ-loop Inv-loop2 μ-loop2
 loop2-less c = fewer 8 _ (c .before .before .loop2-test .taken)
 
 loop2-again : tie.Need-loop2-again Inv-loop μ-loop Inv-loop2 μ-loop2
-loop2-again c = rw (c .is-unused .ensures) (resting-more _ _ _ _ (c .before .before .before .loop2 .inv) (c .before .before .loop2-test .taken))
+loop2-again c = resting-more _ _ _ _ (c .before .before .before .loop2 .inv) (c .before .before .loop2-test .taken) _ (c .is-unused .ensures)
 
 slot-of-requires : tie.Need-slot-of-requires Inv-loop μ-loop Inv-loop2 μ-loop2
 slot-of-requires c κs = tt
@@ -104,7 +101,7 @@ is-sound-requires c κs = can-judge _ _ _ _ (c .before .before .before .before .
 tested : (c : tie.After-is-sound Inv-loop μ-loop Inv-loop2 μ-loop2) → let s = c .before .before .before .before .before .before .before .before .before .before .before .args .t1 in
     let test = c .before .before .before .before .before .loop2 .rest && c .is-sound .result in
     (test ≡ sound s) × (test ≡ true → c .before .before .before .before .before .before .before .before .loop .census .horizon ≡ moment (horizon s))
-tested c = rw (c .is-sound .ensures) (judged _ _ _ _ (c .before .before .before .before .before .loop2 .inv) _ (c .before .before .before .slot-of .ensures .1) (c .before .before .before .before .loop2-test .left))
+tested c = judged _ _ _ _ (c .before .before .before .before .before .loop2 .inv) _ (c .before .before .before .slot-of .ensures .1) (c .before .before .before .before .loop2-test .left) _ (c .is-sound .ensures)
 
 ok : (c : tie.Then2 Inv-loop μ-loop Inv-loop2 μ-loop2) → sound (c .before .before .before .before .before .before .before .before .before .before .before .before .args .t1) ≡ true
 ok c = sym (tested (c .before) .0) ∙ c .if2 .taken
@@ -117,38 +114,43 @@ own : (c : tie.Then4 Inv-loop μ-loop Inv-loop2 μ-loop2) → let a = c .before 
 unfolding noSuchStream
 own c = not-true _ (c .if4 .taken)
 
-here : (c : tie.Then4 Inv-loop μ-loop Inv-loop2 μ-loop2) → let a = c .before .before .before .before .before .before .before .before .before .before .before .before .before .before .args in (1 ≤ a .stream) × (a .stream - 1 < a .t1 .count) × (a .t1 .count ≤ 8)
-here c =
-    let a = c .before .before .before .before .before .before .before .before .before .before .before .before .before .before .args in
-    let n = named (a .t1) (a .stream) (own c) in
-    (n .0, n .1, count-high _ (ok (c .before .before)))
+here : (c : tie.Then4 Inv-loop μ-loop Inv-loop2 μ-loop2) → let a = c .before .before .before .before .before .before .before .before .before .before .before .before .before .before .args in (1 ≤ a .stream) × (a .stream - 1 < a .t1 .count)
+here c = named _ _ (own c)
+
+inside : (c : tie.Then4 Inv-loop μ-loop Inv-loop2 μ-loop2) → c .before .before .before .before .before .before .before .before .before .before .before .before .before .before .args .stream - 1 < 8
+inside c = below-eight _ _ (here c .1) (count-high _ (ok (c .before .before)))
 
 sub-n : tie.Need-sub-n Inv-loop μ-loop Inv-loop2 μ-loop2
 sub-n c = here c .0
 
 mul-x-3 : tie.Need-mul-x-3 Inv-loop μ-loop Inv-loop2 μ-loop2
-mul-x-3 c = omega (arith, here c)
+mul-x-3 c = offset-fits _ (inside c)
 
 element-copy-out-x-3 : tie.Need-element-copy-out-x-3 Inv-loop μ-loop Inv-loop2 μ-loop2
-element-copy-out-x-3 c = omega (arith, here c)
+element-copy-out-x-3 c = inside c
 
 filled-requires : tie.Need-filled-requires Inv-loop μ-loop Inv-loop2 μ-loop2
-filled-requires c κs = rw (ahead (c .before .before .before)) (bounded _ (sound-of _ (ok (c .before .before .before))) _ (here (c .before) .1))
+filled-requires c κs = bounded-by _ (sound-of _ (ok (c .before .before .before))) _ (ahead (c .before .before .before)) _ (here (c .before) .1)
 
--- past 15 the request is in the set
+-- the set has as many requests of the stream as the code counts, and past 15 the request is one of them
+set-size : (c : tie.After-filled Inv-loop μ-loop Inv-loop2 μ-loop2) → let a = c .before .before .before .before .before .before .before .before .before .before .before .before .before .before .before .before .args in c .filled .result ≡ filledAt (a .t1) (a .stream - 1)
+set-size c =
+    let a = c .before .before .before .before .before .before .before .before .before .before .before .before .before .before .before .before .args in
+    c .filled .ensures ∙ ap (λ (h : Clock). filled (a .t1 .worst) (h .0) (streamAt (a .t1) (a .stream - 1))) (ahead (c .before .before .before .before))
+
 grounds : (c : tie.Then5 Inv-loop μ-loop Inv-loop2 μ-loop2) → let a = c .before .before .before .before .before .before .before .before .before .before .before .before .before .before .before .before .before .args in Grounds (a .t1) (send (a .stream - 1) (a .index))
 grounds c =
     record {
       idle = c .before .before .before .before .if3 .taken;
       exists = here (c .before .before .before) .1;
-      inSet = rw (c .before .filled .ensures, ahead (c .before .before .before .before .before)) at (c .if5 .taken);
+      inSet = subst (λ (m : ℕ). c .before .before .before .before .before .before .before .before .before .before .before .before .before .before .before .before .before .args .index < m) (set-size (c .before)) (c .if5 .taken);
     }
 
 ranges : (c : tie.Then5 Inv-loop μ-loop Inv-loop2 μ-loop2) → let a = c .before .before .before .before .before .before .before .before .before .before .before .before .before .before .before .before .before .args in (a .stream - 1 < 8) × (a .index < 16) × (1 ≤ streamAt (a .t1) (a .stream - 1) .queued)
 ranges c = sendable _ (sound-of _ (ok (c .before .before .before .before .before))) _ _ (grounds c)
 
 mul-place : tie.Need-mul-place Inv-loop μ-loop Inv-loop2 μ-loop2
-mul-place c = omega (arith, ranges (c .before))
+mul-place c = place-fits _ (ranges (c .before) .1)
 
 array-read-place : tie.Need-array-read-place Inv-loop μ-loop Inv-loop2 μ-loop2
 array-read-place c = ranges (c .before) .1
@@ -157,53 +159,47 @@ without-requires : tie.Need-without-requires Inv-loop μ-loop Inv-loop2 μ-loop2
 without-requires c κs = let r = ranges (c .before) in (r .1, r .2)
 
 mul-y : tie.Need-mul-y Inv-loop μ-loop Inv-loop2 μ-loop2
-mul-y c = omega (arith, ranges (c .before .before) .0)
+mul-y c = offset-fits _ (ranges (c .before .before) .0)
 
 element-set-from-y : tie.Need-element-set-from-y Inv-loop μ-loop Inv-loop2 μ-loop2
 element-set-from-y c = ranges (c .before .before) .0
 
 add-self : tie.Need-add-self Inv-loop μ-loop Inv-loop2 μ-loop2
-add-self c = omega (arith, ranges (c .before .before) .0)
+add-self c = next-fits _ (ranges (c .before .before) .0)
 
 add-number : tie.Need-add-number Inv-loop μ-loop Inv-loop2 μ-loop2
-add-number c = omega (arith, ranges (c .before .before) .0)
+add-number c = next-fits _ (ranges (c .before .before) .0)
 
 -- what a choice from the set is answered
 chooses : (c : tie.After-without Inv-loop μ-loop Inv-loop2 μ-loop2) → let a = c .before .before .before .before .before .before .before .before .before .before .before .before .before .before .before .before .before .before .before .args in answerTo (a .t1) (Call.OwnTurn (a .stream) (a .index)) ≡ outcome (a .t1) (send (a .stream - 1) (a .index))
-unfolding callRefusal given _or-next_ busy effect
-chooses c =
-    let a = c .before .before .before .before .before .before .before .before .before .before .before .before .before .before .before .before .before .before .before .args in
-    let inside = grounds (c .before .before) .inSet in
-    accepted (a .t1) (Call.OwnTurn (a .stream) (a .index)) (ok (c .before .before .before .before .before .before .before)) (rw (eq-eqb _ _ (c .before .before .before .before .before .before .if3 .taken), own (c .before .before .before .before .before), lt-ltb _ _ inside))
+chooses c = own-sends _ _ _ (ok (c .before .before .before .before .before .before .before)) (c .before .before .before .before .before .before .if3 .taken) (own (c .before .before .before .before .before)) (grounds (c .before .before) .inSet)
 
 returns : tie.Need-returns Inv-loop μ-loop Inv-loop2 μ-loop2
 returns c =
     let a = c .before .before .before .before .before .before .before .before .before .before .before .before .before .before .before .before .before .before .before .args in
-    sent (a .t1) _ _ _ (c .without .ensures) ∙ sym (chooses c)
+    sends (a .t1) (Call.OwnTurn (a .stream) (a .index)) (a .stream - 1) (a .index) (c .without .result) (c .without .ensures) (chooses c)
 
 returns-2 : tie.Need-returns-2 Inv-loop μ-loop Inv-loop2 μ-loop2
-unfolding callRefusal given _or-next_ busy apply replyTo
 returns-2 c =
     let a = c .before .before .before .before .before .before .before .before .before .before .before .before .before .before .before .before .before .args in
-    let outside = rw (c .before .filled .ensures, ahead (c .before .before .before .before .before)) at (c .if5 .left) in
-    sym (refused (a .t1) (Call.OwnTurn (a .stream) (a .index)) (ok (c .before .before .before .before .before)) 14 (rw (eq-eqb _ _ (c .before .before .before .before .if3 .taken), own (c .before .before .before), le-ltb _ _ outside)))
+    let outside = subst (λ (m : ℕ). m ≤ a .index) (set-size (c .before)) (c .if5 .left) in
+    refuses (a .t1) (Call.OwnTurn (a .stream) (a .index)) 15 (own-outside (a .t1) (a .stream) (a .index) (ok (c .before .before .before .before .before)) (c .before .before .before .before .if3 .taken) (own (c .before .before .before)) outside)
 
 returns-3 : tie.Need-returns-3 Inv-loop μ-loop Inv-loop2 μ-loop2
-unfolding callRefusal given _or-next_ busy noSuchStream apply replyTo
+unfolding noSuchStream
 returns-3 c =
     let a = c .before .before .before .before .before .before .before .before .before .before .before .before .before .before .args in
-    let none : noSuchStream (a .t1) (a .stream) ≡ true = not-false _ (c .if4 .left) in
-    sym (refused (a .t1) (Call.OwnTurn (a .stream) (a .index)) (ok (c .before .before)) 7 (rw (eq-eqb _ _ (c .before .if3 .taken), none)))
+    refuses (a .t1) (Call.OwnTurn (a .stream) (a .index)) 8 (own-nowhere (a .t1) (a .stream) (a .index) (ok (c .before .before)) (c .before .if3 .taken) (not-false _ (c .if4 .left)))
 
 returns-4 : tie.Need-returns-4 Inv-loop μ-loop Inv-loop2 μ-loop2
-unfolding callRefusal given _or-next_ busy apply replyTo
 returns-4 c =
     let a = c .before .before .before .before .before .before .before .before .before .before .before .before .before .args in
-    sym (refused (a .t1) (Call.OwnTurn (a .stream) (a .index)) (ok (c .before)) 9 (rw (ne-eqb _ _ (c .if3 .left))))
+    refuses (a .t1) (Call.OwnTurn (a .stream) (a .index)) 10 (own-busy (a .t1) (a .stream) (a .index) (ok (c .before)) (c .if3 .left))
 
 returns-5 : tie.Need-returns-5 Inv-loop μ-loop Inv-loop2 μ-loop2
-unfolding apply replyTo
-returns-5 c = sym (unsound-answer _ _ (sym (tested (c .before) .0) ∙ c .if2 .left))
+returns-5 c =
+    let a = c .before .before .before .before .before .before .before .before .before .before .before .before .args in
+    refuses (a .t1) (Call.OwnTurn (a .stream) (a .index)) 31 (unsound-answer (a .t1) (Call.OwnTurn (a .stream) (a .index)) (sym (tested (c .before) .0) ∙ c .if2 .left))
 
 pub own-turn-spec : {M : Type 1} → statement M
 own-turn-spec =

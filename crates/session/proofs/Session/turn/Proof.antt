@@ -1,36 +1,30 @@
 -- `Session::turn` judges the session, refuses by 31 and 10 and sends where some slot is filled; else it waits or expires where a stream has a slot, and moves or refuses by 14 where none has.
-use borrow.Author.Tests.{ne-eqb, not-true, not-false}
+use borrow.Author.Tests.{not-true, not-false}
 use mathlib.Core.Bool.{true, false, _&&_}
-use mathlib.Core.Path.{_≡_, refl, sym, ap, ap₂, subst, subst₂, _∙_}
-use native.Mathlib.Omega.{arith}
-use native.Mathlib.Numerals.{add-one}
+use mathlib.Core.Path.{_≡_, refl, sym, ap, subst, subst₂, _∙_}
 use Prim.Native.Nat.{ℕ, _≤_, _<_, _-_}
-use lib.Dec.{leb}
+use lib.Dec.{ltb}
 use lib.ListN.{length-map}
 use Rattle.table.specs.Fold.{someTo}
-use Rattle.table.specs.Refusal.{given, _or-next_}
-use Rattle.table.proofs.Folds.{some-not-all}
 use Rattle.time.specs.Time.{session-end, moment}
-use Rattle.stream.specs.Stream.{closesPastEnd, lapsed, moved}
-use Rattle.session.specs.Session.{streamAt, horizon, slotsAt, someFilled, noSlot, latest, sound}
+use Rattle.session.specs.Session.{streamAt, horizon, someFilled, noSlot, latest, sound}
 use Rattle.stream.specs.Choice.{firstBest}
-use Rattle.session.specs.Choice.{nearestAt, chosen, expiresBefore, expiring}
-use Rattle.session.proofs.Lapses.{lapseOf, lapseTo, lapse-in, lapse-more}
-use Rattle.session.specs.Calls.{send, expire, busy, movePassesEnd, callRefusal, apply, replyTo, outcome}
+use Rattle.session.specs.Choice.{nearestAt, chosen, expiring}
+use Rattle.session.proofs.Lapses.{lapseOf}
+use Rattle.session.specs.Calls.{movePassesEnd}
 use Rattle.time.specs.declared.Clock.{Clock}
 use Rattle.stream.specs.declared.expiry.Lapse.{Lapse}
-use Rattle.stream.specs.declared.Stream.{Stream}
-use Rattle.session.specs.declared.Session.{Session}
 use Rattle.calls.specs.declared.Call.{Call}
-use Rattle.session.proofs.Sound.{Sound, sound-of, admits, count-high, bounded, deadline-high}
-use Rattle.stream.proofs.Fits.{charge-high, expired-high}
+use Rattle.session.proofs.Sound.{Sound, sound-of, count-high, bounded, bounded-by, deadline-high}
+use Rattle.stream.proofs.Fits.{charge-within, expired-within}
 use Rattle.session.proofs.Grounds.{chosen-grounds, expiring-grounds}
-use Rattle.session.proofs.Outcomes.{sent, waited, lapsed-one}
-use Rattle.session.proofs.Answers.{unsound-answer, refused, sendable, turn-sends, turn-waits, turn-expires, turn-moves, turn-ends}
-use Rattle.session.proofs.Picks.{Picked, picked-next, picked-none}
-use Rattle.session.proofs.Summing.{sumsTo, sums-none, sums-more, can-sum, can-end, until-is}
-use Rattle.session.proofs.Closings.{Moving, moving-none, moving-more, moving-all}
-use Rattle.session.proofs.Judging.{offset-fits, place-fits, next-fits, below-eight, fewer, all-passed, Counting, Resting, counting-none, used, below, can-count, counting-more, resting-none, resting-more, can-judge, judged}
+use Rattle.session.proofs.Outcomes.{refuses, sends, waits, expires}
+use Rattle.session.proofs.Answers.{unsound-answer, sendable, turn-busy, turn-sends, turn-waits, turn-expires, turn-moves, turn-ends}
+use Rattle.session.proofs.Picks.{Picked, picked-more, picked-none}
+use Rattle.session.proofs.Surveys.{Surveying, surveying-none, pointed, surveying-more, surveyed}
+use Rattle.session.proofs.Summing.{sumsTo, can-sum, can-end, until-is}
+use Rattle.session.proofs.Closings.{Moving, moving-none, moving-in, can-move, passed, moving-more, moving-all}
+use Rattle.session.proofs.Judging.{offset-fits, place-fits, next-fits, below-eight, fewer, first-in, none-passed, one-passed, all-passed, Counting, Resting, counting-none, used, below, worst-positive, can-take, counting-more, resting-none, resting-more, can-judge, judged}
 use Rattle.session.proofs.Session.turn.Statement.{statement}
 use Rattle.session.proofs.Session.turn.Tie as tie
 
@@ -53,11 +47,7 @@ abbrev μ-loop3 : tie.MeasureT-loop3
 μ-loop3 s i rest j at used h pick₀ k₀ pick k = s .count - k
 
 abbrev Inv-loop4 : tie.InvT-loop4
-Inv-loop4 s i rest j at used h k lapse₀ sums₀ passes₀ m₀ lapse sums passes m =
-    (m ≤ s .count)
-    × (lapse ≡ lapseTo (λ n. leb 1 (slotsAt s n)) (expiresBefore s) m)
-    × (sums ≡ sumsTo s m)
-    × (passes ≡ someTo (λ n. closesPastEnd (h .0) (streamAt s n)) m)
+Inv-loop4 s i rest j at used h k lapse₀ sums₀ passes₀ m₀ lapse sums passes m = Surveying s lapse sums passes m
 
 abbrev μ-loop4 : tie.MeasureT-loop4
 μ-loop4 s i rest j at used h k lapse₀ sums₀ passes₀ m₀ lapse sums passes m = s .count - m
@@ -69,7 +59,7 @@ abbrev μ-loop5 : tie.MeasureT-loop5
 μ-loop5 s₀ i rest j at used h k passes m now next₀ l₀ s next l = s .count - l
 
 element-copy-out-first : tie.Need-element-copy-out-first Inv-loop μ-loop Inv-loop2 μ-loop2 Inv-loop3 μ-loop3 Inv-loop4 μ-loop4 Inv-loop5 μ-loop5
-element-copy-out-first c = omega arith
+element-copy-out-first c = first-in
 
 begin-requires : tie.Need-begin-requires Inv-loop μ-loop Inv-loop2 μ-loop2 Inv-loop3 μ-loop3 Inv-loop4 μ-loop4 Inv-loop5 μ-loop5
 begin-requires c κs = tt
@@ -79,7 +69,7 @@ loop-holds : tie.Need-loop-holds Inv-loop μ-loop Inv-loop2 μ-loop2 Inv-loop3 �
 loop-holds c =
     let s = c .before .before .args .t1 in
     let array = c .before .before .good .0 .1 .1 .1 .1 .1 .1 .1 .1 .1 .1 .0 in
-    rw (c .begin .ensures) (counting-none s (sym (length-map (s .streams) _) ∙ array .1 .0 .1))
+    counting-none s _ (c .begin .ensures) (sym (length-map (s .streams) _) ∙ array .1 .0 .1)
 
 mul-x : tie.Need-mul-x Inv-loop μ-loop Inv-loop2 μ-loop2 Inv-loop3 μ-loop3 Inv-loop4 μ-loop4 Inv-loop5 μ-loop5
 mul-x c = offset-fits _ (below _ _ _ (c .before .before .loop .inv) (c .if1 .taken))
@@ -88,13 +78,10 @@ element-copy-out-x : tie.Need-element-copy-out-x Inv-loop μ-loop Inv-loop2 μ-l
 element-copy-out-x c = below _ _ _ (c .before .before .loop .inv) (c .if1 .taken)
 
 is-in-order-requires : tie.Need-is-in-order-requires Inv-loop μ-loop Inv-loop2 μ-loop2 Inv-loop3 μ-loop3 Inv-loop4 μ-loop4 Inv-loop5 μ-loop5
-is-in-order-requires c κs = let at = c .before .before .before .loop in rw (sym (at .inv .counts .worst)) (can-count _ _ _ (at .inv) (c .before .if1 .taken) .worst-low)
+is-in-order-requires c κs = worst-positive _ _ _ (c .before .before .before .loop .inv) (c .before .if1 .taken)
 
 with-requires : tie.Need-with-requires Inv-loop μ-loop Inv-loop2 μ-loop2 Inv-loop3 μ-loop3 Inv-loop4 μ-loop4 Inv-loop5 μ-loop5
-with-requires c κs =
-    let at = c .before .before .before .before .loop in
-    let k = at .inv .counts in
-    (can-count _ _ _ (at .inv) (c .before .before .if1 .taken), rw (k .worst, k .span, k .padding) (c .is-in-order .ensures))
+with-requires c κs = can-take _ _ _ (c .before .before .before .before .loop .inv) (c .before .before .if1 .taken) _ _ (c .is-in-order .ensures)
 
 add-i : tie.Need-add-i Inv-loop μ-loop Inv-loop2 μ-loop2 Inv-loop3 μ-loop3 Inv-loop4 μ-loop4 Inv-loop5 μ-loop5
 add-i c = next-fits _ (below _ _ _ (c .before .before .before .before .before .loop .inv) (c .before .before .before .if1 .taken))
@@ -103,7 +90,7 @@ loop-less : tie.Need-loop-less Inv-loop μ-loop Inv-loop2 μ-loop2 Inv-loop3 μ-
 loop-less c = fewer _ _ (used _ _ _ (c .before .before .before .before .before .loop .inv) (c .before .before .before .if1 .taken))
 
 loop-again : tie.Need-loop-again Inv-loop μ-loop Inv-loop2 μ-loop2 Inv-loop3 μ-loop3 Inv-loop4 μ-loop4 Inv-loop5 μ-loop5
-loop-again c = let at = c .before .before .before .before .before .loop in rw (c .with .ensures) (counting-more _ _ _ (at .inv) (c .before .before .before .if1 .taken))
+loop-again c = counting-more _ _ _ (c .before .before .before .before .before .loop .inv) (c .before .before .before .if1 .taken) _ (c .with .ensures)
 
 loop2-holds : tie.Need-loop2-holds Inv-loop μ-loop Inv-loop2 μ-loop2 Inv-loop3 μ-loop3 Inv-loop4 μ-loop4 Inv-loop5 μ-loop5
 loop2-holds c = resting-none _ _ _ (c .before .before .loop .inv) (c .if1 .left)
@@ -124,7 +111,7 @@ loop2-less : tie.Need-loop2-less Inv-loop μ-loop Inv-loop2 μ-loop2 Inv-loop3 �
 loop2-less c = fewer 8 _ (c .before .before .loop2-test .taken)
 
 loop2-again : tie.Need-loop2-again Inv-loop μ-loop Inv-loop2 μ-loop2 Inv-loop3 μ-loop3 Inv-loop4 μ-loop4 Inv-loop5 μ-loop5
-loop2-again c = rw (c .is-unused .ensures) (resting-more _ _ _ _ (c .before .before .before .loop2 .inv) (c .before .before .loop2-test .taken))
+loop2-again c = resting-more _ _ _ _ (c .before .before .before .loop2 .inv) (c .before .before .loop2-test .taken) _ (c .is-unused .ensures)
 
 slot-of-requires : tie.Need-slot-of-requires Inv-loop μ-loop Inv-loop2 μ-loop2 Inv-loop3 μ-loop3 Inv-loop4 μ-loop4 Inv-loop5 μ-loop5
 slot-of-requires c κs = tt
@@ -142,7 +129,7 @@ is-sound-requires c κs = can-judge _ _ _ _ (c .before .before .before .before .
 tested : (c : tie.After-is-sound Inv-loop μ-loop Inv-loop2 μ-loop2 Inv-loop3 μ-loop3 Inv-loop4 μ-loop4 Inv-loop5 μ-loop5) → let s = c .before .before .before .before .before .before .before .before .before .before .before .args .t1 in
     let test = c .before .before .before .before .before .loop2 .rest && c .is-sound .result in
     (test ≡ sound s) × (test ≡ true → c .before .before .before .before .before .before .before .before .loop .census .horizon ≡ moment (horizon s))
-tested c = rw (c .is-sound .ensures) (judged _ _ _ _ (c .before .before .before .before .before .loop2 .inv) _ (c .before .before .before .slot-of .ensures .1) (c .before .before .before .before .loop2-test .left))
+tested c = judged _ _ _ _ (c .before .before .before .before .before .loop2 .inv) _ (c .before .before .before .slot-of .ensures .1) (c .before .before .before .before .loop2-test .left) _ (c .is-sound .ensures)
 
 ok : (c : tie.Then2 Inv-loop μ-loop Inv-loop2 μ-loop2 Inv-loop3 μ-loop3 Inv-loop4 μ-loop4 Inv-loop5 μ-loop5) → sound (c .before .before .before .before .before .before .before .before .before .before .before .before .args .t1) ≡ true
 ok c = sym (tested (c .before) .0) ∙ c .if2 .taken
@@ -155,7 +142,7 @@ at-requires c κs = tt
 
 loop3-holds : tie.Need-loop3-holds Inv-loop μ-loop Inv-loop2 μ-loop2 Inv-loop3 μ-loop3 Inv-loop4 μ-loop4 Inv-loop5 μ-loop5
 unfolding someTo firstBest
-loop3-holds c = (omega arith, picked-none _ _ refl refl)
+loop3-holds c = (none-passed _, picked-none _ _ refl refl)
 
 mul-x-3 : tie.Need-mul-x-3 Inv-loop μ-loop Inv-loop2 μ-loop2 Inv-loop3 μ-loop3 Inv-loop4 μ-loop4 Inv-loop5 μ-loop5
 mul-x-3 c = offset-fits _ (below-eight _ _ (c .loop3-test .taken) (count-high _ (ok (c .before .before .before .before .before))))
@@ -164,7 +151,7 @@ element-copy-out-x-3 : tie.Need-element-copy-out-x-3 Inv-loop μ-loop Inv-loop2 
 element-copy-out-x-3 c = below-eight _ _ (c .loop3-test .taken) (count-high _ (ok (c .before .before .before .before .before)))
 
 consider-requires : tie.Need-consider-requires Inv-loop μ-loop Inv-loop2 μ-loop2 Inv-loop3 μ-loop3 Inv-loop4 μ-loop4 Inv-loop5 μ-loop5
-consider-requires c κs = rw (ahead (c .before .before .before .before .before .before)) (bounded _ (sound-of _ (ok (c .before .before .before .before .before .before))) (c .before .before .loop3 .k) (c .before .loop3-test .taken))
+consider-requires c κs = bounded-by _ (sound-of _ (ok (c .before .before .before .before .before .before))) _ (ahead (c .before .before .before .before .before .before)) (c .before .before .loop3 .k) (c .before .loop3-test .taken)
 
 add-k : tie.Need-add-k Inv-loop μ-loop Inv-loop2 μ-loop2 Inv-loop3 μ-loop3 Inv-loop4 μ-loop4 Inv-loop5 μ-loop5
 add-k c = next-fits _ (below-eight _ _ (c .before .before .loop3-test .taken) (count-high _ (ok (c .before .before .before .before .before .before .before))))
@@ -175,7 +162,7 @@ loop3-less c = fewer _ _ (c .before .before .loop3-test .taken)
 loop3-again : tie.Need-loop3-again Inv-loop μ-loop Inv-loop2 μ-loop2 Inv-loop3 μ-loop3 Inv-loop4 μ-loop4 Inv-loop5 μ-loop5
 loop3-again c =
     let at = c .before .before .before .loop3 in
-    (omega (arith, c .before .before .loop3-test .taken), rw (add-one, c .consider .ensures, ahead (c .before .before .before .before .before .before .before)) (picked-next _ (at .k) (at .pick) (at .inv .1)))
+    (one-passed _ _ (c .before .before .loop3-test .taken), picked-more (c .before .before .before .before .before .before .before .before .before .before .before .before .before .before .before .before .before .before .before .args .t1) (at .k) (at .pick) (at .inv .1) (c .before .before .before .before .before .before .before .before .before .before .before .before .before .before .before .before .loop .census .horizon) (c .consider .result) (ahead (c .before .before .before .before .before .before .before)) (c .consider .ensures))
 
 -- what the first search found, once it has passed all streams
 picked : (c : tie.After-loop3 Inv-loop μ-loop Inv-loop2 μ-loop2 Inv-loop3 μ-loop3 Inv-loop4 μ-loop4 Inv-loop5 μ-loop5) → let s = c .before .before .before .before .before .before .before .before .before .before .before .before .before .before .before .before .before .args .t1 in let pick = c .before .loop3 .pick in
@@ -232,86 +219,81 @@ of-requires : tie.Need-of-requires Inv-loop μ-loop Inv-loop2 μ-loop2 Inv-loop3
 of-requires c κs = tt
 
 loop4-holds : tie.Need-loop4-holds Inv-loop μ-loop Inv-loop2 μ-loop2 Inv-loop3 μ-loop3 Inv-loop4 μ-loop4 Inv-loop5 μ-loop5
-unfolding someTo firstBest
-loop4-holds c = (omega arith, refl, rw (c .of .ensures) (sums-none _), refl)
+loop4-holds c = surveying-none _ _ (c .of .ensures)
 
--- what the search for a slot points at is a used stream
-pointed : (c : tie.In-loop4 Inv-loop μ-loop Inv-loop2 μ-loop2 Inv-loop3 μ-loop3 Inv-loop4 μ-loop4 Inv-loop5 μ-loop5) → let s = c .before .before .before .before .before .before .before .before .before .before .before .before .before .before .before .before .before .before .before .before .before .args .t1 in (c .before .loop4 .lapse .stream < s .count) × (s .count ≤ 8)
-pointed c =
-    let s = c .before .before .before .before .before .before .before .before .before .before .before .before .before .before .before .before .before .before .before .before .before .args .t1 in
-    let at = c .before .loop4 in
-    let numbers = admits s (sound-of s (ok (c .before .before .before .before .before .before .before .before .before))) .numbers in
-    (rw (at .inv .1) (lapse-in (λ n. leb 1 (slotsAt s n)) (expiresBefore s) (at .m) (s .count) (at .inv .0) (numbers .count-low)), numbers .count-high)
+-- the survey goes over used streams, and so does what it points at
+inside : (c : tie.In-loop4 Inv-loop μ-loop Inv-loop2 μ-loop2 Inv-loop3 μ-loop3 Inv-loop4 μ-loop4 Inv-loop5 μ-loop5) → c .before .loop4 .m < 8
+inside c = below-eight _ _ (c .loop4-test .taken) (count-high _ (ok (c .before .before .before .before .before .before .before .before .before)))
+
+best : (c : tie.In-loop4 Inv-loop μ-loop Inv-loop2 μ-loop2 Inv-loop3 μ-loop3 Inv-loop4 μ-loop4 Inv-loop5 μ-loop5) → c .before .loop4 .lapse .stream < c .before .before .before .before .before .before .before .before .before .before .before .before .before .before .before .before .before .before .before .before .before .args .t1 .count
+best c = let at = c .before .loop4 in pointed _ (at .lapse) (at .sums) (at .passes) (at .m) (at .inv) (sound-of _ (ok (c .before .before .before .before .before .before .before .before .before)))
+
+best-in : (c : tie.In-loop4 Inv-loop μ-loop Inv-loop2 μ-loop2 Inv-loop3 μ-loop3 Inv-loop4 μ-loop4 Inv-loop5 μ-loop5) → c .before .loop4 .lapse .stream < 8
+best-in c = below-eight _ _ (best c) (count-high _ (ok (c .before .before .before .before .before .before .before .before .before)))
 
 mul-other : tie.Need-mul-other Inv-loop μ-loop Inv-loop2 μ-loop2 Inv-loop3 μ-loop3 Inv-loop4 μ-loop4 Inv-loop5 μ-loop5
-mul-other c = offset-fits _ (below-eight _ _ (pointed c .0) (pointed c .1))
+mul-other c = offset-fits _ (best-in c)
 
 element-copy-out-other : tie.Need-element-copy-out-other Inv-loop μ-loop Inv-loop2 μ-loop2 Inv-loop3 μ-loop3 Inv-loop4 μ-loop4 Inv-loop5 μ-loop5
-element-copy-out-other c = below-eight _ _ (pointed c .0) (pointed c .1)
+element-copy-out-other c = best-in c
 
 mul-x-5 : tie.Need-mul-x-5 Inv-loop μ-loop Inv-loop2 μ-loop2 Inv-loop3 μ-loop3 Inv-loop4 μ-loop4 Inv-loop5 μ-loop5
-mul-x-5 c = offset-fits _ (below-eight _ _ (c .before .loop4-test .taken) (pointed (c .before) .1))
+mul-x-5 c = offset-fits _ (inside (c .before))
 
 element-copy-out-x-5 : tie.Need-element-copy-out-x-5 Inv-loop μ-loop Inv-loop2 μ-loop2 Inv-loop3 μ-loop3 Inv-loop4 μ-loop4 Inv-loop5 μ-loop5
-element-copy-out-x-5 c = below-eight _ _ (c .before .loop4-test .taken) (pointed (c .before) .1)
+element-copy-out-x-5 c = inside (c .before)
 
 better-requires : tie.Need-better-requires Inv-loop μ-loop Inv-loop2 μ-loop2 Inv-loop3 μ-loop3 Inv-loop4 μ-loop4 Inv-loop5 μ-loop5
 better-requires c κs =
     let q = sound-of _ (ok (c .before .before .before .before .before .before .before .before .before .before .before)) in
-    rw (ahead (c .before .before .before .before .before .before .before .before .before .before .before)) (bounded _ q (c .before .before .before .loop4 .lapse .stream) (pointed (c .before .before) .0), bounded _ q (c .before .before .before .loop4 .m) (c .before .before .loop4-test .taken))
+    let h = ahead (c .before .before .before .before .before .before .before .before .before .before .before) in
+    (bounded-by _ q _ h _ (best (c .before .before)), bounded-by _ q _ h _ (c .before .before .loop4-test .taken))
 
 summed-requires : tie.Need-summed-requires Inv-loop μ-loop Inv-loop2 μ-loop2 Inv-loop3 μ-loop3 Inv-loop4 μ-loop4 Inv-loop5 μ-loop5
 summed-requires c κs =
     let at = c .before .before .before .before .loop4 in
-    rw (at .inv .2, ahead (c .before .before .before .before .before .before .before .before .before .before .before .before)) (can-sum _ (sound-of _ (ok (c .before .before .before .before .before .before .before .before .before .before .before .before))) (at .m) (c .before .before .before .loop4-test .taken))
+    can-sum _ _ (ahead (c .before .before .before .before .before .before .before .before .before .before .before .before)) (sound-of _ (ok (c .before .before .before .before .before .before .before .before .before .before .before .before))) (at .m) (at .sums) (at .inv .sum) (c .before .before .before .loop4-test .taken)
 
 closes-past-end-requires : tie.Need-closes-past-end-requires Inv-loop μ-loop Inv-loop2 μ-loop2 Inv-loop3 μ-loop3 Inv-loop4 μ-loop4 Inv-loop5 μ-loop5
 closes-past-end-requires c κs = bounded _ (sound-of _ (ok (c .before .before .before .before .before .before .before .before .before .before .before .before .before))) (c .before .before .before .before .before .loop4 .m) (c .before .before .before .before .loop4-test .taken) .deadline-high
 
 add-m : tie.Need-add-m Inv-loop μ-loop Inv-loop2 μ-loop2 Inv-loop3 μ-loop3 Inv-loop4 μ-loop4 Inv-loop5 μ-loop5
-add-m c = next-fits _ (below-eight _ _ (c .before .before .before .before .before .loop4-test .taken) (pointed (c .before .before .before .before .before) .1))
+add-m c = next-fits _ (inside (c .before .before .before .before .before))
 
 loop4-less : tie.Need-loop4-less Inv-loop μ-loop Inv-loop2 μ-loop2 Inv-loop3 μ-loop3 Inv-loop4 μ-loop4 Inv-loop5 μ-loop5
 loop4-less c = fewer _ _ (c .before .before .before .before .before .loop4-test .taken)
 
 loop4-again : tie.Need-loop4-again Inv-loop μ-loop Inv-loop2 μ-loop2 Inv-loop3 μ-loop3 Inv-loop4 μ-loop4 Inv-loop5 μ-loop5
-unfolding someTo
 loop4-again c =
-    let s = c .before .before .before .before .before .before .before .before .before .before .before .before .before .before .before .before .before .before .before .before .before .before .before .before .before .before .args .t1 in
-    let at = c .before .before .before .before .before .before .loop4 in (
-      omega (arith, c .before .before .before .before .before .loop4-test .taken),
-      rw (add-one, c .before .before .better .ensures, ahead (c .before .before .before .before .before .before .before .before .before .before .before .before .before .before), at .inv .1) (sym (lapse-more (λ n. leb 1 (slotsAt s n)) (expiresBefore s) (at .m))),
-      rw (c .before .summed .ensures, ahead (c .before .before .before .before .before .before .before .before .before .before .before .before .before .before), at .inv .2) (sums-more s (at .m)),
-      rw (add-one, c .closes-past-end .ensures, at .inv .3),
-    )
+    let at = c .before .before .before .before .before .before .loop4 in
+    surveying-more (c .before .before .before .before .before .before .before .before .before .before .before .before .before .before .before .before .before .before .before .before .before .before .before .before .before .before .args .t1) (at .lapse) (at .sums) (at .passes) (at .m) (at .inv) (c .before .before .before .before .before .before .before .before .before .before .before .before .before .before .before .before .before .before .before .before .before .before .before .loop .census .horizon) (c .before .before .better .result) (c .before .summed .result) (c .closes-past-end .result) (ahead (c .before .before .before .before .before .before .before .before .before .before .before .before .before .before)) (c .before .before .before .before .before .loop4-test .taken) (c .before .before .better .ensures) (c .before .summed .ensures) (c .closes-past-end .ensures)
 
 -- what the second search found
-surveyed : (c : tie.After-loop4 Inv-loop μ-loop Inv-loop2 μ-loop2 Inv-loop3 μ-loop3 Inv-loop4 μ-loop4 Inv-loop5 μ-loop5) → let s = c .before .before .before .before .before .before .before .before .before .before .before .before .before .before .before .before .before .before .before .before .before .args .t1 in let at = c .before .loop4 in
+seen : (c : tie.After-loop4 Inv-loop μ-loop Inv-loop2 μ-loop2 Inv-loop3 μ-loop3 Inv-loop4 μ-loop4 Inv-loop5 μ-loop5) → let s = c .before .before .before .before .before .before .before .before .before .before .before .before .before .before .before .before .before .before .before .before .before .args .t1 in let at = c .before .loop4 in
     (at .lapse ≡ lapseOf s) × (at .sums ≡ sumsTo s (s .count)) × (at .passes ≡ movePassesEnd s)
-unfolding lapseOf noSlot expiring movePassesEnd
-surveyed c =
-    let s = c .before .before .before .before .before .before .before .before .before .before .before .before .before .before .before .before .before .before .before .before .before .args .t1 in
-    let at = c .before .loop4 in
-    let e : at .m ≡ s .count = all-passed _ _ (at .inv .0) (c .loop4-test .left) in
-    (rw (at .inv .1, e, some-not-all (slotsAt s) (s .count)), at .inv .2 ∙ ap (sumsTo s) e, rw (at .inv .3, e, ahead (c .before .before .before .before .before .before .before .before .before)))
+seen c = let at = c .before .loop4 in surveyed _ (at .lapse) (at .sums) (at .passes) (at .m) (at .inv) (c .loop4-test .left)
 
 -- a stream has a slot, or none has
 slot : (c : tie.Then5 Inv-loop μ-loop Inv-loop2 μ-loop2 Inv-loop3 μ-loop3 Inv-loop4 μ-loop4 Inv-loop5 μ-loop5) → noSlot (c .before .before .before .before .before .before .before .before .before .before .before .before .before .before .before .before .before .before .before .before .before .before .args .t1) ≡ false
 unfolding lapseOf
-slot c = not-true _ (sym (ap (λ (l : Lapse). l .found) (surveyed (c .before) .0)) ∙ c .if5 .taken)
+slot c = not-true _ (sym (ap (λ (l : Lapse). l .found) (seen (c .before) .0)) ∙ c .if5 .taken)
 
 over : (c : tie.Else5 Inv-loop μ-loop Inv-loop2 μ-loop2 Inv-loop3 μ-loop3 Inv-loop4 μ-loop4 Inv-loop5 μ-loop5) → noSlot (c .before .before .before .before .before .before .before .before .before .before .before .before .before .before .before .before .before .before .before .before .before .before .args .t1) ≡ true
 unfolding lapseOf
-over c = not-false _ (sym (ap (λ (l : Lapse). l .found) (surveyed (c .before) .0)) ∙ c .if5 .left)
+over c = not-false _ (sym (ap (λ (l : Lapse). l .found) (seen (c .before) .0)) ∙ c .if5 .left)
 
 less-remainders-requires : tie.Need-less-remainders-requires Inv-loop μ-loop Inv-loop2 μ-loop2 Inv-loop3 μ-loop3 Inv-loop4 μ-loop4 Inv-loop5 μ-loop5
-less-remainders-requires c κs = rw (surveyed (c .before) .1, ahead (c .before .before .before .before .before .before .before .before .before .before)) (can-end _ (sound-of _ (ok (c .before .before .before .before .before .before .before .before .before .before))))
+less-remainders-requires c κs = can-end _ _ (ahead (c .before .before .before .before .before .before .before .before .before .before)) (sound-of _ (ok (c .before .before .before .before .before .before .before .before .before .before))) _ (seen (c .before) .1)
 
 until : (c : tie.After-less-remainders Inv-loop μ-loop Inv-loop2 μ-loop2 Inv-loop3 μ-loop3 Inv-loop4 μ-loop4 Inv-loop5 μ-loop5) → c .less-remainders .result ≡ moment (latest (c .before .before .before .before .before .before .before .before .before .before .before .before .before .before .before .before .before .before .before .before .before .before .before .args .t1))
-until c = rw (c .less-remainders .ensures, surveyed (c .before .before) .1, ahead (c .before .before .before .before .before .before .before .before .before .before .before)) (until-is _)
+until c = until-is _ _ (ahead (c .before .before .before .before .before .before .before .before .before .before .before)) _ _ (seen (c .before .before) .1) (c .less-remainders .ensures)
 
 is-after-requires : tie.Need-is-after-requires Inv-loop μ-loop Inv-loop2 μ-loop2 Inv-loop3 μ-loop3 Inv-loop4 μ-loop4 Inv-loop5 μ-loop5
 is-after-requires c κs = tt
+
+-- whether the clock is before the latest safe moment
+early : (c : tie.After-is-after Inv-loop μ-loop Inv-loop2 μ-loop2 Inv-loop3 μ-loop3 Inv-loop4 μ-loop4 Inv-loop5 μ-loop5) → let s = c .before .before .before .before .before .before .before .before .before .before .before .before .before .before .before .before .before .before .before .before .before .before .before .before .before .args .t1 in c .is-after .result ≡ ltb (s .clock .0) (latest s)
+early c = c .is-after .ensures ∙ ap (λ (until : Clock). ltb (c .before .before .before .before .before .before .before .before .before .before .before .before .before .before .before .before .before .before .before .before .before .before .before .before .before .args .t1 .clock .0) (until .0)) (until (c .before .before))
 
 -- the slot that expires is a used stream's, whose numbers are small
 expired-at : (c : tie.Else6 Inv-loop μ-loop Inv-loop2 μ-loop2 Inv-loop3 μ-loop3 Inv-loop4 μ-loop4 Inv-loop5 μ-loop5) → let s = c .before .before .before .before .before .before .before .before .before .before .before .before .before .before .before .before .before .before .before .before .before .before .before .before .before .before .args .t1 in let n = c .before .before .before .before .before .before .loop4 .lapse .stream in
@@ -321,8 +303,8 @@ expired-at c =
     let s = c .before .before .before .before .before .before .before .before .before .before .before .before .before .before .before .before .before .before .before .before .before .before .before .before .before .before .args .t1 in
     let g = expiring-grounds s (c .before .before .before .before .before .before .before .before .before .before .before .before .before .if3 .taken) (slot (c .before .before .before .before)) in
     let x = bounded s (sound-of s (ok (c .before .before .before .before .before .before .before .before .before .before .before .before .before .before))) (expiring s) (g .exists) in
-    rw (ap (λ (l : Lapse). l .stream) (surveyed (c .before .before .before .before .before) .0))
-    (omega (arith, g .exists, count-high s (ok (c .before .before .before .before .before .before .before .before .before .before .before .before .before .before))), omega (arith, charge-high x), omega (arith, expired-high x))
+    rw (ap (λ (l : Lapse). l .stream) (seen (c .before .before .before .before .before) .0))
+    (below-eight _ _ (g .exists) (count-high s (ok (c .before .before .before .before .before .before .before .before .before .before .before .before .before .before))), charge-within x, expired-within x)
 
 mul-x-6 : tie.Need-mul-x-6 Inv-loop μ-loop Inv-loop2 μ-loop2 Inv-loop3 μ-loop3 Inv-loop4 μ-loop4 Inv-loop5 μ-loop5
 mul-x-6 c = offset-fits _ (expired-at c .0)
@@ -343,24 +325,21 @@ add-number-2 : tie.Need-add-number-2 Inv-loop μ-loop Inv-loop2 μ-loop2 Inv-loo
 add-number-2 c = next-fits _ (expired-at (c .before .before .before) .0)
 
 element-copy-out-lowest : tie.Need-element-copy-out-lowest Inv-loop μ-loop Inv-loop2 μ-loop2 Inv-loop3 μ-loop3 Inv-loop4 μ-loop4 Inv-loop5 μ-loop5
-element-copy-out-lowest c = omega arith
+element-copy-out-lowest c = first-in
 
 moved-requires : tie.Need-moved-requires Inv-loop μ-loop Inv-loop2 μ-loop2 Inv-loop3 μ-loop3 Inv-loop4 μ-loop4 Inv-loop5 μ-loop5
-moved-requires c κs = deadline-high _ (sound-of _ (ok (c .before .before .before .before .before .before .before .before .before .before .before .before .before))) 0 (omega arith)
+moved-requires c κs = deadline-high _ (sound-of _ (ok (c .before .before .before .before .before .before .before .before .before .before .before .before .before))) 0 first-in
 
 loop5-holds : tie.Need-loop5-holds Inv-loop μ-loop Inv-loop2 μ-loop2 Inv-loop3 μ-loop3 Inv-loop4 μ-loop4 Inv-loop5 μ-loop5
 loop5-holds c =
     let s = c .before .before .before .before .before .before .before .before .before .before .before .before .before .before .before .before .before .before .before .before .before .before .before .before .before .before .before .args .t1 in
-    let q = sound-of s (ok (c .before .before .before .before .before .before .before .before .before .before .before .before .before .before .before)) in
-    let e = c .before .moved .ensures ∙ ap (λ (h : Clock). moved (s .clock) (h .0) (streamAt s 0)) (ahead (c .before .before .before .before .before .before .before .before .before .before .before .before .before .before .before)) in
-    (omega arith, refl, (q, subst (λ (y : Stream). Moving s q s (y .deadline) 0) (sym e) (moving-none s q)))
+    let sure = c .before .before .before .before .before .before .before .before .before .before .before .before .before .before .before in
+    let q = sound-of s (ok sure) in
+    (none-passed _, refl, (q, moving-none s q (c .before .before .before .before .before .before .before .before .before .before .before .before .before .before .before .before .before .before .before .before .before .before .before .before .loop .census .horizon) (c .before .moved .result) (ahead sure) (c .before .moved .ensures)))
 
 -- the move goes over used streams
 within : (c : tie.In-loop5 Inv-loop μ-loop Inv-loop2 μ-loop2 Inv-loop3 μ-loop3 Inv-loop4 μ-loop4 Inv-loop5 μ-loop5) → c .before .loop5 .l < 8
-within c =
-    let at = c .before .loop5 in
-    let kept = ap (λ (z : Session). z .count) (at .inv .2 .1 .cells) in
-    omega (arith, c .loop5-test .taken, kept, admits _ (at .inv .2 .0) .numbers .count-high)
+within c = let at = c .before .loop5 in moving-in _ (at .inv .2 .0) (at .self) (at .next) (at .l) (at .inv .2 .1) (c .loop5-test .taken)
 
 mul-x-7 : tie.Need-mul-x-7 Inv-loop μ-loop Inv-loop2 μ-loop2 Inv-loop3 μ-loop3 Inv-loop4 μ-loop4 Inv-loop5 μ-loop5
 mul-x-7 c = offset-fits _ (within c)
@@ -369,9 +348,7 @@ element-copy-out-x-7 : tie.Need-element-copy-out-x-7 Inv-loop μ-loop Inv-loop2 
 element-copy-out-x-7 c = within c
 
 moved-requires-2 : tie.Need-moved-requires-2 Inv-loop μ-loop Inv-loop2 μ-loop2 Inv-loop3 μ-loop3 Inv-loop4 μ-loop4 Inv-loop5 μ-loop5
-moved-requires-2 c κs =
-    let at = c .before .before .loop5 in
-    rw (at .inv .2 .1 .rest (at .l) (omega arith)) (deadline-high _ (at .inv .2 .0) (at .l) (within (c .before)))
+moved-requires-2 c κs = let at = c .before .before .loop5 in can-move _ (at .inv .2 .0) (at .self) (at .next) (at .l) (at .inv .2 .1) (within (c .before))
 
 mul-y-3 : tie.Need-mul-y-3 Inv-loop μ-loop Inv-loop2 μ-loop2 Inv-loop3 μ-loop3 Inv-loop4 μ-loop4 Inv-loop5 μ-loop5
 mul-y-3 c = offset-fits _ (within (c .before .before))
@@ -390,34 +367,36 @@ loop5-less c = fewer _ _ (c .before .before .before .loop5-test .taken)
 
 loop5-again : tie.Need-loop5-again Inv-loop μ-loop Inv-loop2 μ-loop2 Inv-loop3 μ-loop3 Inv-loop4 μ-loop4 Inv-loop5 μ-loop5
 loop5-again c =
+    let s = c .before .before .before .before .before .before .before .before .before .before .before .before .before .before .before .before .before .before .before .before .before .before .before .before .before .before .before .before .before .before .before .before .args .t1 in
     let at = c .before .before .before .before .loop5 in
     let q = at .inv .2 .0 in (
-      omega arith,
+      one-passed _ _ (c .before .before .before .loop5-test .taken),
       at .inv .1,
-      (q, moving-more _ q (at .self) (at .next) (at .l) _ _ _ _ (within (c .before .before .before)) (at .inv .2 .1) (at .inv .1) (ap (λ (z : Clock). z .0) (ahead (c .before .before .before .before .before .before .before .before .before .before .before .before .before .before .before .before .before .before .before .before))) (c .before .moved2 .ensures) (c .earlier .ensures)),
+      (q, moving-more s q (at .self) (at .next) (at .l) (s .clock) (c .earlier .result) (c .before .before .before .before .before .before .before .before .before .before .before .before .before .before .before .before .before .before .before .before .before .before .before .before .before .before .before .before .before .loop .census .horizon) (c .before .moved2 .result) (within (c .before .before .before)) (at .inv .2 .1) (at .inv .1) (ahead (c .before .before .before .before .before .before .before .before .before .before .before .before .before .before .before .before .before .before .before .before)) (c .before .moved2 .ensures) (c .earlier .ensures)),
     )
 
 returns : tie.Need-returns Inv-loop μ-loop Inv-loop2 μ-loop2 Inv-loop3 μ-loop3 Inv-loop4 μ-loop4 Inv-loop5 μ-loop5
 returns c =
     let s = c .before .before .before .before .before .before .before .before .before .before .before .before .before .before .before .before .before .before .before .before .before .args .t1 in
+    let pick = c .before .before .before .before .before .loop3 .pick in
     let p = picked (c .before .before .before .before) in
     let found = c .before .before .before .if4 .taken in
-    sent s _ _ _ (c .without .ensures) ∙ ap₂ (λ (i j : ℕ). outcome s (send i j)) (p .1) (p .2 found) ∙ sym (turn-sends s (ok (c .before .before .before .before .before .before .before .before .before)) (c .before .before .before .before .before .before .before .before .if3 .taken) (sym (p .0) ∙ found))
+    sends s Call.Turn (pick .stream) (pick .index) (c .without .result) (c .without .ensures)
+    (turn-sends s (ok (c .before .before .before .before .before .before .before .before .before)) (c .before .before .before .before .before .before .before .before .if3 .taken) (pick .stream) (pick .index) (p .1) (p .2 found) (sym (p .0) ∙ found))
 
 returns-2 : tie.Need-returns-2 Inv-loop μ-loop Inv-loop2 μ-loop2 Inv-loop3 μ-loop3 Inv-loop4 μ-loop4 Inv-loop5 μ-loop5
 returns-2 c =
     let s = c .before .before .before .before .before .before .before .before .before .before .before .before .before .before .before .before .before .before .before .before .before .before .before .before .before .before .args .t1 in
-    let early = rw (until (c .before .before .before)) at (sym (c .before .is-after .ensures) ∙ c .if6 .taken) in
-    waited s _ (until (c .before .before .before)) ∙ sym (turn-waits s (ok (c .before .before .before .before .before .before .before .before .before .before .before .before .before .before)) (c .before .before .before .before .before .before .before .before .before .before .before .before .before .if3 .taken) (none (c .before .before .before .before .before .before .before .before)) (slot (c .before .before .before .before)) early)
+    waits s Call.Turn (c .before .before .before .less-remainders .result) (until (c .before .before .before))
+    (turn-waits s (ok (c .before .before .before .before .before .before .before .before .before .before .before .before .before .before)) (c .before .before .before .before .before .before .before .before .before .before .before .before .before .if3 .taken) (none (c .before .before .before .before .before .before .before .before)) (slot (c .before .before .before .before)) (sym (early (c .before)) ∙ c .if6 .taken))
 
 returns-3 : tie.Need-returns-3 Inv-loop μ-loop Inv-loop2 μ-loop2 Inv-loop3 μ-loop3 Inv-loop4 μ-loop4 Inv-loop5 μ-loop5
 unfolding lapseOf
 returns-3 c =
     let s = c .before .before .before .before .before .before .before .before .before .before .before .before .before .before .before .before .before .before .before .before .before .before .before .before .before .before .before .before .before .args .t1 in
-    let late = rw (until (c .before .before .before .before .before .before)) at (sym (c .before .before .before .before .is-after .ensures) ∙ c .before .before .before .if6 .left) in
-    lapsed-one s _ _ (c .before .lapsed .ensures)
-    ∙ ap (λ (l : Lapse). outcome s (expire (l .stream))) (surveyed (c .before .before .before .before .before .before .before .before) .0)
-    ∙ sym (turn-expires s (ok (c .before .before .before .before .before .before .before .before .before .before .before .before .before .before .before .before .before)) (c .before .before .before .before .before .before .before .before .before .before .before .before .before .before .before .before .if3 .taken) (none (c .before .before .before .before .before .before .before .before .before .before .before)) (slot (c .before .before .before .before .before .before .before)) late)
+    let n = c .before .before .before .before .before .before .before .before .before .loop4 .lapse .stream in
+    expires s Call.Turn n (c .before .lapsed .result) (c .before .lapsed .ensures)
+    (turn-expires s (ok (c .before .before .before .before .before .before .before .before .before .before .before .before .before .before .before .before .before)) (c .before .before .before .before .before .before .before .before .before .before .before .before .before .before .before .before .if3 .taken) (none (c .before .before .before .before .before .before .before .before .before .before .before)) n (ap (λ (l : Lapse). l .stream) (seen (c .before .before .before .before .before .before .before .before) .0)) (slot (c .before .before .before .before .before .before .before)) (sym (early (c .before .before .before .before)) ∙ c .before .before .before .if6 .left))
 
 returns-4 : tie.Need-returns-4 Inv-loop μ-loop Inv-loop2 μ-loop2 Inv-loop3 μ-loop3 Inv-loop4 μ-loop4 Inv-loop5 μ-loop5
 returns-4 c =
@@ -425,23 +404,22 @@ returns-4 c =
     let at = c .before .loop5 in
     let q = at .inv .2 .0 in
     let m = at .inv .2 .1 in
-    let kept = ap (λ (z : Session). z .count) (m .cells) in
-    let e : at .l ≡ s .count = omega (arith, kept) in
-    let fits = sym (surveyed (c .before .before .before .before .before .before .before .before) .2) ∙ not-true _ (c .before .before .before .before .before .before .if7 .taken) in
-    moving-all _ q (at .self) (at .next) (subst (Moving _ q (at .self) (at .next)) e m)
-    ∙ sym (turn-moves s (ok (c .before .before .before .before .before .before .before .before .before .before .before .before .before .before .before .before .before)) (c .before .before .before .before .before .before .before .before .before .before .before .before .before .before .before .before .if3 .taken) (none (c .before .before .before .before .before .before .before .before .before .before .before)) (over (c .before .before .before .before .before .before .before)) fits)
+    let e = passed s q (at .self) (at .next) (at .l) m (at .inv .0) (c .loop5-test .left) in
+    let fits = sym (seen (c .before .before .before .before .before .before .before .before) .2) ∙ not-true _ (c .before .before .before .before .before .before .if7 .taken) in
+    moving-all s q Call.Turn (at .self) (at .next) (subst (Moving s q (at .self) (at .next)) e m)
+    (turn-moves s (ok (c .before .before .before .before .before .before .before .before .before .before .before .before .before .before .before .before .before)) (c .before .before .before .before .before .before .before .before .before .before .before .before .before .before .before .before .if3 .taken) (none (c .before .before .before .before .before .before .before .before .before .before .before)) (over (c .before .before .before .before .before .before .before)) fits)
 
 returns-5 : tie.Need-returns-5 Inv-loop μ-loop Inv-loop2 μ-loop2 Inv-loop3 μ-loop3 Inv-loop4 μ-loop4 Inv-loop5 μ-loop5
-unfolding apply replyTo
-returns-5 c = sym (turn-ends _ (ok (c .before .before .before .before .before .before .before .before .before .before .before)) (c .before .before .before .before .before .before .before .before .before .before .if3 .taken) (over (c .before)) (sym (surveyed (c .before .before) .2) ∙ not-false _ (c .if7 .left)))
+returns-5 c =
+    let s = c .before .before .before .before .before .before .before .before .before .before .before .before .before .before .before .before .before .before .before .before .before .before .before .args .t1 in
+    refuses s Call.Turn 14
+    (turn-ends s (ok (c .before .before .before .before .before .before .before .before .before .before .before)) (c .before .before .before .before .before .before .before .before .before .before .if3 .taken) (over (c .before)) (sym (seen (c .before .before) .2) ∙ not-false _ (c .if7 .left)))
 
 returns-6 : tie.Need-returns-6 Inv-loop μ-loop Inv-loop2 μ-loop2 Inv-loop3 μ-loop3 Inv-loop4 μ-loop4 Inv-loop5 μ-loop5
-unfolding callRefusal given _or-next_ busy apply replyTo
-returns-6 c = sym (refused (c .before .before .before .before .before .before .before .before .before .before .before .before .before .args .t1) Call.Turn (ok (c .before)) 9 (rw (ne-eqb _ _ (c .if3 .left))))
+returns-6 c = let s = c .before .before .before .before .before .before .before .before .before .before .before .before .before .args .t1 in refuses s Call.Turn 10 (turn-busy s (ok (c .before)) (c .if3 .left))
 
 returns-7 : tie.Need-returns-7 Inv-loop μ-loop Inv-loop2 μ-loop2 Inv-loop3 μ-loop3 Inv-loop4 μ-loop4 Inv-loop5 μ-loop5
-unfolding apply replyTo
-returns-7 c = sym (unsound-answer _ _ (sym (tested (c .before) .0) ∙ c .if2 .left))
+returns-7 c = let s = c .before .before .before .before .before .before .before .before .before .before .before .before .args .t1 in refuses s Call.Turn 31 (unsound-answer s Call.Turn (sym (tested (c .before) .0) ∙ c .if2 .left))
 
 pub turn-spec : {M : Type 1} → statement M
 turn-spec =

@@ -1,9 +1,9 @@
 -- `latest` gives the latest safe moment: its sums are those of the streams passed.
 use mathlib.Core.Path.{_≡_, ap, _∙_}
 use Prim.Native.Nat.{_≤_, _-_}
-use native.Mathlib.Omega.{arith}
 use Rattle.session.proofs.Sound.{sound-of, count-high}
 use Rattle.session.proofs.Summing.{sumsTo, sums-none, sums-more, can-sum, can-end, until-is}
+use Rattle.session.proofs.Judging.{offset-fits, next-fits, below-eight, fewer, none-passed, one-passed, all-passed}
 use Rattle.session.proofs.view.latest.Statement.{statement}
 use Rattle.session.proofs.view.latest.Tie as tie
 
@@ -17,46 +17,46 @@ of-requires : tie.Need-of-requires Inv-loop μ-loop
 of-requires c κs = tt
 
 loop-holds : tie.Need-loop-holds Inv-loop μ-loop
-loop-holds c = (omega arith, rw (c .of .ensures) (sums-none _))
+loop-holds c = (none-passed _, sums-none _ _ (c .of .ensures))
 
 mul-x : tie.Need-mul-x Inv-loop μ-loop
-mul-x c = omega (arith, count-high _ (c .before .before .before .pre .0))
+mul-x c = offset-fits _ (below-eight _ _ (c .loop-test .taken) (count-high _ (c .before .before .before .pre .0)))
 
 element-copy-out-x : tie.Need-element-copy-out-x Inv-loop μ-loop
-element-copy-out-x c = omega (arith, count-high _ (c .before .before .before .pre .0))
+element-copy-out-x c = below-eight _ _ (c .loop-test .taken) (count-high _ (c .before .before .before .pre .0))
 
 summed-requires : tie.Need-summed-requires Inv-loop μ-loop
 summed-requires c κs =
     let pre = c .before .before .before .before .pre in
     let at = c .before .before .loop in
-    rw (at .inv .1, pre .1) (can-sum _ (sound-of _ (pre .0)) (at .i) (omega arith))
+    can-sum _ _ (pre .1) (sound-of _ (pre .0)) (at .i) (at .sums) (at .inv .1) (c .before .loop-test .taken)
 
 add-i : tie.Need-add-i Inv-loop μ-loop
-add-i c = omega arith
+add-i c = next-fits _ (below-eight _ _ (c .before .before .loop-test .taken) (count-high _ (c .before .before .before .before .before .pre .0)))
 
 loop-less : tie.Need-loop-less Inv-loop μ-loop
-loop-less c = omega arith
+loop-less c = fewer _ _ (c .before .before .loop-test .taken)
 
 loop-again : tie.Need-loop-again Inv-loop μ-loop
 loop-again c =
     let at = c .before .before .before .loop in
-    (omega arith, rw (c .summed .ensures, c .before .before .before .before .before .pre .1, at .inv .1) (sums-more _ (at .i)))
+    (one-passed _ _ (c .before .before .loop-test .taken), sums-more _ _ (c .before .before .before .before .before .pre .1) (at .i) (at .sums) _ (at .inv .1) (c .summed .ensures))
 
 -- the loop ends with the sums of all streams
 whole : (c : tie.After-loop Inv-loop μ-loop) → let s = c .before .before .before .args .t1 in c .before .loop .sums ≡ sumsTo s (s .count)
 whole c =
     let s = c .before .before .before .args .t1 in
     let at = c .before .loop in
-    let e : at .i ≡ s .count = omega arith in
+    let e = all-passed _ _ (at .inv .0) (c .loop-test .left) in
     at .inv .1 ∙ ap (sumsTo s) e
 
 less-remainders-requires : tie.Need-less-remainders-requires Inv-loop μ-loop
 less-remainders-requires c κs =
     let pre = c .before .before .before .pre in
-    rw (whole c, pre .1) (can-end _ (sound-of _ (pre .0)))
+    can-end _ _ (pre .1) (sound-of _ (pre .0)) _ (whole c)
 
 returns : tie.Need-returns Inv-loop μ-loop
-returns c = rw (c .less-remainders .ensures, whole (c .before), c .before .before .before .before .pre .1) (until-is _)
+returns c = until-is _ _ (c .before .before .before .before .pre .1) _ _ (whole (c .before)) (c .less-remainders .ensures)
 
 pub latest-spec : {M : Type 1} → statement M
 latest-spec =

@@ -52,7 +52,7 @@ one-passed i n l = omega (arith, l)
 pub all-passed : (i n : ℕ) → i ≤ n → n ≤ i → i ≡ n
 all-passed i n le past = omega (arith, le, past)
 
--- what a sound session's call may take fits too
+-- and so does the worst case of a sound session
 pub worst-fits : (s : Session) → sound s ≡ true → Fits w64 (s .worst)
 worst-fits s ok = omega (arith, admits s (sound-of s ok) .numbers .worst-high)
 

@@ -1,4 +1,4 @@
--- `Session::arrival` judges the session, refuses by 31, 8 and 9 and puts the request into the queue: each way out rewrites the tests that led there.
+-- `Session::arrival` judges the session, refuses by 31, 8 and 9 and puts the request into the queue: each way out cites what its case is answered.
 use borrow.Author.Tests.{not-true, not-false}
 use mathlib.Core.Bool.{true, false, _&&_}
 use mathlib.Core.Path.{_≡_, sym, _∙_}

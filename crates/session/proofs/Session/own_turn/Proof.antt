@@ -1,4 +1,4 @@
--- `Session::own_turn` judges the session, refuses by 31, 10, 8 and 15 and sends the request asked for: each way out rewrites the tests that led there.
+-- `Session::own_turn` judges the session, refuses by 31, 10, 8 and 15 and sends the request asked for: each way out cites what its case is answered.
 use borrow.Author.Tests.{not-true, not-false}
 use mathlib.Core.Bool.{true, false, _&&_}
 use mathlib.Core.Path.{_≡_, sym, ap, subst, _∙_}

@@ -1,6 +1,6 @@
 -- What every call does first, loop by loop: a census of the used streams, then a look at the unused ones, and then the census decides.
 use mathlib.Core.Bool.{Bool, true, false, _&&_, _||_, and-false, false≢true}
-use mathlib.Core.Path.{_≡_, refl, sym, ap, subst}
+use mathlib.Core.Path.{_≡_, refl, sym, ap, subst, _∙_}
 use Prim.Native.Nat.{ℕ, _+_, _-_, _*_, _≤_, _<_}
 use native.Mathlib.Numerals.{add-one}
 use native.Mathlib.Omega.{arith}
@@ -8,15 +8,15 @@ use mir.Syntax.{w64}
 use mir.Val.{Fits}
 use lib.Dec.{ltb}
 use lib.ListN.{length}
-use borrow.Author.Tests.{ltb-true, ltb-false, lt-ltb, le-ltb, eq-eqb}
-use Rattle.table.specs.Fold.{allTo}
+use borrow.Author.Tests.{ltb-true, ltb-false, lt-ltb, le-ltb, eq-eqb, ne-eqb}
+use Rattle.table.specs.Fold.{if, allTo}
 use Rattle.table.proofs.Tests.{both}
 use Rattle.table.proofs.Folds.{all-of}
 use Rattle.table.proofs.Judged.{numbers-of}
 use Rattle.time.specs.Time.{moment}
 use Rattle.stream.specs.Stream.{unusedStream}
 use Rattle.session.specs.Session.{streamAt, horizon, tableOf, soundRest, sound}
-use Rattle.stream.specs.Search.{inOrder, begun, counted, Countable, says, Judgeable}
+use Rattle.stream.specs.Search.{slotOf, inOrder, begun, counted, Countable, says, Judgeable}
 use Rattle.stream.specs.declared.Stream.{Stream}
 use Rattle.stream.specs.declared.census.Census.{Census}
 use Rattle.session.specs.declared.Session.{Session}
@@ -133,9 +133,10 @@ module _ (s : Session) where
       }
 
   -- then the census decides, with the stream at the disk, if there is one
-  module _ (c : Census) (rest : Bool) (j : ℕ) (m : Resting c rest j) (at : ℕ) (number : (s .served ≡ 0 → ⊥) → s .served ≤ 8 → at ≡ s .served - 1) where
+  module _ (c : Census) (rest : Bool) (j : ℕ) (m : Resting c rest j) (at : ℕ) (number : at ≡ slotOf (s .served)) where
     at-disk : (s .served ≡ 0 → ⊥) → s .served ≤ 8 → streamAt s at ≡ streamAt s (s .served - 1)
-    at-disk some high = ap (streamAt s) (number some high)
+    unfolding slotOf if
+    at-disk some high = ap (streamAt s) (number ∙ rw (ne-eqb (s .served) 0 some, le-ltb 8 (s .served) high))
 
     pub can-judge : c .sound ≡ true → Judgeable c (s .served) (streamAt s at)
     can-judge fine = judgeable s c (m .all fine) fine _ at-disk

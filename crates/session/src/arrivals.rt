@@ -3,11 +3,11 @@ ghost use mathlib.Core.Path.{_≡_};
 ghost use Rattle.session.specs.Calls.{answerTo};
 use crate::Answer;
 use crate::Session;
-use crate::soundness::slot_of;
 use calls::Call;
 use calls::Reply;
 use stream::Census;
 use stream::Stream;
+use stream::slot_of;
 
 impl Session {
     // A request of a stream, counted from 1, at a place: 8, 9.

@@ -5,9 +5,7 @@ mod dispatch;
 mod lent;
 mod own_turns;
 mod reports;
-mod soundness;
 mod turns;
-mod view;
 
 ghost use mathlib.Core.Path.{_≡_};
 ghost use Prim.Native.Nat.{_<_};
@@ -18,9 +16,6 @@ use stream::Stream;
 use table::Admission;
 use table::Table;
 use time::Clock;
-pub use view::Closing;
-pub use view::State;
-pub use view::View;
 
 // The first `count` of the eight streams are used. `served` is the stream whose request is at the disk, counted from 1, or 0.
 pub struct Session {

@@ -3,10 +3,10 @@ ghost use mathlib.Core.Path.{_≡_};
 ghost use Rattle.session.specs.Calls.{answerTo};
 use crate::Answer;
 use crate::Session;
-use crate::soundness::slot_of;
 use calls::Call;
 use calls::Reply;
 use stream::Census;
+use stream::slot_of;
 
 impl Session {
     // The caller's own choice from the set, a stream, counted from 1, and an index of its queue: 10, 8, 15.

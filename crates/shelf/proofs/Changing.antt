@@ -23,7 +23,8 @@ use Rattle.stream.specs.declared.Stream.{Stream}
 use Rattle.session.specs.declared.Session.{Session}
 use Rattle.calls.specs.declared.Call.{Call}
 use Rattle.shelf.specs.Image.{nearest-first, imageOf, sessionOf, toldAs, answeredAs}
-use Rattle.shelf.specs.InPlace.{slotOf, changeFrom, changeAs}
+use Rattle.stream.specs.Search.{slotOf}
+use Rattle.shelf.specs.InPlace.{changeFrom, changeAs}
 use Rattle.shelf.specs.declared.images.Image.{Image}
 use Rattle.shelf.specs.declared.images.Told.{Told}
 use Rattle.shelf.specs.declared.images.Answered.{Answered}

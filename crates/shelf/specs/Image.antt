@@ -8,13 +8,13 @@ use Rattle.table.specs.declared.Admission.the-variants.{Admitted, Refused}
 use Rattle.session.specs.Opening.{zeroSession, openingOf}
 use Rattle.calls.specs.Replies.{numberOf, valueOf, streamOf}
 use Rattle.session.specs.Calls.{answerTo}
-use Rattle.session.specs.View.{viewOf, stateOf, closingOf}
+use Rattle.view.specs.View.{viewOf, stateOf, closingOf}
 use Rattle.session.specs.declared.Session.{Session}
 use Rattle.calls.specs.declared.Call.{Call}
 use Rattle.calls.specs.declared.Reply.{Reply}
-use Rattle.session.specs.declared.view.View.{View}
-use Rattle.session.specs.declared.view.State.{State}
-use Rattle.session.specs.declared.view.Closing.{Closing}
+use Rattle.view.specs.declared.View.{View}
+use Rattle.view.specs.declared.State.{State}
+use Rattle.view.specs.declared.Closing.{Closing}
 use Rattle.shelf.specs.declared.images.Image.{Image}
 use Rattle.shelf.specs.declared.images.Told.{Told}
 use Rattle.shelf.specs.declared.images.Answered.{Answered}

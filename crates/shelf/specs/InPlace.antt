@@ -3,6 +3,7 @@ use Prim.Native.Nat.{ℕ, _-_}
 use lib.Dec.{eqb, ltb}
 use lib.ListN.{getD}
 use Rattle.table.specs.Fold.{if}
+use Rattle.stream.specs.Search.{slotOf}
 use Rattle.session.specs.Session.{noStream}
 use Rattle.session.specs.declared.Session.{Session}
 use Rattle.calls.specs.declared.Call.{Call}
@@ -28,10 +29,6 @@ calledOf i =
       place = i .place;
       streams = i .streams;
     }
-
--- where the stream with a number stands among the eight; for a number that none has, the first
-unfoldable pub slotOf : ℕ → ℕ
-slotOf n = if (eqb n 0) 0 (if (ltb 8 n) 0 (n - 1))
 
 -- the stream that such a call may change
 abbrev pub changedAt : Image → Call → ℕ

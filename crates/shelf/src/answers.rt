@@ -3,7 +3,7 @@ ghost use mathlib.Core.Path.{_≡_};
 ghost use Prim.Native.Nat.{_<_};
 ghost use Rattle.table.specs.Reservations.{tableOf};
 ghost use Rattle.shelf.specs.Image.{imageOf, refusalIn, openedAs, toldAs, answeredAs, shownOf, viewedAs, stateAs, closingAs};
-ghost use Rattle.shelf.specs.InPlace.{countedOf, calledOf, slotOf, changeFrom, changeAs};
+ghost use Rattle.shelf.specs.InPlace.{countedOf, calledOf, changeFrom, changeAs};
 ghost use Rattle.shelf.specs.Filed.{readAs, writtenAs};
 use crate::Answered;
 use crate::Change;
@@ -17,12 +17,13 @@ use calls::Reply;
 use file::Reading;
 use file::Writing;
 use session::Answer;
-use session::Closing;
 use session::Session;
-use session::State;
-use session::View;
+use stream::slot_of;
 use table::Admission;
 use table::Records;
+use view::Closing;
+use view::State;
+use view::View;
 
 // A session opened with what was taken of a table.
 pub(crate) fn open(worst: u32, span: u32, padding: u32, records: Records) -> Opening
@@ -57,19 +58,6 @@ fn told(reply: Reply, call: Call) -> Told
         stream: reply.stream(call),
         value: reply.value(),
     }
-}
-
-// Where the stream with a number stands among the eight; for a number that none has, the first.
-fn slot_of(number: u64) -> usize
-    ensures { λ r. ⌜ (r ≡ slotOf number) × (r < 8) ⌝ }
-{
-    if number == 0 {
-        return 0;
-    }
-    if 8 < number {
-        return 0;
-    }
-    (number - 1) as usize
 }
 
 // The streams that count: none, where the order stands for none.
@@ -131,7 +119,7 @@ pub(crate) fn arrival(image: Image, number: u64, place: u64) -> Change
         stream: number,
         place: place,
     };
-    let at = slot_of(number);
+    let at = slot_of(number as usize);
     let session = called(image);
     let answer = session.arrival(number, place);
     changed(answer, call, at)
@@ -166,7 +154,7 @@ pub(crate) fn own_turn(image: Image, number: u64, index: u64) -> Change
         stream: number,
         index: index,
     };
-    let at = slot_of(number);
+    let at = slot_of(number as usize);
     let session = called(image);
     let answer = session.own_turn(number, index);
     changed(answer, call, at)
@@ -176,7 +164,7 @@ pub(crate) fn done(image: Image, duration: u64) -> Change
     ensures { λ r. ⌜ r ≡ changeAs image (Call.Done duration) ⌝ }
 {
     let call = Call::Done { duration };
-    let at = slot_of(image.served as u64);
+    let at = slot_of(image.served);
     let session = called(image);
     let answer = session.done(duration);
     changed(answer, call, at)
@@ -206,21 +194,21 @@ pub(crate) fn view(image: Image) -> View
     ensures { λ r. ⌜ r ≡ viewedAs image ⌝ }
 {
     let session = shown(image);
-    session.view()
+    view::view_of(session)
 }
 
 pub(crate) fn state(image: Image, stream: u64) -> State
     ensures { λ r. ⌜ r ≡ stateAs image stream ⌝ }
 {
     let session = shown(image);
-    session.state(stream)
+    view::state_of(session, stream)
 }
 
 pub(crate) fn closing(image: Image, stream: u64) -> Closing
     ensures { λ r. ⌜ r ≡ closingAs image stream ⌝ }
 {
     let session = shown(image);
-    session.closing(stream)
+    view::closing_of(session, stream)
 }
 
 pub(crate) fn filed(reading: Reading) -> Filed

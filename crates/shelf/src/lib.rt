@@ -27,12 +27,12 @@ pub use images::Image;
 pub use images::Opening;
 pub use images::Told;
 pub use images::Wrote;
-use session::Closing;
-use session::State;
-use session::View;
 use table::Reservation;
 use table::Table;
 use table::take_in;
+use view::Closing;
+use view::State;
+use view::View;
 
 // Opens a session with W, H, k and a lent table of any length.
 #[no_mangle]

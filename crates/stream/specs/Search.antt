@@ -2,7 +2,7 @@
 use mathlib.Core.Bool.{Bool, true, false, not, _&&_, _||_}
 use mathlib.Core.List.{List}
 use mathlib.Core.Path.{_≡_}
-use Prim.Native.Nat.{ℕ, _+_, _*_, _/_, _≤_, _<_, min, max}
+use Prim.Native.Nat.{ℕ, _+_, _-_, _*_, _/_, _≤_, _<_, min, max}
 use lib.ListN.{getD, replicate}
 use lib.Dec.{leb, ltb, eqb}
 use Rattle.table.specs.Fold.{if}
@@ -17,6 +17,10 @@ use Rattle.stream.specs.declared.census.Census.{Census}
 use Rattle.stream.specs.declared.choice.Near.{Near}
 use Rattle.stream.specs.declared.choice.Pick.{Pick}
 use Rattle.stream.specs.declared.Stream.{Stream}
+
+-- where the stream with a number stands among the eight; for a number that none has, the first
+unfoldable pub slotOf : ℕ → ℕ
+slotOf n = if (eqb n 0) 0 (if (ltb 8 n) 0 (n - 1))
 
 -- what a used stream passes whatever the horizon: nothing refuses its reservation, and its cells are sound
 unfoldable pub inOrder : ℕ → ℕ → ℕ → Stream → Bool

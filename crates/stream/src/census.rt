@@ -1,8 +1,8 @@
 // What is kept of the streams of a session as it is judged, one by one.
 ghost use mathlib.Core.Path.{_≡_};
 ghost use mathlib.Core.Bool.{true};
-ghost use Prim.Native.Nat.{min};
-ghost use Rattle.stream.specs.Search.{inOrder, begun, counted, Countable, says, Judgeable};
+ghost use Prim.Native.Nat.{min, _<_};
+ghost use Rattle.stream.specs.Search.{slotOf, inOrder, begun, counted, Countable, says, Judgeable};
 use crate::Stream;
 use table::Table;
 use time::Clock;
@@ -96,4 +96,17 @@ fn smaller(a: u32, b: u32) -> u32
     ensures { λ r. ⌜ r ≡ min a b ⌝ }
 {
     if b < a { b } else { a }
+}
+
+// Where the stream with a number stands among the eight; for a number that none has, the first.
+pub fn slot_of(number: usize) -> usize
+    ensures { λ r. ⌜ (r < 8) × (r ≡ slotOf number) ⌝ }
+{
+    if number == 0 {
+        return 0;
+    }
+    if 8 < number {
+        return 0;
+    }
+    number - 1
 }

@@ -2,9 +2,9 @@
 use mathlib.Core.Path.{sym, _∙_}
 use Prim.Native.Nat.{_-_}
 use lib.ListN.{length-map}
 use Rattle.session.proofs.Judging.{offset-fits, next-fits, fewer, first-in, Counting, Resting, counting-none, used, below, worst-positive, can-take, counting-more, resting-none, resting-more, can-judge, judged}
-use Rattle.session.proofs.soundness.judge.Statement.{statement}
-use Rattle.session.proofs.soundness.judge.Tie as tie
+use Rattle.view.proofs.judge.Statement.{statement}
+use Rattle.view.proofs.judge.Tie as tie
 
 abbrev Inv-loop : tie.InvT-loop
 Inv-loop s census₀ i₀ census i = Counting s census i

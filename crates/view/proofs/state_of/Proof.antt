@@ -1,4 +1,4 @@
--- `Session::state` shows a stream of a sound session, or refuses by 31 and 8: each way out rewrites the tests that led there.
+-- `state_of` shows a stream of a sound session, or refuses by 31 and 8: each way out rewrites the tests that led there.
 use mathlib.Core.Bool.{true}
 use mathlib.Core.Path.{_≡_, sym, _∙_}
 use Prim.Native.Nat.{_-_, _≤_, _<_}
@@ -7,13 +7,13 @@ use borrow.Author.Needs.{needs}
 use borrow.Author.Tests.{not-true, not-false}
 use Rattle.table.specs.Fold.{if}
 use Rattle.table.specs.Refusal.{given, _or-next_}
 use Rattle.session.specs.Session.{sound}
 use Rattle.session.specs.Calls.{noSuchStream}
-use Rattle.session.specs.View.{stateRefusal, stateOf}
+use Rattle.view.specs.View.{stateRefusal, stateOf}
 use Rattle.session.proofs.Grounds.{named}
 use Rattle.session.proofs.Sound.{count-high}
-use Rattle.session.proofs.Session.state.Statement.{statement}
-use Rattle.session.proofs.Session.state.Tie as tie
+use Rattle.view.proofs.state_of.Statement.{statement}
+use Rattle.view.proofs.state_of.Tie as tie
 
 judge-requires : tie.Need-judge-requires
 judge-requires c κs = search needs
@@ -27,7 +27,7 @@ returns c =
     rw (sym (c .before .before .before .judge .ensures .0) ∙ not-true _ (c .if1 .taken), c .before .before .fresh .ensures)
 
 -- past 31 the session is sound
-ok : (c : tie.Else1) → sound (c .before .before .before .before .args .self) ≡ true
+ok : (c : tie.Else1) → sound (c .before .before .before .before .args .session) ≡ true
 ok c = sym (c .before .before .before .judge .ensures .0) ∙ not-false _ (c .if1 .left)
 
 returns-2 : tie.Need-returns-2
@@ -39,8 +39,8 @@ exists : (c : tie.Else2) → let a = c .before .before .before .before .before .
 unfolding noSuchStream
 exists c =
     let a = c .before .before .before .before .before .args in
-    let n = named (a .self) (a .stream) (c .if2 .left) in
-    (n .0, omega (arith, n, count-high (a .self) (ok (c .before))))
+    let n = named (a .session) (a .stream) (c .if2 .left) in
+    (n .0, omega (arith, n, count-high (a .session) (ok (c .before))))
 
 sub-i : tie.Need-sub-i
 sub-i c = exists c .0
@@ -55,8 +55,8 @@ returns-3 : tie.Need-returns-3
 unfolding stateOf stateRefusal given _or-next_ noSuchStream if
 returns-3 c = rw (ok (c .before .before .before), c .before .before .if2 .left)
 
-pub state-spec : {M : Type 1} → statement M
-state-spec =
+pub state-of-spec : {M : Type 1} → statement M
+state-of-spec =
     tie.close
     (tie.spec
     judge-requires

@@ -5,13 +5,13 @@ use lib.Dec.{eqb}
 use Rattle.table.specs.Fold.{if}
 use Rattle.table.specs.Refusal.{given, _or-next_}
 use Rattle.time.specs.Time.{moment}
 use Rattle.session.specs.Session.{streamAt, horizon, latest, sound}
 use Rattle.session.specs.Calls.{noSuchStream}
 use Rattle.stream.specs.Stream.{freshStream}
 use Rattle.session.specs.declared.Session.{Session}
-use Rattle.session.specs.declared.view.View.{View}
-use Rattle.session.specs.declared.view.State.{State}
-use Rattle.session.specs.declared.view.Closing.{Closing}
+use Rattle.view.specs.declared.View.{View}
+use Rattle.view.specs.declared.State.{State}
+use Rattle.view.specs.declared.Closing.{Closing}
 
 -- clock, "horizon h" and "latest safe moment L", or 31 "the session handed to a call is not sound" beside zeros
 unfoldable pub viewOf : Session → View

@@ -1,11 +1,11 @@
 -- `latest` gives the latest safe moment: its sums are those of the streams passed.
 use mathlib.Core.Path.{_≡_, ap, _∙_}
 use Prim.Native.Nat.{_≤_, _-_}
 use Rattle.session.proofs.Sound.{sound-of, count-high}
 use Rattle.session.proofs.Summing.{sumsTo, sums-none, sums-more, can-sum, can-end, until-is}
 use Rattle.session.proofs.Judging.{offset-fits, next-fits, below-eight, fewer, none-passed, one-passed, all-passed}
-use Rattle.session.proofs.view.latest.Statement.{statement}
-use Rattle.session.proofs.view.latest.Tie as tie
+use Rattle.view.proofs.latest.Statement.{statement}
+use Rattle.view.proofs.latest.Tie as tie
 
 abbrev Inv-loop : tie.InvT-loop
 Inv-loop h s sums₀ i₀ sums i = (i ≤ s .count) × (sums ≡ sumsTo s i)

@@ -1,5 +1,4 @@
--- Places in a session file fit 64 bits, and so do the counters of the loops over its streams.
-use mathlib.Core.Path.{_≡_}
+-- Places in a session file fit 64 bits.
 use Prim.Native.Nat.{ℕ, _+_, _-_, _*_, _^_, _≤_, _<_}
 use native.Mathlib.Nat.{le-refl, add-le-add, lt-of-le-of-lt}
 use native.Mathlib.Omega.{arith}
@@ -20,7 +19,7 @@ module _ (at n : ℕ) (low : at ≤ table-start) where
   pub place-low : at + n ≤ table-start + n
   place-low = add-le-add low (le-refl n)
 
--- the bytes before a stream, those before a cell of eight numbers, and the next index
+-- the bytes before a stream, and those before a cell of eight numbers
 module _ (i : ℕ) (l : i < streams-max) where
   pub streams-fit : Fits w64 (8 * i)
   streams-fit = omega (arith, l)
@@ -30,19 +29,3 @@ module _ (i : ℕ) (l : i < streams-max) where
 
   pub words-fit : Fits w64 (i * 4)
   words-fit = omega (arith, l)
-
-  pub next-fits : Fits w64 (i + 1)
-  next-fits = omega (arith, l)
-
--- a loop over the first n
-pub within : (i n most : ℕ) → i < n → n ≤ most → i < most
-within i n most l le = omega (arith, l, le)
-
-pub next-in : (i n : ℕ) → i < n → i + 1 ≤ n
-next-in i n l = omega (arith, l)
-
-pub fewer : (n i : ℕ) → i < n → n - (i + 1) < n - i
-fewer n i l = omega (arith, l)
-
-pub all-passed : (i n : ℕ) → i ≤ n → n ≤ i → i ≡ n
-all-passed i n le past = omega (arith, le, past)

@@ -23,34 +23,15 @@ use Rattle.session.specs.declared.Session.{Session}
 use Rattle.session.proofs.Sound.{sound-of, admits}
 use Rattle.session.proofs.Counted.{CountedTo, counted-none, counted-more, countable, horizon-is, judgeable, decides}
 
--- an index of the eight streams, or of a queue, counted on or multiplied by the size of what it stands for, fits 64 bits
+-- an index of the eight streams, or of a queue, multiplied by the size of what it stands for, fits 64 bits
 pub offset-fits : (i : ℕ) → i < 8 → Fits w64 (i * 216)
 offset-fits i l = omega (arith, l)
 
 pub place-fits : (j : ℕ) → j < 16 → Fits w64 (j * 8)
 place-fits j l = omega (arith, l)
 
-pub next-fits : (i : ℕ) → i < 8 → Fits w64 (i + 1)
-next-fits i l = omega (arith, l)
-
--- a loop over the first n of eight
-pub below-eight : (i n : ℕ) → i < n → n ≤ 8 → i < 8
-below-eight i n l le = omega (arith, l, le)
-
-pub fewer : (n i : ℕ) → i < n → n - (i + 1) < n - i
-fewer n i l = omega (arith, l)
-
 pub first-in : 0 < 8
 first-in = omega arith
-
-pub none-passed : (n : ℕ) → 0 ≤ n
-none-passed n = omega arith
-
-pub one-passed : (i n : ℕ) → i < n → i + 1 ≤ n
-one-passed i n l = omega (arith, l)
-
-pub all-passed : (i n : ℕ) → i ≤ n → n ≤ i → i ≡ n
-all-passed i n le past = omega (arith, le, past)
 
 -- and so does the worst case of a sound session
 pub worst-fits : (s : Session) → sound s ≡ true → Fits w64 (s .worst)

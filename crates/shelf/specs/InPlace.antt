@@ -1,6 +1,6 @@
 -- What a call other than a turn changes of an image, for the functions behind those that products link: no contract of a linked function speaks of it.
-use Prim.Native.Nat.{ℕ, _-_}
-use lib.Dec.{eqb, ltb}
+use Prim.Native.Nat.{ℕ}
+use lib.Dec.{eqb}
 use lib.ListN.{getD}
 use Rattle.table.specs.Fold.{if}
 use Rattle.stream.specs.Search.{slotOf}

@@ -4,3 +4,4 @@ pub mod Lists
 pub mod Judged
 pub mod LentTables
 pub mod Taking
+pub mod Loops

@@ -17,7 +17,8 @@ use Rattle.stream.specs.Stream.{freshStream}
 use Rattle.stream.specs.declared.Stream.{Stream}
 use Rattle.session.specs.Session.{noStream}
 use Rattle.session.specs.Opening.{openedStream}
-use Rattle.session.proofs.Judging.{offset-fits, next-fits, fewer}
+use Rattle.table.proofs.Loops.{next-fits, fewer}
+use Rattle.session.proofs.Judging.{offset-fits}
 use Rattle.session.proofs.opened_streams.Statement.{statement}
 use Rattle.session.proofs.opened_streams.Tie as tie
 

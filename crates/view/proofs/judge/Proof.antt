@@ -2,7 +2,8 @@
 use mathlib.Core.Path.{sym, _∙_}
 use Prim.Native.Nat.{_-_}
 use lib.ListN.{length-map}
-use Rattle.session.proofs.Judging.{offset-fits, next-fits, fewer, first-in, Counting, Resting, counting-none, used, below, worst-positive, can-take, counting-more, resting-none, resting-more, can-judge, judged}
+use Rattle.table.proofs.Loops.{next-fits, fewer}
+use Rattle.session.proofs.Judging.{offset-fits, first-in, Counting, Resting, counting-none, used, below, worst-positive, can-take, counting-more, resting-none, resting-more, can-judge, judged}
 use Rattle.view.proofs.judge.Statement.{statement}
 use Rattle.view.proofs.judge.Tie as tie
 

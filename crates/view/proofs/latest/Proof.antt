@@ -3,7 +3,8 @@ use mathlib.Core.Path.{_≡_, ap, _∙_}
 use Prim.Native.Nat.{_≤_, _-_}
 use Rattle.session.proofs.Sound.{sound-of, count-high}
 use Rattle.session.proofs.Summing.{sumsTo, sums-none, sums-more, can-sum, can-end, until-is}
-use Rattle.session.proofs.Judging.{offset-fits, next-fits, below-eight, fewer, none-passed, one-passed, all-passed}
+use Rattle.table.proofs.Loops.{next-fits, below-eight, fewer, none-passed, one-passed, all-passed}
+use Rattle.session.proofs.Judging.{offset-fits}
 use Rattle.view.proofs.latest.Statement.{statement}
 use Rattle.view.proofs.latest.Tie as tie
 

@@ -7,7 +7,8 @@ use Rattle.table.specs.Fold.{if, listTo}
 use Rattle.table.proofs.Lists.{Filled, filled-more, filled-all}
 use Rattle.cells.specs.Cells.{numberAt}
 use Rattle.file.specs.Reading.{column}
-use Rattle.file.proofs.Bounds.{words-fit, next-fits, next-in, fewer, all-passed}
+use Rattle.table.proofs.Loops.{next-fits, one-passed, fewer, all-passed}
+use Rattle.file.proofs.Bounds.{words-fit}
 use Rattle.file.proofs.body.column_at.Statement.{statement}
 use Rattle.file.proofs.body.column_at.Tie as tie
 
@@ -42,7 +43,7 @@ loop-again c =
     let d = c .before .before .loop in
     let a = c .before .before .before .before .args in
     let f : ℕ → ℕ = λ j. if (ltb j (a .count)) (numberAt 4 (a .file .now) (a .from + 8 * j)) 0 in
-    (next-in _ 8 (c .before .loop-test .taken), rw (c .used-at .ensures) (filled-more f (d .numbers) (d .i) 8 (c .before .loop-test .taken) (d .inv .1)))
+    (one-passed _ 8 (c .before .loop-test .taken), rw (c .used-at .ensures) (filled-more f (d .numbers) (d .i) 8 (c .before .loop-test .taken) (d .inv .1)))
 
 returns : tie.Need-returns Inv-loop μ-loop
 unfolding column

@@ -9,7 +9,8 @@ use lib.ListN.{length}
 use lib.Seq.{sets}
 use Rattle.table.specs.Ranges.{streams-max}
 use Rattle.file.specs.File.{streamCells}
-use Rattle.file.proofs.Bounds.{add-fits, streams-fit, streams-low, words-fit, next-fits, within, next-in, fewer, all-passed}
+use Rattle.table.proofs.Loops.{next-fits, below-eight, one-passed, fewer, all-passed}
+use Rattle.file.proofs.Bounds.{add-fits, streams-fit, streams-low, words-fit}
 use Rattle.file.proofs.Stores.{stream-stored}
 use Rattle.file.proofs.body.put_streams.Statement.{statement}
 use Rattle.file.proofs.body.put_streams.Tie as tie
@@ -27,7 +28,7 @@ loop-holds c = (zero≤, refl, refl)
 
 -- within the loop the index is one of eight
 inside : (c : tie.Then1 Inv-loop μ-loop) → c .before .before .loop .i < streams-max
-inside c = within _ _ 8 (c .if1 .taken) (c .before .before .before .before .before .before .pre .1)
+inside c = below-eight _ _ (c .if1 .taken) (c .before .before .before .before .before .before .pre .1)
 
 start : (c : tie.Then1 Inv-loop μ-loop) → c .before .before .before .before .before .before .args .at ≤ 42
 start c = c .before .before .before .before .before .before .pre .0
@@ -71,7 +72,7 @@ loop-again c =
     let first = second .before .before .before .before in
     let d = first .before .before .before .before .loop in
     let a = first .before .before .before .before .before .before .before .before .args in (
-      next-in _ _ (first .before .before .if1 .taken),
+      one-passed _ _ (first .before .before .if1 .taken),
       second .put-word2 .kept .0 ∙ first .put-word .kept .0 ∙ d .inv .1,
       rw (second .put-word2 .ensures, first .put-word .ensures, d .inv .2, add-one) (stream-stored (a .out .now) (a .at) (a .table) (d .i)),
     )

@@ -6,7 +6,7 @@ use native.Mathlib.Numerals.{add-one}
 use Prim.Native.Nat.{_≤_, _-_}
 use Rattle.table.specs.Fold.{allTo}
 use Rattle.file.specs.Reading.{eventAt, formed}
-use Rattle.file.proofs.Bounds.{next-in, fewer, all-passed}
+use Rattle.table.proofs.Loops.{one-passed, fewer, all-passed}
 use Rattle.file.proofs.event.all_formed.Statement.{statement}
 use Rattle.file.proofs.event.all_formed.Tie as tie
 
@@ -35,7 +35,7 @@ loop-less c = fewer _ _ (c .before .before .loop-test .taken)
 loop-again : tie.Need-loop-again Inv-loop μ-loop
 unfolding allTo
 loop-again c =
-    (next-in _ _ (c .before .before .loop-test .taken), rw (add-one, c .is-formed .ensures, c .before .event-at .ensures, c .before .before .before .loop .inv .1))
+    (one-passed _ _ (c .before .before .loop-test .taken), rw (add-one, c .is-formed .ensures, c .before .event-at .ensures, c .before .before .before .loop .inv .1))
 
 returns : tie.Need-returns Inv-loop μ-loop
 returns c =

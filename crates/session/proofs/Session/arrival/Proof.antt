@@ -11,7 +11,8 @@ use Rattle.session.proofs.Outcomes.{refuses, appends}
 use Rattle.session.proofs.Answers.{unsound-answer, arrival-nowhere, arrival-full, arrival-joins}
 use Rattle.session.proofs.Grounds.{named}
 use Rattle.session.proofs.Sound.{sound-of, count-high, bounded}
-use Rattle.session.proofs.Judging.{offset-fits, next-fits, below-eight, below-bound, fewer, first-in, Counting, Resting, counting-none, used, below, worst-positive, can-take, counting-more, resting-none, resting-more, can-judge, judged}
+use Rattle.table.proofs.Loops.{next-fits, below-eight, fewer}
+use Rattle.session.proofs.Judging.{offset-fits, below-bound, first-in, Counting, Resting, counting-none, used, below, worst-positive, can-take, counting-more, resting-none, resting-more, can-judge, judged}
 use Rattle.session.proofs.Session.arrival.Statement.{statement}
 use Rattle.session.proofs.Session.arrival.Tie as tie
 

@@ -14,7 +14,8 @@ use Rattle.session.proofs.Outcomes.{refuses, late-is, reports-late, rep
 use Rattle.session.proofs.Answers.{unsound-answer, clock-busy, clock-back, clock-ends, clock-sets}
 use Rattle.session.proofs.Summing.{sumsTo, sums-none, sums-more, can-sum, can-end, until-is}
 use Rattle.session.proofs.Sound.{sound-of, count-high}
-use Rattle.session.proofs.Judging.{offset-fits, next-fits, below-eight, fewer, first-in, none-passed, one-passed, all-passed, Counting, Resting, counting-none, used, below, worst-positive, can-take, counting-more, resting-none, resting-more, can-judge, judged}
+use Rattle.table.proofs.Loops.{next-fits, below-eight, fewer, none-passed, one-passed, all-passed}
+use Rattle.session.proofs.Judging.{offset-fits, first-in, Counting, Resting, counting-none, used, below, worst-positive, can-take, counting-more, resting-none, resting-more, can-judge, judged}
 use Rattle.session.proofs.Session.clock.Statement.{statement}
 use Rattle.session.proofs.Session.clock.Tie as tie
 

@@ -18,7 +18,8 @@ use Rattle.session.proofs.Answers.{unsound-answer, done-idle, done-outs
 use Rattle.session.proofs.Grounds.{served-in}
 use Rattle.stream.proofs.Fits.{charge-within, duration-within}
 use Rattle.session.proofs.Sound.{sound-of, count-high, bounded}
-use Rattle.session.proofs.Judging.{worst-fits, offset-fits, next-fits, below-eight, fewer, first-in, Counting, Resting, counting-none, used, below, worst-positive, can-take, counting-more, resting-none, resting-more, can-judge, judged}
+use Rattle.table.proofs.Loops.{next-fits, below-eight, fewer}
+use Rattle.session.proofs.Judging.{worst-fits, offset-fits, first-in, Counting, Resting, counting-none, used, below, worst-positive, can-take, counting-more, resting-none, resting-more, can-judge, judged}
 use Rattle.session.proofs.Session.done.Statement.{statement}
 use Rattle.session.proofs.Session.done.Tie as tie
 

@@ -14,7 +14,8 @@ use Rattle.session.proofs.Outcomes.{refuses, sends}
 use Rattle.session.proofs.Answers.{unsound-answer, sendable, own-busy, own-nowhere, own-outside, own-sends}
 use Rattle.session.proofs.Grounds.{Grounds, named}
 use Rattle.session.proofs.Sound.{sound-of, count-high, bounded-by}
-use Rattle.session.proofs.Judging.{offset-fits, place-fits, next-fits, below-eight, fewer, first-in, Counting, Resting, counting-none, used, below, worst-positive, can-take, counting-more, resting-none, resting-more, can-judge, judged}
+use Rattle.table.proofs.Loops.{next-fits, below-eight, fewer}
+use Rattle.session.proofs.Judging.{offset-fits, place-fits, first-in, Counting, Resting, counting-none, used, below, worst-positive, can-take, counting-more, resting-none, resting-more, can-judge, judged}
 use Rattle.session.proofs.Session.own_turn.Statement.{statement}
 use Rattle.session.proofs.Session.own_turn.Tie as tie
 

@@ -24,7 +24,8 @@ use Rattle.session.proofs.Picks.{Picked, picked-more, picked-none}
 use Rattle.session.proofs.Surveys.{Surveying, surveying-none, pointed, surveying-more, surveyed}
 use Rattle.session.proofs.Summing.{sumsTo, can-sum, can-end, until-is}
 use Rattle.session.proofs.Closings.{Moving, moving-none, moving-in, can-move, passed, moving-more, moving-all}
-use Rattle.session.proofs.Judging.{offset-fits, place-fits, next-fits, below-eight, fewer, first-in, none-passed, one-passed, all-passed, Counting, Resting, counting-none, used, below, worst-positive, can-take, counting-more, resting-none, resting-more, can-judge, judged}
+use Rattle.table.proofs.Loops.{next-fits, below-eight, fewer, none-passed, one-passed, all-passed}
+use Rattle.session.proofs.Judging.{offset-fits, place-fits, first-in, Counting, Resting, counting-none, used, below, worst-positive, can-take, counting-more, resting-none, resting-more, can-judge, judged}
 use Rattle.session.proofs.Session.turn.Statement.{statement}
 use Rattle.session.proofs.Session.turn.Tie as tie
 

@@ -48,9 +48,9 @@ module _ (s : Session) (k : Call) where
 
   -- a completion, overlong or not
   module _ (i d : ℕ) (y : Stream) (now : Clock) (stored : y ≡ charged d (streamAt s i)) (grown : now ≡ moment (s .clock .0 + d)) (is : answerTo s k ≡ outcome s (finish i d)) where
-    pub finishes-late : ltb (s .worst) d ≡ true → with-reply (withDisk (withStream s i y) now (s .head) 0 0) (Reply.Overlong (i + 1) (y .charge)) ≡ answerTo s k
+    pub finishes-overlong : ltb (s .worst) d ≡ true → with-reply (withDisk (withStream s i y) now (s .head) 0 0) (Reply.Overlong (i + 1) (y .charge)) ≡ answerTo s k
     unfolding apply replyTo charged overlong if
-    finishes-late long = rw (is, stored, grown, long)
+    finishes-overlong long = rw (is, stored, grown, long)
 
     pub finishes : ltb (s .worst) d ≡ false → with-reply (withDisk (withStream s i y) now (s .head) 0 0) (Reply.Done (i + 1) (y .charge)) ≡ answerTo s k
     unfolding apply replyTo charged overlong if

@@ -1,10 +1,11 @@
 -- A number less a fraction, rounded down, by the fraction rounded up.
-use mathlib.Core.Path.{_≡_, ap}
-use mathlib.Core.Logic.{⊎-elim}
+use mathlib.Core.Bool.{Bool, true, false}
+use mathlib.Core.Path.{_≡_, refl, ap}
+use lib.Dec.{leb}
+use borrow.Author.Tests.{leb-true, leb-false}
 use Prim.Native.Nat.{ℕ, _+_, _-_, _*_, _/_, _≤_, _<_}
 use native.Mathlib.Nat.{mul-le-mul-right, div-mul-le-self, lt-div-mul-add, div-eq-of-lt-le, div-lt-iff-lt-mul}
 use native.Mathlib.Omega.{arith}
-use Rattle.table.proofs.Tests.{le-or-lt}
 
 module _ (m x n : ℕ) (hm : 0 < m) where
   up : ℕ
@@ -32,7 +33,11 @@ module _ (m x n : ℕ) (hm : 0 < m) where
 
   pub floor-less : (x * m - n) / m ≡ x - (n + (m - 1)) / m
   unfolding up
-  floor-less = ⊎-elim low high (le-or-lt up x)
+  floor-less = go (leb up x) refl
+    where
+      go : (b : Bool) → leb up x ≡ b → (x * m - n) / m ≡ x - up
+      go true e = low (leb-true up x e)
+      go false e = high (leb-false up x e)
 
 -- a fraction of at most x, rounded up, is at most x
 pub up-low : (m x n : ℕ) → 0 < m → n ≤ x * m → (n + (m - 1)) / m ≤ x

@@ -13,7 +13,7 @@ use Rattle.session.specs.Calls.{finish, outcome, answerTo}
 use Rattle.calls.specs.declared.Call.{Call}
 use Rattle.time.specs.declared.Charge.{Charge}
 use Rattle.time.specs.declared.Clock.{Clock}
-use Rattle.session.proofs.Outcomes.{refuses, finishes-late, finishes}
+use Rattle.session.proofs.Outcomes.{refuses, finishes-overlong, finishes}
 use Rattle.session.proofs.Answers.{unsound-answer, done-idle, done-outside, done-ends, done-charges}
 use Rattle.session.proofs.Grounds.{served-in}
 use Rattle.stream.proofs.Fits.{charge-within, duration-within}
@@ -176,7 +176,7 @@ stored c = c .before .charged .ensures ∙ ap (λ (d : Charge). charged (d .0) (
 returns : tie.Need-returns Inv-loop μ-loop Inv-loop2 μ-loop2
 returns c =
     let a = c .before .before .before .before .before .before .before .before .before .before .before .before .before .before .before .before .before .before .before .before .before .before .before .args in
-    finishes-late (a .t1) (Call.Done (a .duration)) (a .t1 .served - 1) (a .duration) (c .before .before .charged .result) (c .before .before .before .before .before .before .after .result) (stored (c .before)) (grown (c .before .before .before .before .before .before)) (answered (c .before)) (c .if6 .taken)
+    finishes-overlong (a .t1) (Call.Done (a .duration)) (a .t1 .served - 1) (a .duration) (c .before .before .charged .result) (c .before .before .before .before .before .before .after .result) (stored (c .before)) (grown (c .before .before .before .before .before .before)) (answered (c .before)) (c .if6 .taken)
 
 returns-2 : tie.Need-returns-2 Inv-loop μ-loop Inv-loop2 μ-loop2
 returns-2 c =

@@ -1,11 +1,11 @@
 -- `Charge::is_near` takes the longest duration off the charge, so that no budget makes the sum too large.
-use borrow.Author.Tests.{leb-true, le-leb}
+use borrow.Author.Tests.{leb-true, leb-false, le-leb, lt-leb}
 use Prim.Native.Nat.{ℕ, _+_, _-_, _<_}
 use lib.Dec.{leb}
 use Rattle.time.specs.Time.{duration-max}
-use Rattle.table.proofs.Tests.{same-test}
 use native.Mathlib.Omega.{arith}
-use mathlib.Core.Path.{_≡_, sym}
+use mathlib.Core.Bool.{Bool, true, false}
+use mathlib.Core.Path.{_≡_, refl, sym, _∙_}
 use borrow.Author.Needs.{needs}
 use Rattle.time.proofs.Charge.is_near.Statement.{statement}
 use Rattle.time.proofs.Charge.is_near.Tie as tie
@@ -14,10 +14,11 @@ sub-result : tie.Need-sub-result
 sub-result c = search needs
 
 by-difference : (c g d : ℕ) → d < c → leb (c - d) g ≡ leb c (g + d)
-by-difference c g d l =
-    same-test _ _
-    (λ h. le-leb c (g + d) (let k = leb-true (c - d) g h in omega arith))
-    (λ h. le-leb (c - d) g (let k = leb-true c (g + d) h in omega arith))
+by-difference c g d l = go (leb (c - d) g) refl
+  where
+    go : (b : Bool) → leb (c - d) g ≡ b → leb (c - d) g ≡ leb c (g + d)
+    go true e = e ∙ sym (le-leb c (g + d) (let k = leb-true (c - d) g e in omega arith))
+    go false e = e ∙ sym (lt-leb c (g + d) (let k = leb-false (c - d) g e in omega arith))
 
 returns : tie.Need-returns
 returns c =

@@ -1,18 +1,19 @@
 -- `Clock::is_later_by` compares the difference, so that no release makes the sum too large.
-use borrow.Author.Tests.{eqb-true, eq-eqb, ne-eqb}
+use borrow.Author.Tests.{eqb-true, eqb-false, eq-eqb, ne-eqb}
 use Prim.Native.Nat.{ℕ, _+_, _-_, _≤_}
 use lib.Dec.{eqb}
-use Rattle.table.proofs.Tests.{same-test}
 use native.Mathlib.Omega.{arith}
-use mathlib.Core.Path.{_≡_, sym}
+use mathlib.Core.Bool.{Bool, true, false}
+use mathlib.Core.Path.{_≡_, refl, sym, _∙_}
 use Rattle.time.proofs.Clock.is_later_by.Statement.{statement}
 use Rattle.time.proofs.Clock.is_later_by.Tie as tie
 
 by-difference : (d r p : ℕ) → r ≤ d → eqb (d - r) p ≡ eqb d (r + p)
-by-difference d r p le =
-    same-test _ _
-    (λ h. eq-eqb d (r + p) (let k = eqb-true (d - r) p h in omega arith))
-    (λ h. eq-eqb (d - r) p (let k = eqb-true d (r + p) h in omega arith))
+by-difference d r p le = go (eqb (d - r) p) refl
+  where
+    go : (b : Bool) → eqb (d - r) p ≡ b → eqb (d - r) p ≡ eqb d (r + p)
+    go true e = e ∙ sym (eq-eqb d (r + p) (let k = eqb-true (d - r) p e in omega arith))
+    go false e = e ∙ sym (ne-eqb d (r + p) (λ k. eqb-false (d - r) p e (omega arith)))
 
 returns : tie.Need-returns
 returns c =

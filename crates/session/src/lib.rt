@@ -104,14 +104,14 @@ fn fresh(t: Table) -> Session
     }
 }
 
-// The eight streams of a session that is opened with a table. Those past the count stay as they start, so that a small table costs little.
+// The eight streams of a session that is opened with a table.
 fn opened_streams(t: Table) -> [Stream; 8]
     ensures { λ r. ⌜ r ≡ listTo (openedStream t) 8 ⌝ }
 {
     let unused = Stream::fresh(0, 0, 0);
     let mut streams = [unused; 8];
     let mut i: usize = 0;
-    while (i < t.count) & (i < 8) {
+    while i < 8 {
         let x = opened_stream(t, i);
         streams[i] = x;
         i += 1;
@@ -119,14 +119,18 @@ fn opened_streams(t: Table) -> [Stream; 8]
     streams
 }
 
-// One of them, below the count.
+// One of them: past the table's count a stream of zeros.
 fn opened_stream(t: Table, i: usize) -> Stream
-    requires { ⌜ (i < t .count) × (i < 8) ⌝ }
+    requires { ⌜ i < 8 ⌝ }
     ensures { λ r. ⌜ r ≡ openedStream t i ⌝ }
 {
-    let reserved = t.reserved;
-    let period = t.period;
-    let e = reserved[i];
-    let budget = table::granted(t.worst, t.padding, e);
-    Stream::fresh(e, period[i], budget)
+    if i < t.count {
+        let reserved = t.reserved;
+        let period = t.period;
+        let e = reserved[i];
+        let budget = table::granted(t.worst, t.padding, e);
+        Stream::fresh(e, period[i], budget)
+    } else {
+        Stream::fresh(0, 0, 0)
+    }
 }

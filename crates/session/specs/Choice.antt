@@ -24,6 +24,7 @@ sentBefore s a b =
 unfoldable pub chosen : Session → ℕ
 chosen s = firstBest (λ i. leb 1 (filledAt s i)) (sentBefore s) (s .count)
 
+-- which of two streams of a session loses a slot first
 abbrev pub expiresBefore : Session → ℕ → ℕ → Bool
 expiresBefore s a b = expiresFirst (streamAt s a) (streamAt s b)
 

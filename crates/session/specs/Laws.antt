@@ -65,7 +65,7 @@ HorizonBetween =
 abbrev pub ChosenGoesFirst : Type 0
 ChosenGoesFirst = (s : Session) → someFilled s ≡ true → GoesFirst (filledAt s) (sentBefore s) (s .count) (chosen s)
 
--- So the request sent goes before each request j of the set, of a stream i, in the order of the document: "Take the earliest deadline among streams with a filled slot; of the set's requests from streams with that deadline, the place nearest the head; ties go to the lower stream, then the earlier arrival."
+-- So, with `NearestIsFirst` of a queue, the request sent goes before each request j of the set, of a stream i, in the order of the document: "Take the earliest deadline among streams with a filled slot; of the set's requests from streams with that deadline, the place nearest the head; ties go to the lower stream, then the earlier arrival."
 abbrev pub SentGoesFirst : Type 0
 SentGoesFirst =
     (s : Session) (i j : ℕ) → someFilled s ≡ true → i < s .count → inSet s i j ≡ true

@@ -1,4 +1,4 @@
--- Bounds on the numbers of a sound session, by which 64 bits are enough.
+-- Bounds on the numbers of a stream of a sound session, by which 64 bits are enough.
 use mathlib.Core.Bool.{false}
 use mathlib.Core.Path.{_≡_}
 use Prim.Native.Nat.{ℕ, _+_, _-_, _*_, _/_, _%_, _^_, _≤_}

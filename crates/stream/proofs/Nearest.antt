@@ -34,7 +34,7 @@ unfolding nearest
 nearest-in head places zero h = absurd (not-suc-le-zero h)
 nearest-in head places (suc m) h = suc-le-suc-iff .1 (best-low _ _ m)
 
--- its request is the nearest of its set, and of equals the earliest
+-- the nearest of the first m goes first, and of equals the earliest
 pub nearest-is-first : NearestIsFirst
 unfolding nearest
 nearest-is-first head places m j l =

@@ -37,7 +37,7 @@ GoesFirst has before n first =
     × (1 ≤ has first)
     × ((i : ℕ) → i < n → 1 ≤ has i → (before i first ≡ false) × (i < first → before first i ≡ true))
 
--- Its request is the first of its set: none of the first m places of a queue is nearer the head, and each earlier one is further from it.
+-- Of the first m places of a queue the nearest goes first: none of them is nearer the head, and each earlier one is further from it.
 abbrev pub NearestIsFirst : Type 0
 NearestIsFirst =
     (head : ℕ) (places : List ℕ) (m j : ℕ) → j < m

@@ -1,6 +1,6 @@
 -- What a call is answered: 31 for a session that is not sound, else the first refusal, else what the call comes to.
 use mathlib.Core.Bool.{Bool, true, false}
-use mathlib.Core.Path.{_≡_, refl, _∙_, ap}
+use mathlib.Core.Path.{_≡_, refl, sym, _∙_, ap}
 use Prim.Native.Nat.{ℕ, suc, _+_, _-_, _≤_, _<_}
 use native.Mathlib.Omega.{arith}
 use lib.Dec.{leb, ltb, eqb}
@@ -13,26 +13,36 @@ use Rattle.stream.specs.Stream.{queue-max, filled}
 use Rattle.session.specs.Session.{streamAt, slotsAt, filledAt, someFilled, noSlot, latest, sound}
 use Rattle.stream.specs.Choice.{firstBest}
 use Rattle.session.specs.Choice.{nearestAt, sentBefore, chosen, expiring}
-use Rattle.session.specs.Calls.{refuse, append, send, move, wait, expire, finish, set-clock, noSuchStream, busy, movePassesEnd, callRefusal, refusal, turnEffect, effect, ruled, verdict, apply, outcome, answerTo}
+use Rattle.session.specs.Calls.{Verdict, refuse, append, send, move, wait, expire, finish, set-clock, noSuchStream, busy, movePassesEnd, callRefusal, refusal, turnEffect, effect, ruled, verdict, apply, outcome, answerTo}
 use Rattle.session.specs.Laws.{PresentTimeChangesNothing}
 use Rattle.session.specs.declared.Session.{Session}
 use Rattle.calls.specs.declared.Call.{Call}
+use Rattle.session.specs.declared.Answer.{Answer}
 use Rattle.session.proofs.Sound.{Sound, admits, bounded}
 use Rattle.stream.proofs.Best.{best-positive}
 use Rattle.session.proofs.Grounds.{Grounds, ruled-by}
 
 module _ (s : Session) (k : Call) where
+  pub unsound-verdict : sound s ≡ false → verdict s k ≡ refuse 31
+  unfolding verdict refusal given _or-next_ ruled
+  unsound-verdict e = rw e
+
   pub unsound-answer : sound s ≡ false → answerTo s k ≡ outcome s (refuse 31)
-  unfolding answerTo verdict refusal given _or-next_ ruled
-  unsound-answer e = rw e
+  unfolding answerTo
+  unsound-answer e = ap (outcome s) (unsound-verdict e)
+
+  -- what the verdict comes to is what the call is answered
+  pub answers : {v : Verdict} {r : Answer} → r ≡ outcome s v → verdict s k ≡ v → r ≡ answerTo s k
+  unfolding answerTo
+  answers e is = e ∙ ap (outcome s) (sym is)
 
   module _ (ok : sound s ≡ true) where
-    pub refused : (n : ℕ) → callRefusal s k ≡ suc n → answerTo s k ≡ outcome s (refuse (suc n))
-    unfolding answerTo verdict refusal given _or-next_ ruled
+    pub refused : (n : ℕ) → callRefusal s k ≡ suc n → verdict s k ≡ refuse (suc n)
+    unfolding verdict refusal given _or-next_ ruled
     refused n e = rw (ok, e)
 
-    pub accepted : callRefusal s k ≡ 0 → answerTo s k ≡ outcome s (effect s k)
-    unfolding answerTo verdict refusal given _or-next_ ruled
+    pub accepted : callRefusal s k ≡ 0 → verdict s k ≡ effect s k
+    unfolding verdict refusal given _or-next_ ruled
     accepted e = rw (ok, e)
 
 -- a stream with a filled slot has a slot
@@ -57,106 +67,106 @@ sendable s q i j g =
     let high = bounded s q i (g .exists) .queued-high in
     (omega (arith, g .exists, admits s q .numbers .count-high), omega (arith, g .inSet), omega (arith, g .inSet))
 
-pub turn-busy : (s : Session) → sound s ≡ true → (s .served ≡ 0 → ⊥) → answerTo s Call.Turn ≡ outcome s (refuse 10)
+pub turn-busy : (s : Session) → sound s ≡ true → (s .served ≡ 0 → ⊥) → verdict s Call.Turn ≡ refuse 10
 unfolding callRefusal given _or-next_ busy
 turn-busy s ok some = refused s Call.Turn ok 9 (rw (ne-eqb _ _ some))
 
 -- what a turn of an idle disk is answered, case by case
 module _ (s : Session) (ok : sound s ≡ true) (idle : s .served ≡ 0) where
-  pub turn-sends : (i j : ℕ) → i ≡ chosen s → j ≡ nearestAt s (chosen s) → someFilled s ≡ true → answerTo s Call.Turn ≡ outcome s (send i j)
+  pub turn-sends : (i j : ℕ) → i ≡ chosen s → j ≡ nearestAt s (chosen s) → someFilled s ≡ true → verdict s Call.Turn ≡ send i j
   unfolding callRefusal given _or-next_ busy effect turnEffect if
   turn-sends i j stream-is index-is some =
-      accepted s Call.Turn ok (rw (eq-eqb _ _ idle, filled-has-slot s some)) ∙ ap (outcome s) (rw (some, stream-is, index-is))
+      accepted s Call.Turn ok (rw (eq-eqb _ _ idle, filled-has-slot s some)) ∙ rw (some, stream-is, index-is)
 
   module _ (none : someFilled s ≡ false) where
-    pub turn-waits : noSlot s ≡ false → ltb (s .clock .0) (latest s) ≡ true → answerTo s Call.Turn ≡ outcome s wait
+    pub turn-waits : noSlot s ≡ false → ltb (s .clock .0) (latest s) ≡ true → verdict s Call.Turn ≡ wait
     unfolding callRefusal given _or-next_ busy effect turnEffect if
-    turn-waits slot early = accepted s Call.Turn ok (rw (eq-eqb _ _ idle, slot)) ∙ ap (outcome s) (rw (none, slot, early))
+    turn-waits slot early = accepted s Call.Turn ok (rw (eq-eqb _ _ idle, slot)) ∙ rw (none, slot, early)
 
-    pub turn-expires : (i : ℕ) → i ≡ expiring s → noSlot s ≡ false → ltb (s .clock .0) (latest s) ≡ false → answerTo s Call.Turn ≡ outcome s (expire i)
+    pub turn-expires : (i : ℕ) → i ≡ expiring s → noSlot s ≡ false → ltb (s .clock .0) (latest s) ≡ false → verdict s Call.Turn ≡ expire i
     unfolding callRefusal given _or-next_ busy effect turnEffect if
-    turn-expires i stream-is slot late = accepted s Call.Turn ok (rw (eq-eqb _ _ idle, slot)) ∙ ap (outcome s) (rw (none, slot, late, stream-is))
+    turn-expires i stream-is slot late = accepted s Call.Turn ok (rw (eq-eqb _ _ idle, slot)) ∙ rw (none, slot, late, stream-is)
 
-    pub turn-moves : noSlot s ≡ true → movePassesEnd s ≡ false → answerTo s Call.Turn ≡ outcome s move
+    pub turn-moves : noSlot s ≡ true → movePassesEnd s ≡ false → verdict s Call.Turn ≡ move
     unfolding callRefusal given _or-next_ busy effect turnEffect if
-    turn-moves over fits = accepted s Call.Turn ok (rw (eq-eqb _ _ idle, over, fits)) ∙ ap (outcome s) (rw (none, over))
+    turn-moves over fits = accepted s Call.Turn ok (rw (eq-eqb _ _ idle, over, fits)) ∙ rw (none, over)
 
-  pub turn-ends : noSlot s ≡ true → movePassesEnd s ≡ true → answerTo s Call.Turn ≡ outcome s (refuse 14)
+  pub turn-ends : noSlot s ≡ true → movePassesEnd s ≡ true → verdict s Call.Turn ≡ refuse 14
   unfolding callRefusal given _or-next_ busy
   turn-ends over passes = refused s Call.Turn ok 13 (rw (eq-eqb _ _ idle, over, passes))
 
 -- what an arrival is answered, case by case
 module _ (s : Session) (n place : ℕ) (ok : sound s ≡ true) where
-  pub arrival-nowhere : noSuchStream s n ≡ true → answerTo s (Call.Arrival n place) ≡ outcome s (refuse 8)
+  pub arrival-nowhere : noSuchStream s n ≡ true → verdict s (Call.Arrival n place) ≡ refuse 8
   unfolding callRefusal given _or-next_
   arrival-nowhere none = refused s (Call.Arrival n place) ok 7 (rw none)
 
   module _ (own : noSuchStream s n ≡ false) where
-    pub arrival-full : streamAt s (n - 1) .queued ≡ queue-max → answerTo s (Call.Arrival n place) ≡ outcome s (refuse 9)
+    pub arrival-full : streamAt s (n - 1) .queued ≡ queue-max → verdict s (Call.Arrival n place) ≡ refuse 9
     unfolding callRefusal given _or-next_
     arrival-full full = refused s (Call.Arrival n place) ok 8 (rw (own, eq-eqb _ _ full))
 
-    pub arrival-joins : (streamAt s (n - 1) .queued ≡ queue-max → ⊥) → answerTo s (Call.Arrival n place) ≡ outcome s (append (n - 1) place)
+    pub arrival-joins : (streamAt s (n - 1) .queued ≡ queue-max → ⊥) → verdict s (Call.Arrival n place) ≡ append (n - 1) place
     unfolding callRefusal given _or-next_ effect
     arrival-joins space = accepted s (Call.Arrival n place) ok (rw (own, ne-eqb _ _ space))
 
 -- what an own turn is answered, case by case
 module _ (s : Session) (n j : ℕ) (ok : sound s ≡ true) where
-  pub own-busy : (s .served ≡ 0 → ⊥) → answerTo s (Call.OwnTurn n j) ≡ outcome s (refuse 10)
+  pub own-busy : (s .served ≡ 0 → ⊥) → verdict s (Call.OwnTurn n j) ≡ refuse 10
   unfolding callRefusal given _or-next_ busy
   own-busy some = refused s (Call.OwnTurn n j) ok 9 (rw (ne-eqb _ _ some))
 
   module _ (idle : s .served ≡ 0) where
-    pub own-nowhere : noSuchStream s n ≡ true → answerTo s (Call.OwnTurn n j) ≡ outcome s (refuse 8)
+    pub own-nowhere : noSuchStream s n ≡ true → verdict s (Call.OwnTurn n j) ≡ refuse 8
     unfolding callRefusal given _or-next_ busy
     own-nowhere none = refused s (Call.OwnTurn n j) ok 7 (rw (eq-eqb _ _ idle, none))
 
     module _ (own : noSuchStream s n ≡ false) where
-      pub own-outside : filledAt s (n - 1) ≤ j → answerTo s (Call.OwnTurn n j) ≡ outcome s (refuse 15)
+      pub own-outside : filledAt s (n - 1) ≤ j → verdict s (Call.OwnTurn n j) ≡ refuse 15
       unfolding callRefusal given _or-next_ busy
       own-outside past = refused s (Call.OwnTurn n j) ok 14 (rw (eq-eqb _ _ idle, own, le-ltb _ _ past))
 
-      pub own-sends : j < filledAt s (n - 1) → answerTo s (Call.OwnTurn n j) ≡ outcome s (send (n - 1) j)
+      pub own-sends : j < filledAt s (n - 1) → verdict s (Call.OwnTurn n j) ≡ send (n - 1) j
       unfolding callRefusal given _or-next_ busy effect
       own-sends in-set = accepted s (Call.OwnTurn n j) ok (rw (eq-eqb _ _ idle, own, lt-ltb _ _ in-set))
 
 -- what a completion is answered, case by case
 module _ (s : Session) (a : ℕ) (ok : sound s ≡ true) where
-  pub done-idle : s .served ≡ 0 → answerTo s (Call.Done a) ≡ outcome s (refuse 11)
+  pub done-idle : s .served ≡ 0 → verdict s (Call.Done a) ≡ refuse 11
   unfolding callRefusal given _or-next_ busy
   done-idle idle = refused s (Call.Done a) ok 10 (rw (eq-eqb _ _ idle))
 
   module _ (at-disk : s .served ≡ 0 → ⊥) where
-    pub done-outside : outside 1 duration-max a ≡ true → answerTo s (Call.Done a) ≡ outcome s (refuse 12)
+    pub done-outside : outside 1 duration-max a ≡ true → verdict s (Call.Done a) ≡ refuse 12
     unfolding callRefusal given _or-next_ busy
     done-outside out = refused s (Call.Done a) ok 11 (rw (ne-eqb _ _ at-disk, out))
 
     module _ (in-range : outside 1 duration-max a ≡ false) where
-      pub done-ends : ltb session-end (s .clock .0 + a) ≡ true → answerTo s (Call.Done a) ≡ outcome s (refuse 14)
+      pub done-ends : ltb session-end (s .clock .0 + a) ≡ true → verdict s (Call.Done a) ≡ refuse 14
       unfolding callRefusal given _or-next_ busy
       done-ends past = refused s (Call.Done a) ok 13 (rw (ne-eqb _ _ at-disk, in-range, past))
 
-      pub done-charges : ltb session-end (s .clock .0 + a) ≡ false → answerTo s (Call.Done a) ≡ outcome s (finish (s .served - 1) a)
+      pub done-charges : ltb session-end (s .clock .0 + a) ≡ false → verdict s (Call.Done a) ≡ finish (s .served - 1) a
       unfolding callRefusal given _or-next_ busy effect
       done-charges within = accepted s (Call.Done a) ok (rw (ne-eqb _ _ at-disk, in-range, within))
 
 -- what a report of the time is answered, case by case
 module _ (s : Session) (t : ℕ) (ok : sound s ≡ true) where
-  pub clock-busy : (s .served ≡ 0 → ⊥) → answerTo s (Call.Clock t) ≡ outcome s (refuse 10)
+  pub clock-busy : (s .served ≡ 0 → ⊥) → verdict s (Call.Clock t) ≡ refuse 10
   unfolding callRefusal given _or-next_ busy
   clock-busy some = refused s (Call.Clock t) ok 9 (rw (ne-eqb _ _ some))
 
   module _ (idle : s .served ≡ 0) where
-    pub clock-back : ltb t (s .clock .0) ≡ true → answerTo s (Call.Clock t) ≡ outcome s (refuse 13)
+    pub clock-back : ltb t (s .clock .0) ≡ true → verdict s (Call.Clock t) ≡ refuse 13
     unfolding callRefusal given _or-next_ busy
     clock-back back = refused s (Call.Clock t) ok 12 (rw (eq-eqb _ _ idle, back))
 
     module _ (onward : ltb t (s .clock .0) ≡ false) where
-      pub clock-ends : ltb session-end t ≡ true → answerTo s (Call.Clock t) ≡ outcome s (refuse 14)
+      pub clock-ends : ltb session-end t ≡ true → verdict s (Call.Clock t) ≡ refuse 14
       unfolding callRefusal given _or-next_ busy
       clock-ends past = refused s (Call.Clock t) ok 13 (rw (eq-eqb _ _ idle, onward, past))
 
-      pub clock-sets : ltb session-end t ≡ false → answerTo s (Call.Clock t) ≡ outcome s (set-clock t)
+      pub clock-sets : ltb session-end t ≡ false → verdict s (Call.Clock t) ≡ set-clock t
       unfolding callRefusal given _or-next_ busy effect
       clock-sets within = accepted s (Call.Clock t) ok (rw (eq-eqb _ _ idle, onward, within))
 

@@ -11,12 +11,11 @@ use Rattle.table.proofs.Lists.{Filled, filled-more, filled-on, filled-all, mapp
 use Rattle.time.specs.Time.{session-end, moment}
 use Rattle.stream.specs.Stream.{moved}
 use Rattle.session.specs.Session.{noStream, streamAt, horizon, withStreams, withStream}
-use Rattle.session.specs.Calls.{move, apply, replyTo, outcome, answerTo}
+use Rattle.session.specs.Calls.{move, apply, replyTo, outcome}
 use Rattle.time.specs.declared.Clock.{Clock}
 use Rattle.stream.specs.declared.Stream.{Stream}
 use Rattle.session.specs.declared.Session.{Session}
 use Rattle.calls.specs.declared.Reply.{Reply}
-use Rattle.calls.specs.declared.Call.{Call}
 use Rattle.session.proofs.Sound.{Sound, admits, deadline-high, unused-deadline}
 use Rattle.session.proofs.MoveKept.{moving, next, stays, moved-at}
 
@@ -75,9 +74,9 @@ module _ (s : Session) (q : Sound s) where
       }
 
   -- past the count nothing is due, so that all is moved
-  pub moving-all : (k : Call) (after : Session) (h : Clock) → Moving after h (s .count) → answerTo s k ≡ outcome s move → record { session = after; reply = Reply.Moved h } ≡ answerTo s k
+  pub moving-all : (after : Session) (h : Clock) → Moving after h (s .count) → record { session = after; reply = Reply.Moved h } ≡ outcome s move
   unfolding apply replyTo horizon
-  moving-all k after h m is =
+  moving-all after h m =
       let high = admits s q .numbers .count-high in
       let full = filled-on movedAt (after .streams) noStream (s .count) 8 high
       (λ j past l. m .rest j past ∙ sym (stays s q (streamAt s j) (unused-deadline (streamAt s j) (q .others j past l)))) (m .front) in
@@ -85,4 +84,4 @@ module _ (s : Session) (q : Sound s) where
       let after-is = m .cells ∙ ap (withStreams s) streams in
       let ahead-is = m .ahead ∙ ap moment (smallest-agree (λ j. movedAt j .deadline .0) (λ j. streamAt (next s q) j .deadline .0) (s .count) (admits s q .numbers .count-low)
       (λ j l. ap (λ (x : Stream). x .deadline .0) (sym (moved-at s q j)))) in
-      ap₂ (λ (z : Session) (c : Clock). record { session = z; reply = Reply.Moved c }) after-is ahead-is ∙ sym is
+      ap₂ (λ (z : Session) (c : Clock). record { session = z; reply = Reply.Moved c }) after-is ahead-is

@@ -19,7 +19,10 @@ use Rattle.session.specs.Session.{streamAt, horizon, tableOf, soundRest,
 use Rattle.stream.specs.Search.{slotOf, inOrder, begun, counted, Countable, says, Judgeable}
 use Rattle.stream.specs.declared.Stream.{Stream}
 use Rattle.stream.specs.declared.census.Census.{Census}
+use Rattle.time.specs.declared.Clock.{Clock}
+use Rattle.session.specs.Inner.{judgedOf}
 use Rattle.session.specs.declared.Session.{Session}
+use Rattle.session.specs.declared.soundness.Judged.{Judged}
 use Rattle.session.proofs.Sound.{sound-of, admits}
 use Rattle.session.proofs.Counted.{CountedTo, counted-none, counted-more, countable, horizon-is, judgeable, decides}
 
@@ -139,3 +142,9 @@ module _ (s : Session) where
 
     pub judged : 8 ≤ j → (used : Bool) → used ≡ says c (s .clock) (s .served) (s .place) (streamAt s at) → ((rest && used) ≡ sound s) × ((rest && used) ≡ true → c .horizon ≡ moment (horizon s))
     judged low used e = rw e (decided low)
+
+-- what is said of a session that was judged, and of its horizon if it is sound
+pub judged-is : (s : Session) (b : Bool) (h : Clock) → (b ≡ sound s) × (b ≡ true → h ≡ moment (horizon s)) → record { sound = b; horizon = if b h (moment 0) } ≡ judgedOf s
+unfolding if
+judged-is s true h (e, is) = rw (sym e, is refl)
+judged-is s false h (e, is) = rw (sym e)

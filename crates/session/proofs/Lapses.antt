@@ -5,9 +5,6 @@ use Prim.Native.Nat.{ℕ, zero, suc, _≤_, _<_}
 use native.Mathlib.Omega.{arith}
 use Rattle.table.specs.Fold.{if, someTo}
 use Rattle.stream.specs.Choice.{firstBest}
-use Rattle.session.specs.Session.{noSlot}
-use Rattle.session.specs.Choice.{expiring}
-use Rattle.session.specs.declared.Session.{Session}
 use Rattle.stream.specs.declared.expiry.Lapse.{Lapse}
 use Rattle.stream.proofs.Best.{best-low, best-skips, best-starts, best-next}
 
@@ -42,7 +39,3 @@ module _ (passes : ℕ → Bool) (beats : ℕ → ℕ → Bool) where
           rw (best-next passes beats n here some, here, some) (whole (beats n (firstBest passes beats n)) n (firstBest passes beats n))
       go true here false none = rw (best-starts passes beats n here none, here, none)
       go false fails q e = rw (best-skips passes beats n fails, fails, or-false (someTo passes n))
-
--- whether some stream has a slot, and the one that loses it
-unfoldable pub lapseOf : Session → Lapse
-lapseOf s = record { found = not (noSlot s); stream = expiring s }

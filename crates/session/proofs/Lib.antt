@@ -28,3 +28,4 @@ pub mod Promise
 pub mod PromiseMet
 pub mod Lending
 pub mod Answering
+pub mod Dues

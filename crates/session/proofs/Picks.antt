@@ -1,16 +1,16 @@
 -- The search for the request to send, step by step.
 use mathlib.Core.Bool.{Bool, true, false, not, _&&_, _||_, or-true, or-false, false≢true}
-use mathlib.Core.Path.{_≡_, refl, sym, _∙_, ap}
-use Prim.Native.Nat.{ℕ, zero, suc, _+_}
+use mathlib.Core.Path.{_≡_, refl, sym, subst, _∙_, ap}
+use Prim.Native.Nat.{ℕ, zero, suc, _+_, _≤_}
 use native.Mathlib.Numerals.{add-one}
 use native.Mathlib.Omega.{arith}
 use lib.Dec.{leb, ltb, eqb}
 use borrow.Author.Tests.{eq-eqb, ne-eqb, le-leb, lt-leb}
 use Rattle.table.specs.Fold.{if, someTo}
 use Rattle.time.specs.Time.{moment}
-use Rattle.session.specs.Session.{streamAt, horizon, filledAt}
+use Rattle.session.specs.Session.{streamAt, horizon, filledAt, someFilled}
 use Rattle.stream.specs.Choice.{firstBest, distance}
-use Rattle.session.specs.Choice.{nearestAt, distanceAt, sentBefore}
+use Rattle.session.specs.Choice.{nearestAt, distanceAt, sentBefore, chosen}
 use Rattle.stream.specs.Search.{considered}
 use Rattle.time.specs.declared.Clock.{Clock}
 use Rattle.stream.specs.declared.choice.Pick.{Pick}
@@ -124,3 +124,11 @@ picked-none s p f z =
       index = λ t. absurd (false≢true (sym f ∙ t));
       far = λ t. absurd (false≢true (sym f ∙ t));
     }
+
+-- past all streams the search is over
+pub picked-all : (s : Session) (i : ℕ) (p : Pick) → Picked s i p → i ≤ s .count → s .count ≤ i → (p .found ≡ someFilled s) × (p .stream ≡ chosen s) × (p .found ≡ true → p .index ≡ nearestAt s (chosen s))
+unfolding someFilled chosen
+picked-all s i p q le past =
+    let e : i ≡ s .count = omega (arith, le, past) in
+    let all = subst (λ (n : ℕ). Picked s n p) e q in
+    (all .found, all .stream, λ f. all .index f ∙ ap (nearestAt s) (all .stream))

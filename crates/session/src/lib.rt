@@ -2,9 +2,12 @@
 mod arrivals;
 mod completions;
 mod dispatch;
+mod effects;
 mod lent;
 mod own_turns;
 mod reports;
+mod searches;
+mod soundness;
 mod turns;
 
 ghost use mathlib.Core.Path.{_≡_};
@@ -12,6 +15,8 @@ ghost use Prim.Native.Nat.{_<_};
 ghost use Rattle.table.specs.Fold.{listTo};
 ghost use Rattle.session.specs.Opening.{openedStream, freshSession, zeroSession, openingOf};
 use calls::Reply;
+pub use searches::Outlook;
+pub use soundness::Judged;
 use stream::Stream;
 use table::Admission;
 use table::Table;

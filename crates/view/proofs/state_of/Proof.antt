@@ -4,12 +4,12 @@ use mathlib.Core.Path.{_≡_, sym, _∙_}
 use Prim.Native.Nat.{_-_, _≤_, _<_}
 use native.Mathlib.Omega.{arith}
 use borrow.Author.Needs.{needs}
-use borrow.Author.Tests.{not-true, not-false}
 use Rattle.table.specs.Fold.{if}
 use Rattle.table.specs.Refusal.{given, _or-next_}
 use Rattle.session.specs.Session.{sound}
 use Rattle.session.specs.Calls.{noSuchStream}
 use Rattle.view.specs.View.{stateRefusal, stateOf}
+use Rattle.session.proofs.Dues.{by-31, past-31}
 use Rattle.session.proofs.Grounds.{named}
 use Rattle.session.proofs.Sound.{count-high}
 use Rattle.view.proofs.state_of.Statement.{statement}
@@ -24,11 +24,11 @@ fresh-requires c κs = search needs
 returns : tie.Need-returns
 unfolding stateOf stateRefusal given _or-next_ if
 returns c =
-    rw (sym (c .before .before .before .judge .ensures .0) ∙ not-true _ (c .if1 .taken), c .before .before .fresh .ensures)
+    rw (by-31 _ _ (c .before .before .before .judge .ensures) (c .if1 .taken), c .before .before .fresh .ensures)
 
 -- past 31 the session is sound
 ok : (c : tie.Else1) → sound (c .before .before .before .before .args .session) ≡ true
-ok c = sym (c .before .before .before .judge .ensures .0) ∙ not-false _ (c .if1 .left)
+ok c = past-31 _ _ (c .before .before .before .judge .ensures) (c .if1 .left) .ok
 
 returns-2 : tie.Need-returns-2
 unfolding stateOf stateRefusal given _or-next_ noSuchStream if

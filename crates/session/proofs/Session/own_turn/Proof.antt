@@ -1,249 +1,107 @@
--- `Session::own_turn` judges the session, refuses by 31, 10, 8 and 15 and sends the request asked for: each way out cites what its case is answered.
-use borrow.Author.Tests.{not-true, not-false}
-use mathlib.Core.Bool.{true, false, _&&_}
-use mathlib.Core.Path.{_≡_, sym, ap, subst, _∙_}
-use Prim.Native.Nat.{ℕ, _≤_, _<_, _-_}
-use lib.ListN.{length-map}
+-- `Session::own_turn` refuses by 31, 10, 8 and 15 and sends the request that was chosen: each way out cites its verdict.
+use mathlib.Core.Bool.{true, false}
+use mathlib.Core.Path.{_≡_, ap, _∙_}
+use Prim.Native.Nat.{_≤_, _<_, _-_}
+use native.Mathlib.Omega.{arith}
 use Rattle.time.specs.Time.{moment}
+use Rattle.time.specs.declared.Clock.{Clock}
 use Rattle.stream.specs.Stream.{filled}
 use Rattle.session.specs.Session.{streamAt, horizon, filledAt, sound}
-use Rattle.session.specs.Calls.{send, noSuchStream, outcome, answerTo}
-use Rattle.time.specs.declared.Clock.{Clock}
+use Rattle.session.specs.Calls.{send, noSuchStream, verdict}
 use Rattle.calls.specs.declared.Call.{Call}
-use Rattle.session.proofs.Outcomes.{refuses, sends}
-use Rattle.session.proofs.Answers.{unsound-answer, sendable, own-busy, own-nowhere, own-outside, own-sends}
-use Rattle.session.proofs.Grounds.{Grounds, named}
-use Rattle.session.proofs.Sound.{sound-of, count-high, bounded-by}
-use Rattle.table.proofs.Loops.{next-fits, below-eight, fewer}
-use Rattle.session.proofs.Judging.{offset-fits, place-fits, first-in, Counting, Resting, counting-none, used, below, worst-positive, can-take, counting-more, resting-none, resting-more, can-judge, judged}
+use Rattle.session.proofs.Answers.{answers, unsound-verdict, own-busy, own-nowhere, own-outside, own-sends}
+use Rattle.session.proofs.Grounds.{named}
+use Rattle.session.proofs.Sound.{sound-of, bounded-by}
+use Rattle.session.proofs.Dues.{by-31, past-31, inside}
+use Rattle.session.proofs.Judging.{offset-fits}
 use Rattle.session.proofs.Session.own_turn.Statement.{statement}
 use Rattle.session.proofs.Session.own_turn.Tie as tie
 
-abbrev Inv-loop : tie.InvT-loop
-Inv-loop stream index s census₀ i₀ census i = Counting s census i
+judge-requires : tie.Need-judge-requires
+judge-requires c κs = tt
 
-abbrev μ-loop : tie.MeasureT-loop
-μ-loop stream index s census₀ i₀ census i = s .count - i
+refuse-requires : tie.Need-refuse-requires
+refuse-requires c κs = tt
 
-abbrev Inv-loop2 : tie.InvT-loop2
-Inv-loop2 stream index s census i rest₀ j₀ rest j = Resting s census rest j
+-- past 31 the session is sound
+ok : (c : tie.Else1) → sound (c .before .before .before .args .t1) ≡ true
+ok c = past-31 _ _ (c .before .before .judge .ensures) (c .if1 .left) .ok
 
-abbrev μ-loop2 : tie.MeasureT-loop2
-μ-loop2 stream index s census i rest₀ j₀ rest j = 8 - j
+ahead : (c : tie.Else1) → c .before .before .judge .result .horizon ≡ moment (horizon (c .before .before .before .args .t1))
+ahead c = past-31 _ _ (c .before .before .judge .ensures) (c .if1 .left) .is
 
-element-copy-out-first : tie.Need-element-copy-out-first Inv-loop μ-loop Inv-loop2 μ-loop2
-element-copy-out-first c = first-in
+returns : tie.Need-returns
+returns c = answers _ _ (c .refuse .ensures) (unsound-verdict _ _ (by-31 _ _ (c .before .before .before .judge .ensures) (c .before .if1 .taken)))
 
-begin-requires : tie.Need-begin-requires Inv-loop μ-loop Inv-loop2 μ-loop2
-begin-requires c κs = tt
+refuse-requires-2 : tie.Need-refuse-requires-2
+refuse-requires-2 c κs = tt
 
--- that there are eight streams stands in what is told of the parameter: its last field is an array of eight, of the streams mapped
-loop-holds : tie.Need-loop-holds Inv-loop μ-loop Inv-loop2 μ-loop2
-loop-holds c =
-    let s = c .before .before .args .t1 in
-    let array = c .before .before .good .0 .1 .1 .1 .1 .1 .1 .1 .1 .1 .1 .0 in
-    counting-none s _ (c .begin .ensures) (sym (length-map (s .streams) _) ∙ array .1 .0 .1)
+returns-2 : tie.Need-returns-2
+returns-2 c = answers _ _ (c .refuse2 .ensures) (own-busy _ _ _ (ok (c .before .before)) (c .before .if2 .taken))
 
-mul-x : tie.Need-mul-x Inv-loop μ-loop Inv-loop2 μ-loop2
-mul-x c = offset-fits _ (below _ _ _ (c .before .before .loop .inv) (c .if1 .taken))
+refuse-requires-3 : tie.Need-refuse-requires-3
+refuse-requires-3 c κs = tt
 
-element-copy-out-x : tie.Need-element-copy-out-x Inv-loop μ-loop Inv-loop2 μ-loop2
-element-copy-out-x c = below _ _ _ (c .before .before .loop .inv) (c .if1 .taken)
-
-is-in-order-requires : tie.Need-is-in-order-requires Inv-loop μ-loop Inv-loop2 μ-loop2
-is-in-order-requires c κs = worst-positive _ _ _ (c .before .before .before .loop .inv) (c .before .if1 .taken)
-
-with-requires : tie.Need-with-requires Inv-loop μ-loop Inv-loop2 μ-loop2
-with-requires c κs = can-take _ _ _ (c .before .before .before .before .loop .inv) (c .before .before .if1 .taken) _ _ (c .is-in-order .ensures)
-
-add-i : tie.Need-add-i Inv-loop μ-loop Inv-loop2 μ-loop2
-add-i c = next-fits _ (below _ _ _ (c .before .before .before .before .before .loop .inv) (c .before .before .before .if1 .taken))
-
-loop-less : tie.Need-loop-less Inv-loop μ-loop Inv-loop2 μ-loop2
-loop-less c = fewer _ _ (used _ _ _ (c .before .before .before .before .before .loop .inv) (c .before .before .before .if1 .taken))
-
-loop-again : tie.Need-loop-again Inv-loop μ-loop Inv-loop2 μ-loop2
-loop-again c = counting-more _ _ _ (c .before .before .before .before .before .loop .inv) (c .before .before .before .if1 .taken) _ (c .with .ensures)
-
-loop2-holds : tie.Need-loop2-holds Inv-loop μ-loop Inv-loop2 μ-loop2
-loop2-holds c = resting-none _ _ _ (c .before .before .loop .inv) (c .if1 .left)
-
-mul-x-2 : tie.Need-mul-x-2 Inv-loop μ-loop Inv-loop2 μ-loop2
-mul-x-2 c = offset-fits _ (c .loop2-test .taken)
-
-element-copy-out-x-2 : tie.Need-element-copy-out-x-2 Inv-loop μ-loop Inv-loop2 μ-loop2
-element-copy-out-x-2 c = c .loop2-test .taken
-
-is-unused-requires : tie.Need-is-unused-requires Inv-loop μ-loop Inv-loop2 μ-loop2
-is-unused-requires c κs = tt
-
-add-j : tie.Need-add-j Inv-loop μ-loop Inv-loop2 μ-loop2
-add-j c = next-fits _ (c .before .before .loop2-test .taken)
-
-loop2-less : tie.Need-loop2-less Inv-loop μ-loop Inv-loop2 μ-loop2
-loop2-less c = fewer 8 _ (c .before .before .loop2-test .taken)
-
-loop2-again : tie.Need-loop2-again Inv-loop μ-loop Inv-loop2 μ-loop2
-loop2-again c = resting-more _ _ _ _ (c .before .before .before .loop2 .inv) (c .before .before .loop2-test .taken) _ (c .is-unused .ensures)
-
-slot-of-requires : tie.Need-slot-of-requires Inv-loop μ-loop Inv-loop2 μ-loop2
-slot-of-requires c κs = tt
-
-mul-disk : tie.Need-mul-disk Inv-loop μ-loop Inv-loop2 μ-loop2
-mul-disk c = offset-fits _ (c .slot-of .ensures .0)
-
-element-copy-out-disk : tie.Need-element-copy-out-disk Inv-loop μ-loop Inv-loop2 μ-loop2
-element-copy-out-disk c = c .slot-of .ensures .0
-
-is-sound-requires : tie.Need-is-sound-requires Inv-loop μ-loop Inv-loop2 μ-loop2
-is-sound-requires c κs = can-judge _ _ _ _ (c .before .before .before .before .loop2 .inv) _ (c .before .before .slot-of .ensures .1)
-
--- what the test for 31 says, and past it the session is sound and the horizon is the census's
-tested : (c : tie.After-is-sound Inv-loop μ-loop Inv-loop2 μ-loop2) → let s = c .before .before .before .before .before .before .before .before .before .before .before .args .t1 in
-    let test = c .before .before .before .before .before .loop2 .rest && c .is-sound .result in
-    (test ≡ sound s) × (test ≡ true → c .before .before .before .before .before .before .before .before .loop .census .horizon ≡ moment (horizon s))
-tested c = judged _ _ _ _ (c .before .before .before .before .before .loop2 .inv) _ (c .before .before .before .slot-of .ensures .1) (c .before .before .before .before .loop2-test .left) _ (c .is-sound .ensures)
-
-ok : (c : tie.Then2 Inv-loop μ-loop Inv-loop2 μ-loop2) → sound (c .before .before .before .before .before .before .before .before .before .before .before .before .args .t1) ≡ true
-ok c = sym (tested (c .before) .0) ∙ c .if2 .taken
-
-ahead : (c : tie.Then2 Inv-loop μ-loop Inv-loop2 μ-loop2) → c .before .before .before .before .before .before .before .before .before .loop .census .horizon ≡ moment (horizon (c .before .before .before .before .before .before .before .before .before .before .before .before .args .t1))
-ahead c = tested (c .before) .1 (c .if2 .taken)
+returns-3 : tie.Need-returns-3
+unfolding noSuchStream
+returns-3 c = answers _ _ (c .refuse3 .ensures) (own-nowhere _ _ _ (ok (c .before .before .before)) (c .before .before .if2 .left) (c .before .if3 .taken))
 
 -- past 8 the stream is one of its own
-own : (c : tie.Then4 Inv-loop μ-loop Inv-loop2 μ-loop2) → let a = c .before .before .before .before .before .before .before .before .before .before .before .before .before .before .args in noSuchStream (a .t1) (a .stream) ≡ false
+own : (c : tie.Else3) → let a = c .before .before .before .before .before .args in noSuchStream (a .t1) (a .stream) ≡ false
 unfolding noSuchStream
-own c = not-true _ (c .if4 .taken)
+own c = c .if3 .left
 
-here : (c : tie.Then4 Inv-loop μ-loop Inv-loop2 μ-loop2) → let a = c .before .before .before .before .before .before .before .before .before .before .before .before .before .before .args in (1 ≤ a .stream) × (a .stream - 1 < a .t1 .count)
+here : (c : tie.Else3) → let a = c .before .before .before .before .before .args in (1 ≤ a .stream) × (a .stream - 1 < a .t1 .count)
 here c = named _ _ (own c)
 
-inside : (c : tie.Then4 Inv-loop μ-loop Inv-loop2 μ-loop2) → c .before .before .before .before .before .before .before .before .before .before .before .before .before .before .args .stream - 1 < 8
-inside c = below-eight _ _ (here c .1) (count-high _ (ok (c .before .before)))
-
-sub-n : tie.Need-sub-n Inv-loop μ-loop Inv-loop2 μ-loop2
+sub-n : tie.Need-sub-n
 sub-n c = here c .0
 
-mul-x-3 : tie.Need-mul-x-3 Inv-loop μ-loop Inv-loop2 μ-loop2
-mul-x-3 c = offset-fits _ (inside c)
+mul-x : tie.Need-mul-x
+mul-x c = offset-fits _ (inside _ (ok (c .before .before)) _ (here c .1))
 
-element-copy-out-x-3 : tie.Need-element-copy-out-x-3 Inv-loop μ-loop Inv-loop2 μ-loop2
-element-copy-out-x-3 c = inside c
+element-copy-out-x : tie.Need-element-copy-out-x
+element-copy-out-x c = inside _ (ok (c .before .before)) _ (here c .1)
 
-filled-requires : tie.Need-filled-requires Inv-loop μ-loop Inv-loop2 μ-loop2
+filled-requires : tie.Need-filled-requires
 filled-requires c κs = bounded-by _ (sound-of _ (ok (c .before .before .before))) _ (ahead (c .before .before .before)) _ (here (c .before) .1)
 
--- the set has as many requests of the stream as the code counts, and past 15 the request is one of them
-set-size : (c : tie.After-filled Inv-loop μ-loop Inv-loop2 μ-loop2) → let a = c .before .before .before .before .before .before .before .before .before .before .before .before .before .before .before .before .args in c .filled .result ≡ filledAt (a .t1) (a .stream - 1)
-set-size c =
-    let a = c .before .before .before .before .before .before .before .before .before .before .before .before .before .before .before .before .args in
-    c .filled .ensures ∙ ap (λ (h : Clock). filled (a .t1 .worst) (h .0) (streamAt (a .t1) (a .stream - 1))) (ahead (c .before .before .before .before))
+-- the set has as many requests of the stream as the code counts
+set-size : (c : tie.After-filled) → let a = c .before .before .before .before .before .before .before .args in c .filled .result ≡ filledAt (a .t1) (a .stream - 1)
+set-size c = let a = c .before .before .before .before .before .before .before .args in c .filled .ensures ∙ ap (λ (h : Clock). filled (a .t1 .worst) (h .0) (streamAt (a .t1) (a .stream - 1))) (ahead (c .before .before .before .before))
 
-grounds : (c : tie.Then5 Inv-loop μ-loop Inv-loop2 μ-loop2) → let a = c .before .before .before .before .before .before .before .before .before .before .before .before .before .before .before .before .before .args in Grounds (a .t1) (send (a .stream - 1) (a .index))
-grounds c =
-    record {
-      idle = c .before .before .before .before .if3 .taken;
-      exists = here (c .before .before .before) .1;
-      inSet = subst (λ (m : ℕ). c .before .before .before .before .before .before .before .before .before .before .before .before .before .before .before .before .before .args .index < m) (set-size (c .before)) (c .if5 .taken);
-    }
+refuse-requires-4 : tie.Need-refuse-requires-4
+refuse-requires-4 c κs = tt
 
-ranges : (c : tie.Then5 Inv-loop μ-loop Inv-loop2 μ-loop2) → let a = c .before .before .before .before .before .before .before .before .before .before .before .before .before .before .before .before .before .args in (a .stream - 1 < 8) × (a .index < 16) × (1 ≤ streamAt (a .t1) (a .stream - 1) .queued)
-ranges c = sendable _ (sound-of _ (ok (c .before .before .before .before .before))) _ _ (grounds c)
+returns-4 : tie.Need-returns-4
+returns-4 c = answers _ _ (c .refuse4 .ensures) (own-outside _ _ _ (ok (c .before .before .before .before .before .before)) (c .before .before .before .before .before .if2 .left) (own (c .before .before .before .before)) (omega (arith, set-size (c .before .before), c .before .if4 .taken)))
 
-mul-place : tie.Need-mul-place Inv-loop μ-loop Inv-loop2 μ-loop2
-mul-place c = place-fits _ (ranges (c .before) .1)
+-- past 15 the request is sent
+chosen : (c : tie.Else4) → let a = c .before .before .before .before .before .before .before .before .args in verdict (a .t1) (Call.OwnTurn (a .stream) (a .index)) ≡ send (a .stream - 1) (a .index)
+chosen c = own-sends _ _ _ (ok (c .before .before .before .before .before)) (c .before .before .before .before .if2 .left) (own (c .before .before .before)) (omega (arith, set-size (c .before), c .if4 .left))
 
-array-read-place : tie.Need-array-read-place Inv-loop μ-loop Inv-loop2 μ-loop2
-array-read-place c = ranges (c .before) .1
+send-requires : tie.Need-send-requires
+send-requires c κs = record { ok = ok (c .before .before .before .before .before); call = _; is = chosen c }
 
-without-requires : tie.Need-without-requires Inv-loop μ-loop Inv-loop2 μ-loop2
-without-requires c κs = let r = ranges (c .before) in (r .1, r .2)
-
-mul-y : tie.Need-mul-y Inv-loop μ-loop Inv-loop2 μ-loop2
-mul-y c = offset-fits _ (ranges (c .before .before) .0)
-
-element-set-from-y : tie.Need-element-set-from-y Inv-loop μ-loop Inv-loop2 μ-loop2
-element-set-from-y c = ranges (c .before .before) .0
-
-add-self : tie.Need-add-self Inv-loop μ-loop Inv-loop2 μ-loop2
-add-self c = next-fits _ (ranges (c .before .before) .0)
-
-add-number : tie.Need-add-number Inv-loop μ-loop Inv-loop2 μ-loop2
-add-number c = next-fits _ (ranges (c .before .before) .0)
-
--- what a choice from the set is answered
-chooses : (c : tie.After-without Inv-loop μ-loop Inv-loop2 μ-loop2) → let a = c .before .before .before .before .before .before .before .before .before .before .before .before .before .before .before .before .before .before .before .args in answerTo (a .t1) (Call.OwnTurn (a .stream) (a .index)) ≡ outcome (a .t1) (send (a .stream - 1) (a .index))
-chooses c = own-sends _ _ _ (ok (c .before .before .before .before .before .before .before)) (c .before .before .before .before .before .before .if3 .taken) (own (c .before .before .before .before .before)) (grounds (c .before .before) .inSet)
-
-returns : tie.Need-returns Inv-loop μ-loop Inv-loop2 μ-loop2
-returns c =
-    let a = c .before .before .before .before .before .before .before .before .before .before .before .before .before .before .before .before .before .before .before .args in
-    sends (a .t1) (Call.OwnTurn (a .stream) (a .index)) (a .stream - 1) (a .index) (c .without .result) (c .without .ensures) (chooses c)
-
-returns-2 : tie.Need-returns-2 Inv-loop μ-loop Inv-loop2 μ-loop2
-returns-2 c =
-    let a = c .before .before .before .before .before .before .before .before .before .before .before .before .before .before .before .before .before .args in
-    let outside = subst (λ (m : ℕ). m ≤ a .index) (set-size (c .before)) (c .if5 .left) in
-    refuses (a .t1) (Call.OwnTurn (a .stream) (a .index)) 15 (own-outside (a .t1) (a .stream) (a .index) (ok (c .before .before .before .before .before)) (c .before .before .before .before .if3 .taken) (own (c .before .before .before)) outside)
-
-returns-3 : tie.Need-returns-3 Inv-loop μ-loop Inv-loop2 μ-loop2
-unfolding noSuchStream
-returns-3 c =
-    let a = c .before .before .before .before .before .before .before .before .before .before .before .before .before .before .args in
-    refuses (a .t1) (Call.OwnTurn (a .stream) (a .index)) 8 (own-nowhere (a .t1) (a .stream) (a .index) (ok (c .before .before)) (c .before .if3 .taken) (not-false _ (c .if4 .left)))
-
-returns-4 : tie.Need-returns-4 Inv-loop μ-loop Inv-loop2 μ-loop2
-returns-4 c =
-    let a = c .before .before .before .before .before .before .before .before .before .before .before .before .before .args in
-    refuses (a .t1) (Call.OwnTurn (a .stream) (a .index)) 10 (own-busy (a .t1) (a .stream) (a .index) (ok (c .before)) (c .if3 .left))
-
-returns-5 : tie.Need-returns-5 Inv-loop μ-loop Inv-loop2 μ-loop2
-returns-5 c =
-    let a = c .before .before .before .before .before .before .before .before .before .before .before .before .args in
-    refuses (a .t1) (Call.OwnTurn (a .stream) (a .index)) 31 (unsound-answer (a .t1) (Call.OwnTurn (a .stream) (a .index)) (sym (tested (c .before) .0) ∙ c .if2 .left))
+returns-5 : tie.Need-returns-5
+returns-5 c = answers _ _ (c .send .ensures) (chosen (c .before))
 
 pub own-turn-spec : {M : Type 1} → statement M
 own-turn-spec =
     tie.close
     (tie.spec
-    Inv-loop
-    μ-loop
-    Inv-loop2
-    μ-loop2
-    element-copy-out-first
-    begin-requires
-    loop-holds
+    judge-requires
+    refuse-requires
+    returns
+    refuse-requires-2
+    returns-2
+    refuse-requires-3
+    returns-3
+    sub-n
     mul-x
     element-copy-out-x
-    is-in-order-requires
-    with-requires
-    add-i
-    loop-less
-    loop-again
-    loop2-holds
-    mul-x-2
-    element-copy-out-x-2
-    is-unused-requires
-    add-j
-    loop2-less
-    loop2-again
-    slot-of-requires
-    mul-disk
-    element-copy-out-disk
-    is-sound-requires
-    sub-n
-    mul-x-3
-    element-copy-out-x-3
     filled-requires
-    mul-place
-    array-read-place
-    without-requires
-    mul-y
-    element-set-from-y
-    add-self
-    add-number
-    returns
-    returns-2
-    returns-3
+    refuse-requires-4
     returns-4
+    send-requires
     returns-5)

@@ -1,11 +1,11 @@
--- `judge` takes a census of the used streams, looks at the unused ones, and lets the census decide.
+-- `Session::judge` takes a census of the used streams, looks at the unused ones, and lets the census decide.
 use mathlib.Core.Path.{sym, _∙_}
 use Prim.Native.Nat.{_-_}
 use lib.ListN.{length-map}
 use Rattle.table.proofs.Loops.{next-fits, fewer}
-use Rattle.session.proofs.Judging.{offset-fits, first-in, Counting, Resting, counting-none, used, below, worst-positive, can-take, counting-more, resting-none, resting-more, can-judge, judged}
-use Rattle.view.proofs.judge.Statement.{statement}
-use Rattle.view.proofs.judge.Tie as tie
+use Rattle.session.proofs.Judging.{offset-fits, first-in, Counting, Resting, counting-none, used, below, worst-positive, can-take, counting-more, resting-none, resting-more, can-judge, judged, judged-is}
+use Rattle.session.proofs.Session.judge.Statement.{statement}
+use Rattle.session.proofs.Session.judge.Tie as tie
 
 abbrev Inv-loop : tie.InvT-loop
 Inv-loop s census₀ i₀ census i = Counting s census i
@@ -86,10 +86,14 @@ element-copy-out-disk c = c .slot-of .ensures .0
 is-sound-requires : tie.Need-is-sound-requires Inv-loop μ-loop Inv-loop2 μ-loop2
 is-sound-requires c κs = can-judge _ _ _ _ (c .before .before .before .before .loop2 .inv) _ (c .before .before .slot-of .ensures .1)
 
+judgement-requires : tie.Need-judgement-requires Inv-loop μ-loop Inv-loop2 μ-loop2
+judgement-requires c κs = tt
+
 returns : tie.Need-returns Inv-loop μ-loop Inv-loop2 μ-loop2
 returns c =
     let at = c .before .before .before .before .before .before .loop2 in
-    judged _ _ _ _ (at .inv) _ (c .before .before .before .before .slot-of .ensures .1) (c .before .before .before .before .before .loop2-test .left) _ (c .before .is-sound .ensures)
+    c .judgement .ensures
+    ∙ judged-is _ _ _ (judged _ _ _ _ (at .inv) _ (c .before .before .before .before .slot-of .ensures .1) (c .before .before .before .before .before .loop2-test .left) _ (c .before .is-sound .ensures))
 
 pub judge-spec : {M : Type 1} → statement M
 judge-spec =
@@ -120,4 +124,5 @@ judge-spec =
     mul-disk
     element-copy-out-disk
     is-sound-requires
+    judgement-requires
     returns)

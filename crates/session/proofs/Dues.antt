@@ -1,0 +1,53 @@
+-- What an effect rests on: the grounds of its verdict, which some call of the sound session comes to. Its stream is one of the eight, and its numbers are small.
+use borrow.Author.Tests.{not-true, not-false}
+use mathlib.Core.Bool.{true, false, not}
+use mathlib.Core.Path.{_≡_, refl, sym, ap, subst, _∙_}
+use Prim.Native.Nat.{ℕ, _+_, _≤_, _<_}
+use native.Mathlib.Omega.{arith}
+use Rattle.table.specs.Fold.{if}
+use Rattle.time.specs.Time.{session-end, moment}
+use Rattle.stream.proofs.Fits.{charge-within, expired-within}
+use Rattle.session.specs.Session.{streamAt, horizon, sound}
+use Rattle.session.specs.Calls.{Verdict, append, send, expire, finish}
+use Rattle.session.specs.Inner.{judgedOf, Ahead, Due}
+use Rattle.session.specs.declared.Session.{Session}
+use Rattle.session.specs.declared.soundness.Judged.{Judged}
+use Rattle.table.proofs.Loops.{below-eight}
+use Rattle.session.proofs.Sound.{Sound, sound-of, count-high, bounded}
+use Rattle.session.proofs.Grounds.{Grounds, verdict-grounds}
+use Rattle.session.proofs.Answers.{sendable}
+
+pub grounds : {s : Session} {v : Verdict} → Due s v → Grounds s v
+grounds {s} d = subst (Grounds s) (d .is) (verdict-grounds s (sound-of s (d .ok)) (d .call))
+
+-- a used stream of a sound session is one of the eight
+pub inside : (s : Session) → sound s ≡ true → (i : ℕ) → i < s .count → i < 8
+inside s ok i l = below-eight i (s .count) l (count-high s ok)
+
+pub can-append : {s : Session} {i place : ℕ} → Due s (append i place) → (i < 8) × (streamAt s i .queued < 16)
+can-append {s} {i} d = let g = grounds d in (inside s (d .ok) i (g .exists), g .space)
+
+pub can-send : {s : Session} {i j : ℕ} → Due s (send i j) → (i < 8) × (j < 16) × (1 ≤ streamAt s i .queued)
+can-send {s} {i} {j} d = sendable s (sound-of s (d .ok)) i j (grounds d)
+
+pub can-expire : {s : Session} {i : ℕ} → Due s (expire i) → (i < 8) × (streamAt s i .charge .0 ≤ session-end) × (streamAt s i .expired ≤ session-end)
+can-expire {s} {i} d =
+    let l = grounds d .exists in
+    let x = bounded s (sound-of s (d .ok)) i l in
+    (inside s (d .ok) i l, charge-within x, expired-within x)
+
+pub can-finish : {s : Session} {i a : ℕ} → Due s (finish i a) → (i < 8) × (streamAt s i .charge .0 ≤ session-end) × (s .clock .0 ≤ session-end) × (a ≤ session-end)
+can-finish {s} {i} d =
+    let g = grounds d in
+    let q = sound-of s (d .ok) in
+    (inside s (d .ok) i (g .exists), charge-within (bounded s q i (g .exists)), q .clock-high, omega (arith, g .short))
+
+-- what was judged: a session that is refused by 31 is not sound, and past 31 it is, and the horizon is its own
+pub by-31 : (s : Session) (j : Judged) → j ≡ judgedOf s → not (j .sound) ≡ true → sound s ≡ false
+by-31 s j e bad = sym (ap (λ (k : Judged). k .sound) e) ∙ not-true _ bad
+
+pub past-31 : (s : Session) (j : Judged) → j ≡ judgedOf s → not (j .sound) ≡ false → Ahead s (j .horizon)
+unfolding if
+past-31 s j e good =
+    let ok : sound s ≡ true = sym (ap (λ (k : Judged). k .sound) e) ∙ not-false _ good in
+    record { ok = ok; is = ap (λ (k : Judged). k .horizon) e ∙ rw ok }

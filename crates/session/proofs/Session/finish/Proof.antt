@@ -1,0 +1,56 @@
+-- `Session::finish` charges the stream that was served, and frees the disk.
+use Rattle.session.proofs.Outcomes.{finishes-overlong, finishes}
+use Rattle.session.proofs.Dues.{can-finish}
+use Rattle.session.proofs.Judging.{offset-fits, worst-fits}
+use Rattle.table.proofs.Loops.{next-fits}
+use Rattle.session.proofs.Session.finish.Statement.{statement}
+use Rattle.session.proofs.Session.finish.Tie as tie
+
+cast-overlong : tie.Need-cast-overlong
+cast-overlong c = worst-fits _ (c .pre .ok)
+
+of-requires : tie.Need-of-requires
+of-requires c κs = tt
+
+after-requires : tie.Need-after-requires
+after-requires c κs = let x = can-finish (c .before .before .pre) in (x .2, rw (c .before .of .ensures) (x .3))
+
+mul-x : tie.Need-mul-x
+mul-x c = offset-fits _ (can-finish (c .before .before .before .pre) .0)
+
+element-copy-out-x : tie.Need-element-copy-out-x
+element-copy-out-x c = can-finish (c .before .before .before .pre) .0
+
+charged-requires : tie.Need-charged-requires
+charged-requires c κs = let x = can-finish (c .before .before .before .before .pre) in (x .1, rw (c .before .before .before .of .ensures) (x .3))
+
+mul-y : tie.Need-mul-y
+mul-y c = offset-fits _ (can-finish (c .before .before .before .before .before .before .pre) .0)
+
+element-set-from-y : tie.Need-element-set-from-y
+element-set-from-y c = can-finish (c .before .before .before .before .before .before .pre) .0
+
+add-number : tie.Need-add-number
+add-number c = next-fits _ (can-finish (c .before .before .before .before .before .before .pre) .0)
+
+returns : tie.Need-returns
+returns c = finishes-overlong _ _ _ _ _ _ (c .before .before .before .before .before .before .of .ensures) (c .before .before .charged .ensures) (c .before .before .before .before .after .ensures) (c .if1 .taken)
+
+returns-2 : tie.Need-returns-2
+returns-2 c = finishes _ _ _ _ _ _ (c .before .before .before .before .before .before .of .ensures) (c .before .before .charged .ensures) (c .before .before .before .before .after .ensures) (c .if1 .left)
+
+pub finish-spec : {M : Type 1} → statement M
+finish-spec =
+    tie.close
+    (tie.spec
+    cast-overlong
+    of-requires
+    after-requires
+    mul-x
+    element-copy-out-x
+    charged-requires
+    mul-y
+    element-set-from-y
+    add-number
+    returns
+    returns-2)

@@ -1,0 +1,172 @@
+// What a call comes to: each effect stores into the session what its verdict says, and replies.
+ghost use mathlib.Core.Path.{_≡_};
+ghost use Rattle.session.specs.Session.{latest};
+ghost use Rattle.session.specs.Calls.{refuse, append, send, move, wait, expire, finish, set-clock, outcome};
+ghost use Rattle.session.specs.Inner.{Ahead, Due};
+ghost use Rattle.time.specs.Time.{moment};
+use crate::Answer;
+use crate::Session;
+use calls::Reply;
+use time::Charge;
+use time::Clock;
+
+impl Session {
+    // The number of a refusal, and the session as it was.
+    pub(crate) fn refuse(self, number: u64) -> Answer
+        ensures { λ r. ⌜ r ≡ outcome self (refuse number) ⌝ }
+    {
+        let reply = Reply::Refused { number: number };
+        Answer {
+            session: self,
+            reply: reply,
+        }
+    }
+
+    // A request at the end of a stream's queue.
+    pub(crate) fn append(mut self, n: usize, place: u64) -> Answer
+        requires { ⌜ Due self (append n place) ⌝ }
+        ensures { λ r. ⌜ r ≡ outcome self (append n place) ⌝ }
+    {
+        let x = self.streams[n];
+        let y = x.arrived(place);
+        self.streams[n] = y;
+        let number = n as u64 + 1;
+        let reply = Reply::Arrived {
+            stream: number,
+            queued: y.queued as u64,
+        };
+        Answer {
+            session: self,
+            reply: reply,
+        }
+    }
+
+    // A queued request goes to the disk.
+    pub(crate) fn send(mut self, n: usize, index: usize) -> Answer
+        requires { ⌜ Due self (send n index) ⌝ }
+        ensures { λ r. ⌜ r ≡ outcome self (send n index) ⌝ }
+    {
+        let x = self.streams[n];
+        let places = x.places;
+        let place = places[index];
+        let y = x.without(index);
+        self.streams[n] = y;
+        self.head = place;
+        self.served = n + 1;
+        self.place = place;
+        let number = n as u64 + 1;
+        let reply = Reply::Sent {
+            stream: number,
+            place: place,
+        };
+        Answer {
+            session: self,
+            reply: reply,
+        }
+    }
+
+    // Nothing until the latest safe moment.
+    pub(crate) fn wait(self, until: Clock) -> Answer
+        requires { ⌜ until ≡ moment (latest self) ⌝ }
+        ensures { λ r. ⌜ r ≡ outcome self wait ⌝ }
+    {
+        let reply = Reply::Wait { until: until };
+        Answer {
+            session: self,
+            reply: reply,
+        }
+    }
+
+    // A stream loses a slot.
+    pub(crate) fn expire(mut self, n: usize) -> Answer
+        requires { ⌜ Due self (expire n) ⌝ }
+        ensures { λ r. ⌜ r ≡ outcome self (expire n) ⌝ }
+    {
+        let x = self.streams[n];
+        let y = x.lapsed(self.worst);
+        let charge = y.charge;
+        self.streams[n] = y;
+        let number = n as u64 + 1;
+        let reply = Reply::Expired {
+            stream: number,
+            charge: charge,
+        };
+        Answer {
+            session: self,
+            reply: reply,
+        }
+    }
+
+    // Every due stream closes its job.
+    pub(crate) fn move_on(mut self, h: Clock) -> Answer
+        requires { ⌜ Ahead self h ⌝ }
+        ensures { λ r. ⌜ r ≡ outcome self move ⌝ }
+    {
+        let now = self.clock;
+        let lowest = self.streams[0];
+        let closed = lowest.moved(now, h);
+        let mut next = closed.deadline;
+        let mut i: usize = 0;
+        while i < self.count {
+            let x = self.streams[i];
+            let y = x.moved(now, h);
+            self.streams[i] = y;
+            next = next.earlier(y.deadline);
+            i += 1;
+        }
+        let reply = Reply::Moved { horizon: next };
+        Answer {
+            session: self,
+            reply: reply,
+        }
+    }
+
+    // The request at the disk has ended, and its stream is charged.
+    pub(crate) fn finish(mut self, n: usize, duration: u64) -> Answer
+        requires { ⌜ Due self (finish n duration) ⌝ }
+        ensures { λ r. ⌜ r ≡ outcome self (finish n duration) ⌝ }
+    {
+        let overlong = (self.worst as u64) < duration;
+        let taken = Charge::of(duration);
+        let now = self.clock.after(taken);
+        let x = self.streams[n];
+        let y = x.charged(taken);
+        let charge = y.charge;
+        self.streams[n] = y;
+        self.clock = now;
+        self.served = 0;
+        self.place = 0;
+        let number = n as u64 + 1;
+        let mut reply = Reply::Done {
+            stream: number,
+            charge: charge,
+        };
+        if overlong {
+            reply = Reply::Overlong {
+                stream: number,
+                charge: charge,
+            };
+        }
+        Answer {
+            session: self,
+            reply: reply,
+        }
+    }
+
+    // The clock is set; that is late past the latest safe moment and the clock.
+    pub(crate) fn set_clock(mut self, now: Clock, until: Clock) -> Answer
+        requires { ⌜ until ≡ moment (latest self) ⌝ }
+        ensures { λ r. ⌜ r ≡ outcome self (set-clock (now .0)) ⌝ }
+    {
+        let late = now.is_after(until) & now.is_after(self.clock);
+        self.clock = now;
+        let mut reply = Reply::Clock { time: now };
+        if late {
+            reply = Reply::Late { time: now };
+        }
+        Answer {
+            session: self,
+            reply: reply,
+        }
+    }
+}

@@ -29,7 +29,7 @@ use Rattle.session.proofs.Sound.{Sound, sound-of, of-sound, Used, used-
 
 module _ (s : Session) where
   -- what a sound session rules out, a session that is not sound may be
-  not-sound : (Sound s → ⊥) → sound s ≡ false
+  pub not-sound : (Sound s → ⊥) → sound s ≡ false
   not-sound never = go (sound s) refl
     where
       go : (b : Bool) → sound s ≡ b → sound s ≡ false
@@ -164,6 +164,7 @@ module _ (s : Session) where
       let high = sum-high (s .span) shareIn n (λ i l. rw (share-in i (p .each i l)) (share-high _ _ _ _ _ (order-fits i (p .each i l)))) in
       record {
         worst-low = rw (m .worst) (numbers .worst-low);
+        worst-high = rw (m .worst) (numbers .worst-high);
         shares-high = rw (p .shares) (omega (arith, high, numbers .count-high, numbers .span-high, mul-le-mul le (numbers .span-high)));
       }
 
@@ -196,63 +197,27 @@ module _ (s : Session) where
         order-at i (p .each i l) (horizon s)
         (omega (arith, largest-le (λ j. streamAt s j .release .0) (s .count) i l, ap (λ (z : Clock). z .0) (p .released), ap (λ (z : Clock). z .0) horizon-is))
 
-    -- the stream at the disk, handed over where there is one
-    module _ (x : Stream) (handed : (s .served ≡ 0 → ⊥) → s .served ≤ 8 → x ≡ streamAt s (s .served - 1)) where
-      handed-in : (s .served ≡ 0 → ⊥) → s .served ≤ s .count → x ≡ streamAt s (s .served - 1)
-      handed-in some le = handed some (omega (arith, le, numbers-in .count-high))
+    pub judgeable : Judgeable c
+    judgeable =
+        record {
+          countable = countable c (s .count) (omega arith) ok m;
+          least-low =
+              rw (p .least) (smallest-is (λ (d : ℕ). 0 < d) (λ i. streamAt s i .period) (s .count) (numbers-in .count-low)
+              (λ i l. let low = order-fits i (p .each i l) .period-low in omega arith));
+        }
 
-      pub judgeable : Judgeable c (s .served) x
-      judgeable =
-          let k = countable c (s .count) (omega arith) ok m in
-          record {
-            worst-high = rw (m .worst) (numbers-in .worst-high);
-            shares-high = k .shares-high;
-            least-low =
-                rw (p .least) (smallest-is (λ (d : ℕ). 0 < d) (λ i. streamAt s i .period) (s .count) (numbers-in .count-low)
-                (λ i l. let low = order-fits i (p .each i l) .period-low in omega arith));
-            at-disk = λ fits le some high.
-                let inside = rw (m .count) at high in
-                let q : Used s = record { admitted = admitted-of fits; each = each-of le } in
-                rw (m .worst, horizon-is, handed-in some inside) (used-bounded s q (s .served - 1) (omega (arith, some, inside)));
-          }
+    -- what the census says is what a sound session's used streams are
+    pub says-used : says c ≡ true → Used s
+    unfolding says
+    says-used t =
+        let a = both (c .sound && leb (loadSo c) (c .span)) (leb (c .released .0) (c .horizon .0)) t in
+        let b = both (c .sound) (leb (loadSo c) (c .span)) (a .0) in
+        record { admitted = admitted-of (leb-true _ _ (b .1)); each = each-of (leb-true _ _ (a .1)) }
 
-      disk-is : if (eqb (s .served) 0) (eqb (s .place) 0) (leb (s .served) (c .count) && leb 1 (slots (c .worst) (c .horizon .0) x)) ≡ soundDisk s
-      unfolding soundDisk if
-      disk-is = rw (m .count, m .worst, horizon-is) (go (eqb (s .served) 0) refl (leb (s .served) (s .count)) refl)
-        where
-          go : (idle : Bool) → eqb (s .served) 0 ≡ idle → (inside : Bool) → leb (s .served) (s .count) ≡ inside
-              → if idle (eqb (s .place) 0) (inside && leb 1 (slots (s .worst) (horizon s) x)) ≡ if idle (eqb (s .place) 0) (inside && leb 1 (slotsAt s (s .served - 1)))
-          go true e inside l = refl
-          go false e false l = refl
-          go false e true l = rw (handed-in (eqb-false _ _ e) (leb-true _ _ l))
-
-      -- the census decides as the whole test does
-      pub decides : (rest : Bool) → rest ≡ soundRest (s .streams) (s .count) → (rest && says c (s .clock) (s .served) (s .place) x) ≡ sound s
-      unfolding says
-      decides rest rest-is = same-test _ _ forth back
-        where
-          forth : (rest && says c (s .clock) (s .served) (s .place) x) ≡ true → sound s ≡ true
-          forth t =
-              let a = both rest (says c (s .clock) (s .served) (s .place) x) t in
-              let d = both _ _ (a .1) in
-              let k = both _ _ (d .0) in
-              let r = both _ _ (k .0) in
-              let l = both (c .sound) (leb (loadSo c) (c .span)) (r .0) in
-              let others = facts.rest-of s (sym rest-is ∙ a .0) in
-              of-sound s
-              (record {
-                admitted = admitted-of (leb-true _ _ (l .1));
-                eight = others .0;
-                each = each-of (leb-true _ _ (r .1));
-                others = others .1;
-                clock-high = leb-true _ _ (k .1);
-                disk = sym disk-is ∙ d .1;
-              })
-
-          back : sound s ≡ true → (rest && says c (s .clock) (s .served) (s .place) x) ≡ true
-          back t =
-              let q = sound-of s t in
-              let fits : loadSo c ≤ c .span = rw (sym load-is, m .span) (admits-of (tableOf s) (q .admitted) .fits) in
-              let released : c .released .0 ≤ c .horizon .0 =
-              rw (p .released, horizon-is) (largest-high (horizon s) (λ i. streamAt s i .release .0) (s .count) (λ i l. q .each i l .released)) in
-              rw (rest-is, facts.rest-in s t, ok, le-leb _ _ fits, le-leb _ _ released, le-leb _ _ (q .clock-high), disk-is) (q .disk)
+    pub used-says : Used s → says c ≡ true
+    unfolding says
+    used-says q =
+        let fits : loadSo c ≤ c .span = rw (sym load-is, m .span) (admits-of (tableOf s) (q .admitted) .fits) in
+        let released : c .released .0 ≤ c .horizon .0 =
+        rw (p .released, horizon-is) (largest-high (horizon s) (λ i. streamAt s i .release .0) (s .count) (λ i l. q .each i l .released)) in
+        rw (ok, le-leb _ _ fits, le-leb _ _ released)

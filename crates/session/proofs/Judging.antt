@@ -1,30 +1,33 @@
--- What every call does first, loop by loop: a census of the used streams, then a look at the unused ones, and then the census decides.
-use mathlib.Core.Bool.{Bool, true, false, _&&_, _||_, and-false, false≢true}
-use mathlib.Core.Path.{_≡_, refl, sym, ap, subst, _∙_}
+-- What is judged of a session, stream by stream: a census of the used streams, and that the unused ones are all zeros. Then the clock and the disk decide.
+use mathlib.Core.Bool.{Bool, true, false, _&&_, false≢true}
+use mathlib.Core.Path.{_≡_, refl, sym, subst, _∙_}
+use mathlib.Core.Logic.{_⊎_, inl, inr, ⊎-elim}
 use Prim.Native.Nat.{ℕ, _+_, _-_, _*_, _≤_, _<_}
 use native.Mathlib.Numerals.{add-one}
 use native.Mathlib.Omega.{arith}
 use mir.Syntax.{w64}
 use mir.Val.{Fits}
-use lib.Dec.{ltb}
+use lib.Dec.{leb, ltb, eqb}
 use lib.ListN.{length}
-use borrow.Author.Tests.{ltb-true, ltb-false, lt-ltb, le-ltb, eq-eqb, ne-eqb}
-use Rattle.table.specs.Fold.{if, allTo}
-use Rattle.table.proofs.Tests.{both}
-use Rattle.table.proofs.Folds.{all-of}
+use borrow.Author.Tests.{leb-true, ltb-true, ltb-false, le-leb, eq-eqb, ne-eqb}
+use Rattle.table.specs.Fold.{if}
+use Rattle.table.proofs.Tests.{both, le-or-lt, same-test}
+use Rattle.table.proofs.Folds.{at-or-below}
 use Rattle.table.proofs.Judged.{numbers-of}
-use Rattle.time.specs.Time.{moment}
-use Rattle.stream.specs.Stream.{unusedStream}
-use Rattle.session.specs.Session.{streamAt, horizon, tableOf, soundRest, sound}
-use Rattle.stream.specs.Search.{slotOf, inOrder, begun, counted, Countable, says, Judgeable}
+use Rattle.time.specs.Time.{session-end, moment}
+use Rattle.stream.specs.Stream.{slots, unusedStream}
+use Rattle.stream.specs.Bounds.{Bounded}
+use Rattle.session.specs.Session.{streamAt, horizon, tableOf, soundDisk, sound}
+use Rattle.session.specs.Inner.{judgedOf}
+use Rattle.stream.specs.Search.{begun, counted, Countable, loadSo, says, Judgeable}
+use Rattle.time.specs.declared.Clock.{Clock}
 use Rattle.stream.specs.declared.Stream.{Stream}
 use Rattle.stream.specs.declared.census.Census.{Census}
-use Rattle.time.specs.declared.Clock.{Clock}
-use Rattle.session.specs.Inner.{judgedOf}
 use Rattle.session.specs.declared.Session.{Session}
 use Rattle.session.specs.declared.soundness.Judged.{Judged}
-use Rattle.session.proofs.Sound.{sound-of, admits}
-use Rattle.session.proofs.Counted.{CountedTo, counted-none, counted-more, countable, horizon-is, judgeable, decides}
+use Rattle.session.proofs.Sound.{Sound, sound-of, of-sound, Used, used as used-of, used-bounded, admits}
+use Rattle.session.proofs.Grounds.{served-in}
+use Rattle.session.proofs.Counted.{CountedTo, not-sound, counted-none, counted-more, countable, horizon-is, judgeable, says-used, used-says}
 
 -- an index of the eight streams, or of a queue, multiplied by the size of what it stands for, fits 64 bits
 pub offset-fits : (i : ℕ) → i < 8 → Fits w64 (i * 216)
@@ -44,104 +47,210 @@ worst-fits s ok = omega (arith, admits s (sound-of s ok) .numbers .worst-high)
 pub below-bound : (n m : ℕ) → n ≤ m → (n ≡ m → ⊥) → n < m
 below-bound n m le other = omega (arith, le, other)
 
+-- a stream at the disk is a used one
+served-high : (s : Session) → Sound s → s .served ≤ s .count
+served-high s q =
+    ⊎-elim
+    (λ (some : 1 ≤ s .served). let l = served-in s q (λ none. omega (arith, some, none)) .1 in omega (arith, l))
+    (λ (none : s .served < 1). omega (arith, none))
+    (le-or-lt 1 (s .served))
+
+-- a census that was told of an unused stream
+abbrev withSound : Census → Bool → Census
+withSound c b =
+    record {
+      worst = c .worst;
+      span = c .span;
+      padding = c .padding;
+      count = c .count;
+      sound = b;
+      horizon = c .horizon;
+      released = c .released;
+      shares = c .shares;
+      least = c .least;
+    }
+
 module _ (s : Session) where
-  -- the first loop: the streams below i are counted
-  pub record Counting (c : Census) (i : ℕ) : Type 0 where
-    pub inside : i ≤ s .count
+  -- the streams below i are judged: the used ones are counted, and the unused ones are all zeros
+  pub record Judging (c : Census) (i : ℕ) : Type 0 where
+    pub inside : i ≤ 8
     pub eight : length (s .streams) ≡ 8
-    pub counts : CountedTo s c i
-
-  pub counting-none : (c : Census) → c ≡ begun (s .worst) (s .span) (s .padding) (s .count) (streamAt s 0) → length (s .streams) ≡ 8 → Counting c 0
-  counting-none c e eight = record { inside = omega arith; eight = eight; counts = rw e (counted-none s) }
-
-  -- it goes on while all is in order, over used streams
-  module _ (c : Census) (i : ℕ) (m : Counting c i) (going : (c .sound && ltb i (s .count)) ≡ true) where
-    ok : c .sound ≡ true
-    ok = both (c .sound) (ltb i (s .count)) going .0
-
-    pub used : i < s .count
-    used = ltb-true _ _ (both (c .sound) (ltb i (s .count)) going .1)
-
-    pub below : i < 8
-    below = omega (arith, used, numbers-of _ (m .counts .passed ok .numbers) .count-high)
-
-    can-count : Countable c
-    can-count = countable s c i (m .inside) ok (m .counts)
-
-    pub worst-positive : 0 < s .worst
-    worst-positive = rw (sym (m .counts .worst)) (can-count .worst-low)
-
-    pub can-take : (ordered : Bool) (x : Stream) → ordered ≡ inOrder (s .worst) (s .span) (s .padding) x → Countable c × (ordered ≡ inOrder (c .worst) (c .span) (c .padding) x)
-    can-take ordered x e = (can-count, rw (m .counts .worst, m .counts .span, m .counts .padding) e)
-
-    pub counting-more : (more : Census) → more ≡ counted c (streamAt s i) → Counting more (i + 1)
-    counting-more more e =
-        record { inside = omega (arith, used); eight = m .eight; counts = rw e (counted-more s c i used ok (m .counts)) }
-
-  abbrev unusedTo : ℕ → Bool
-  unusedTo = allTo (λ n. ltb n (s .count) || unusedStream (streamAt s n))
-
-  -- the second loop: of the streams below j the unused ones are all zeros
-  pub record Resting (c : Census) (rest : Bool) (j : ℕ) : Type 0 where
-    pub past : s .count ≤ j
-    pub within : s .count ≤ 8 → j ≤ 8
-    pub zeros : rest ≡ unusedTo j
-    pub eight : length (s .streams) ≡ 8
-    pub all : c .sound ≡ true → CountedTo s c (s .count)
+    pub counts : i ≤ s .count → CountedTo s c i
+    pub all : s .count ≤ i → CountedTo s c (s .count)
+    pub zeros : c .sound ≡ true → (j : ℕ) → s .count ≤ j → j < i → unusedStream (streamAt s j) ≡ true
     pub failed : c .sound ≡ false → sound s ≡ false
 
-  pub resting-none : (c : Census) (i : ℕ) → Counting c i → (c .sound && ltb i (s .count)) ≡ false → Resting c true (s .count)
-  resting-none c i m over =
+  pub judging-none : (c : Census) → c ≡ begun (s .worst) (s .span) (s .padding) (s .count) (streamAt s 0) → length (s .streams) ≡ 8 → Judging c 0
+  judging-none c e eight =
+      let none : CountedTo s c 0 = rw e (counted-none s) in
       record {
-        past = omega arith;
-        within = λ le. le;
-        zeros = sym (all-of (λ n. ltb n (s .count) || unusedStream (streamAt s n)) (s .count) (λ n l. rw (lt-ltb n (s .count) l)));
-        eight = m .eight;
-        all = λ fine.
-            let past : ltb i (s .count) ≡ false = rw fine at over in
-            let e : i ≡ s .count = omega (arith, ltb-false i (s .count) past, m .inside) in
-            subst (CountedTo s c) e (m .counts);
-        failed = m .counts .failed;
+        inside = omega arith;
+        eight = eight;
+        counts = λ le. none;
+        all = λ past. let empty : 0 ≡ s .count = omega (arith, past) in subst (CountedTo s c) empty none;
+        zeros = λ ok j past l. absurd (omega (arith, l));
+        failed = none .failed;
       }
 
-  pub resting-more : (c : Census) (rest : Bool) (j : ℕ) → Resting c rest j → j < 8 → (here : Bool) → here ≡ unusedStream (streamAt s j) → Resting c (rest && here) (j + 1)
-  unfolding allTo
-  resting-more c rest j m l here e =
-      record {
-        past = omega (arith, m .past);
-        within = λ le. omega (arith, l);
-        zeros = rw (add-one, m .zeros, e, le-ltb _ _ (m .past));
-        eight = m .eight;
-        all = m .all;
-        failed = m .failed;
-      }
+  -- it goes on while all is in order
+  module _ (c : Census) (i : ℕ) (m : Judging c i) (going : (c .sound && ltb i 8) ≡ true) where
+    ok : c .sound ≡ true
+    ok = both (c .sound) (ltb i 8) going .0
 
-  -- then the census decides, with the stream at the disk, if there is one
-  module _ (c : Census) (rest : Bool) (j : ℕ) (m : Resting c rest j) (at : ℕ) (number : at ≡ slotOf (s .served)) where
-    at-disk : (s .served ≡ 0 → ⊥) → s .served ≤ 8 → streamAt s at ≡ streamAt s (s .served - 1)
-    unfolding slotOf if
-    at-disk some high = ap (streamAt s) (number ∙ rw (ne-eqb (s .served) 0 some, le-ltb 8 (s .served) high))
+    pub below : i < 8
+    below = ltb-true _ _ (both (c .sound) (ltb i 8) going .1)
 
-    pub can-judge : c .sound ≡ true → Judgeable c (s .served) (streamAt s at)
-    can-judge fine = judgeable s c (m .all fine) fine _ at-disk
+    -- a used stream is counted
+    module _ (l : i < s .count) where
+      before : CountedTo s c i
+      before = m .counts (omega (arith, l))
 
-    abbrev verdict : Bool
-    verdict = rest && says c (s .clock) (s .served) (s .place) (streamAt s at)
+      pub can-count : Countable c
+      can-count = countable s c i (omega (arith, l)) ok before
 
-    decided : 8 ≤ j → (verdict ≡ sound s) × (verdict ≡ true → c .horizon ≡ moment (horizon s))
-    unfolding says soundRest
-    decided low = go (c .sound) refl
+      pub judging-used : (more : Census) → more ≡ counted c (streamAt s i) → Judging more (i + 1)
+      judging-used more e =
+          let counts : CountedTo s more (i + 1) = rw e (counted-more s c i l ok before) in
+          record {
+            inside = omega (arith, below);
+            eight = m .eight;
+            counts = λ le. counts;
+            all = λ past. let last : i + 1 ≡ s .count = omega (arith, past, l) in subst (CountedTo s more) last counts;
+            zeros = λ fine j past k. absurd (omega (arith, past, k, l));
+            failed = counts .failed;
+          }
+
+    -- an unused one is all zeros
+    module _ (past : s .count ≤ i) (zero : Bool) (e : zero ≡ unusedStream (streamAt s i)) where
+      not-zero : zero ≡ false → sound s ≡ false
+      not-zero bad = not-sound s (λ q. false≢true (sym bad ∙ e ∙ q .others i past below))
+
+      all-counted : CountedTo s (withSound c zero) (s .count)
+      all-counted =
+          let k = m .all past in
+          let p = k .passed ok in
+          record {
+            worst = k .worst;
+            span = k .span;
+            padding = k .padding;
+            count = k .count;
+            passed = λ fine.
+                record {
+                  numbers = p .numbers;
+                  each = p .each;
+                  horizon = p .horizon;
+                  released = p .released;
+                  shares = p .shares;
+                  least = p .least;
+                };
+            failed = not-zero;
+          }
+
+      pub judging-unused : Judging (withSound c zero) (i + 1)
+      judging-unused =
+          record {
+            inside = omega (arith, below);
+            eight = m .eight;
+            counts = λ le. absurd (omega (arith, le, past));
+            all = λ more. all-counted;
+            zeros = λ fine j low k. at-or-below (λ n. unusedStream (streamAt s n) ≡ true) j (rw (add-one) at k) (sym e ∙ fine) (m .zeros ok j low);
+            failed = not-zero;
+          }
+
+  -- then the census speaks for the streams, and the clock and the disk are looked at
+  pub record Looked (c : Census) (i : ℕ) : Type 0 where
+    pub judging : Judging c i
+    pub over : (c .sound && ltb i 8) ≡ false
+
+  module _ (c : Census) (i : ℕ) (looked : Looked c i) where
+    abbrev m : Judging c i
+    m = looked .judging
+
+    past-all : c .sound ≡ true → 8 ≤ i
+    past-all fine = let past : ltb i 8 ≡ false = rw fine at (looked .over) in ltb-false i 8 past
+
+    counted-all : c .sound ≡ true → CountedTo s c (s .count)
+    counted-all fine = go (le-or-lt (s .count) i)
       where
-        go : (b : Bool) → c .sound ≡ b → (verdict ≡ sound s) × (verdict ≡ true → c .horizon ≡ moment (horizon s))
-        go true fine =
-            let k = m .all fine in
-            let e : j ≡ 8 = omega (arith, low, m .within (numbers-of (tableOf s) (k .passed fine .numbers) .count-high)) in
-            let rest-is : rest ≡ soundRest (s .streams) (s .count) = rw (m .zeros, e, eq-eqb _ _ (m .eight)) in
-            (decides s c k fine _ at-disk rest rest-is, λ t. horizon-is s c k fine)
-        go false bad = rw (bad, and-false, m .failed bad) (refl, λ t. absurd (false≢true t))
+        go : (s .count ≤ i) ⊎ (i < s .count) → CountedTo s c (s .count)
+        go (inl le) = m .all le
+        go (inr l) =
+            let high = numbers-of (tableOf s) (m .counts (omega (arith, l)) .passed fine .numbers) .count-high in
+            absurd (omega (arith, l, high, past-all fine))
 
-    pub judged : 8 ≤ j → (used : Bool) → used ≡ says c (s .clock) (s .served) (s .place) (streamAt s at) → ((rest && used) ≡ sound s) × ((rest && used) ≡ true → c .horizon ≡ moment (horizon s))
-    judged low used e = rw e (decided low)
+    pub can-say : c .sound ≡ true → Judgeable c
+    can-say fine = judgeable s c (counted-all fine) fine
+
+    abbrev pub tests : Bool
+    tests = says c && leb (s .clock .0) session-end && leb (s .served) (s .count)
+
+    -- a sound session passes
+    needed : Sound s → tests ≡ true
+    unfolding says
+    needed q = go (c .sound) refl
+      where
+        go : (b : Bool) → c .sound ≡ b → tests ≡ true
+        go true fine =
+            rw (used-says s c (counted-all fine) fine (used-of s q), le-leb _ _ (q .clock-high), le-leb _ _ (served-high s q))
+        go false bad = absurd (false≢true (sym (m .failed bad) ∙ of-sound s q))
+
+    pub refused : tests ≡ false → sound s ≡ false
+    refused f = not-sound s (λ q. false≢true (sym f ∙ needed q))
+
+  -- and one that passes is sound if its disk is
+  pub record Passed (c : Census) (i : ℕ) : Type 0 where
+    pub looked : Looked c i
+    pub passes : tests c i looked ≡ true
+
+  module _ (c : Census) (i : ℕ) (past : Passed c i) where
+    a : (says c && leb (s .clock .0) session-end ≡ true) × (leb (s .served) (s .count) ≡ true)
+    a = both (says c && leb (s .clock .0) session-end) (leb (s .served) (s .count)) (past .passes)
+
+    b : (says c ≡ true) × (leb (s .clock .0) session-end ≡ true)
+    b = both (says c) (leb (s .clock .0) session-end) (a .0)
+
+    fine : c .sound ≡ true
+    unfolding says
+    fine = both (c .sound) _ (both (c .sound && leb (loadSo c) (c .span)) (leb (c .released .0) (c .horizon .0)) (b .0) .0) .0
+
+    used : Used s
+    used = says-used s c (counted-all c i (past .looked) fine) fine (b .0)
+
+    pub horizon-found : c .horizon ≡ moment (horizon s)
+    horizon-found = horizon-is s c (counted-all c i (past .looked) fine) fine
+
+    disk-decides : soundDisk s ≡ sound s
+    disk-decides = same-test _ _ forth (λ ok. sound-of s ok .disk)
+      where
+        forth : soundDisk s ≡ true → sound s ≡ true
+        forth disk =
+            of-sound s
+            (record {
+              admitted = used .admitted;
+              eight = past .looked .judging .eight;
+              each = used .each;
+              others = λ j low l. past .looked .judging .zeros fine j low (omega (arith, l, past-all c i (past .looked) fine));
+              clock-high = leb-true _ _ (b .1);
+              disk = disk;
+            })
+
+    pub idle-decides : s .served ≡ 0 → eqb (s .place) 0 ≡ sound s
+    unfolding soundDisk if
+    idle-decides none = rw (eq-eqb _ _ none) at disk-decides
+
+    module _ (some : s .served ≡ 0 → ⊥) where
+      inside-count : s .served - 1 < s .count
+      inside-count = omega (arith, some, leb-true (s .served) (s .count) (a .1))
+
+      pub at-disk : s .served - 1 < 8
+      at-disk = omega (arith, inside-count, numbers-of (tableOf s) (counted-all c i (past .looked) fine .passed fine .numbers) .count-high)
+
+      pub can-have : Bounded (s .worst) (c .horizon .0) (streamAt s (s .served - 1))
+      can-have = rw (horizon-found) (used-bounded s used (s .served - 1) inside-count)
+
+      pub busy-decides : (n : ℕ) → n ≡ slots (s .worst) (c .horizon .0) (streamAt s (s .served - 1)) → leb 1 n ≡ sound s
+      unfolding soundDisk if
+      busy-decides n e = rw (e, horizon-found) (rw (ne-eqb _ _ some, a .1) at disk-decides)
 
 -- what is said of a session that was judged, and of its horizon if it is sound
 pub judged-is : (s : Session) (b : Bool) (h : Clock) → (b ≡ sound s) × (b ≡ true → h ≡ moment (horizon s)) → record { sound = b; horizon = if b h (moment 0) } ≡ judgedOf s

@@ -128,12 +128,12 @@ impl Session {
     {
         let overlong = (self.worst as u64) < duration;
         let taken = Charge::of(duration);
-        let now = self.clock.after(taken);
+        let end = self.clock.after(taken);
         let x = self.streams[n];
         let y = x.charged(taken);
         let charge = y.charge;
         self.streams[n] = y;
-        self.clock = now;
+        self.clock = end;
         self.served = 0;
         self.place = 0;
         let number = n as u64 + 1;
@@ -158,7 +158,8 @@ impl Session {
         requires { ⌜ until ≡ moment (latest self) ⌝ }
         ensures { λ r. ⌜ r ≡ outcome self (set-clock (now .0)) ⌝ }
     {
-        let late = now.is_after(until) & now.is_after(self.clock);
+        let before = self.clock;
+        let late = now.is_after(until) & now.is_after(before);
         self.clock = now;
         let mut reply = Reply::Clock { time: now };
         if late {

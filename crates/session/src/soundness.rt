@@ -5,7 +5,6 @@ ghost use Rattle.time.specs.Time.{moment};
 ghost use Rattle.session.specs.Inner.{judgedOf};
 use crate::Session;
 use stream::Census;
-use stream::slot_of;
 use time::Clock;
 
 // Whether a session is sound, and its horizon, or 0 where it is not.
@@ -15,30 +14,34 @@ pub struct Judged {
 }
 
 impl Session {
-    // Whether the session is sound, judged whole.
+    // Whether the session is sound: its streams, then the clock, then the request at the disk.
     pub fn judge(self) -> Judged
         ensures { λ r. ⌜ r ≡ judgedOf self ⌝ }
     {
         let first = self.streams[0];
         let mut census = Census::begin(self.worst, self.span, self.padding, self.count, first);
         let mut i: usize = 0;
-        while census.sound & (i < self.count) {
-            let x = self.streams[i];
-            let ordered = x.is_in_order(self.worst, self.span, self.padding);
-            census = census.with(ordered, x);
+        while census.sound & (i < 8) {
+            if i < self.count {
+                let used = self.streams[i];
+                census = census.with(used);
+            } else {
+                let unused = self.streams[i];
+                census.sound = unused.is_unused();
+            }
             i += 1;
         }
-        let mut rest = true;
-        let mut j = self.count;
-        while j < 8 {
-            let x = self.streams[j];
-            rest = rest & x.is_unused();
-            j += 1;
+        let h = census.horizon;
+        let in_time = self.clock.is_by(Clock::at(Clock::END));
+        if !(census.is_sound() & in_time & (self.served <= self.count)) {
+            return judgement(false, h);
         }
-        let at = slot_of(self.served);
-        let disk = self.streams[at];
-        let used = census.is_sound(self.clock, self.served, self.place, disk);
-        judgement(rest & used, census.horizon)
+        if self.served == 0 {
+            return judgement(self.place == 0, h);
+        }
+        let n = self.served - 1;
+        let x = self.streams[n];
+        judgement(1 <= x.slots(self.worst, h), h)
     }
 }
 

@@ -8,11 +8,9 @@ use lib.Dec.{leb, ltb, eqb}
 use Rattle.table.specs.Fold.{if}
 use Rattle.table.specs.Ranges.{streams-max, worst-max}
 use Rattle.table.specs.Admission.{numbersRefusal, streamRefusal}
-use Rattle.time.specs.Time.{session-end, moment}
-use Rattle.stream.specs.Stream.{slots, filled, soundCells}
-use Rattle.stream.specs.Bounds.{Bounded}
+use Rattle.time.specs.Time.{moment}
+use Rattle.stream.specs.Stream.{filled, soundCells}
 use Rattle.stream.specs.Choice.{distance, nearest}
-use Rattle.time.specs.declared.Clock.{Clock}
 use Rattle.stream.specs.declared.census.Census.{Census}
 use Rattle.stream.specs.declared.choice.Near.{Near}
 use Rattle.stream.specs.declared.choice.Pick.{Pick}
@@ -73,26 +71,20 @@ shares-max = 1_000_000_000_000
 
 pub record Countable (c : Census) : Type 0 where
   pub worst-low : 0 < c .worst
+  pub worst-high : c .worst ≤ worst-max
   pub shares-high : c .shares ≤ shares-max
 
--- what it says of the session once the used streams are passed, beside the unused ones
+-- what it says of the used streams once they are passed
 abbrev pub loadSo : Census → ℕ
 loadSo c = c .shares + c .worst * (c .span / c .least)
 
-unfoldable pub says : Census → Clock → ℕ → ℕ → Stream → Bool
-says c clock served place x =
-    c .sound
-    && leb (loadSo c) (c .span)
-    && leb (c .released .0) (c .horizon .0)
-    && leb (clock .0) session-end
-    && if (eqb served 0) (eqb place 0) (leb served (c .count) && leb 1 (slots (c .worst) (c .horizon .0) x))
+unfoldable pub says : Census → Bool
+says c = c .sound && leb (loadSo c) (c .span) && leb (c .released .0) (c .horizon .0)
 
--- and with these the session can be judged: a stream at the disk has bounded numbers once the load fits and no release is past the horizon
-pub record Judgeable (c : Census) (served : ℕ) (x : Stream) : Type 0 where
-  pub worst-high : c .worst ≤ worst-max
-  pub shares-high : c .shares ≤ shares-max
+-- and with these it can say it
+pub record Judgeable (c : Census) : Type 0 where
+  pub countable : Countable c
   pub least-low : 0 < c .least
-  pub at-disk : loadSo c ≤ c .span → c .released .0 ≤ c .horizon .0 → (served ≡ 0 → ⊥) → served ≤ c .count → Bounded (c .worst) (c .horizon .0) x
 
 -- the nearest of the first m places of a queue, and one step of the search for it: of equals the first stays
 abbrev pub near : ℕ → List ℕ → ℕ → Near

@@ -2,7 +2,7 @@
 ghost use mathlib.Core.Path.{_≡_};
 ghost use mathlib.Core.Bool.{true};
 ghost use Prim.Native.Nat.{min, _<_};
-ghost use Rattle.stream.specs.Search.{slotOf, inOrder, begun, counted, Countable, says, Judgeable};
+ghost use Rattle.stream.specs.Search.{slotOf, begun, counted, Countable, says, Judgeable};
 use crate::Stream;
 use table::Table;
 use time::Clock;
@@ -49,13 +49,13 @@ impl Census {
         }
     }
 
-    // With one more used stream, of which it is known whether it is in order. That is not asked here, since a larger function would be called and not written out at each place.
-    pub fn with(self, ordered: bool, x: Stream) -> Census
-        requires { ⌜ Countable self × (ordered ≡ inOrder (self .worst) (self .span) (self .padding) x) ⌝ }
+    // With one more used stream: one that is not in order fails all.
+    pub fn with(self, x: Stream) -> Census
+        requires { ⌜ Countable self ⌝ }
         ensures { λ r. ⌜ r ≡ counted self x ⌝ }
     {
         let mut next = self;
-        if !ordered {
+        if !x.is_in_order(self.worst, self.span, self.padding) {
             next.sound = false;
             return next;
         }
@@ -69,26 +69,17 @@ impl Census {
         next
     }
 
-    // Whether the session is sound, once its used streams are passed: the load, the releases, the clock, and the stream at the disk.
-    pub fn is_sound(self, clock: Clock, served: usize, place: u64, disk: Stream) -> bool
-        requires { ⌜ (self .sound ≡ true → Judgeable self served disk) ⌝ }
-        ensures { λ r. ⌜ r ≡ says self clock served place disk ⌝ }
+    // Whether all streams are in order, the load fits the span, and no release is past the horizon.
+    pub fn is_sound(self) -> bool
+        requires { ⌜ (self .sound ≡ true → Judgeable self) ⌝ }
+        ensures { λ r. ⌜ r ≡ says self ⌝ }
     {
         if !self.sound {
             return false;
         }
         let load = self.shares + self.worst as u64 * (self.span / self.least) as u64;
-        let admitted = load <= self.span as u64;
         let released = self.released.is_by(self.horizon);
-        let in_time = clock.is_by(Clock::at(Clock::END));
-        if !(admitted & released & in_time & (served <= self.count)) {
-            return false;
-        }
-        if served == 0 {
-            place == 0
-        } else {
-            1 <= disk.slots(self.worst, self.horizon)
-        }
+        (load <= self.span as u64) & released
     }
 }
 

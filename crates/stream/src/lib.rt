@@ -6,6 +6,8 @@ mod expiry;
 ghost use mathlib.Core.Path.{_≡_};
 ghost use Prim.Native.Nat.{_≤_, _<_};
 ghost use Rattle.stream.specs.Stream.{slots, filled, soundQueue, soundCells, zeroJob, unusedStream, arrived, closedUp, without, charged, lapsed, closed, moved, closesPastEnd, freshStream};
+ghost use Rattle.table.specs.Ranges.{worst-max, period-max};
+ghost use Rattle.table.specs.Admission.{grantedOf};
 ghost use Rattle.time.specs.Time.{session-end};
 ghost use Rattle.stream.specs.Bounds.{Bounded};
 ghost use Rattle.stream.specs.Search.{inOrder};
@@ -77,7 +79,7 @@ impl Stream {
     }
 
     // How many requests of the worst-case time fit before the horizon, by one division.
-    pub(crate) fn slots(self, worst: u32, h: Clock) -> u64
+    pub fn slots(self, worst: u32, h: Clock) -> u64
         requires { ⌜ Bounded worst (h .0) self ⌝ }
         ensures { λ r. ⌜ r ≡ slots worst (h .0) self ⌝ }
     {
@@ -104,7 +106,7 @@ impl Stream {
 
     // Whether its cells are those of a stream in use, whatever the horizon.
     pub(crate) fn is_sound(self, worst: u32, k: u32) -> bool
-        requires { ⌜ 0 < worst ⌝ }
+        requires { ⌜ (0 < worst) × (worst ≤ worst-max) × (grantedOf worst k (self .reserved) ≤ period-max) ⌝ }
         ensures { λ r. ⌜ r ≡ soundCells worst k self ⌝ }
     {
         let budget = self.granted
@@ -112,20 +114,24 @@ impl Stream {
         let due = self.deadline.is_later_by(self.release, self.period);
         let in_session = self.deadline.is_by(Clock::at(Clock::END));
         let charge = self.charge.is_near(self.granted);
+        if !(budget & due & in_session & charge) {
+            return false;
+        }
         let expired = self.charge.covers(worst, self.expired);
         let places = self.places;
         let queue = queue_is_sound(places, self.queued);
-        budget & due & in_session & charge & expired & queue
+        expired & queue
     }
 
     // Whether nothing refuses its reservation, and its cells are those of a stream in use.
-    pub fn is_in_order(self, worst: u32, span: u32, k: u32) -> bool
-        requires { ⌜ 0 < worst ⌝ }
+    pub(crate) fn is_in_order(self, worst: u32, span: u32, k: u32) -> bool
+        requires { ⌜ (0 < worst) × (worst ≤ worst-max) ⌝ }
         ensures { λ r. ⌜ r ≡ inOrder worst span k self ⌝ }
     {
-        let refusal = table::stream_refusal(worst, span, k, self.reserved, self.period);
-        let cells = self.is_sound(worst, k);
-        (refusal == 0) & cells
+        if table::stream_refusal(worst, span, k, self.reserved, self.period) != 0 {
+            return false;
+        }
+        self.is_sound(worst, k)
     }
 
     // Whether every cell is 0.

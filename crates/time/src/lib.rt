@@ -145,10 +145,13 @@ impl Charge {
 
     // At least the worst-case time for each expired slot.
     pub fn covers(self, worst: u32, expired: u64) -> bool
-        requires { ⌜ 0 < worst ⌝ }
+        requires { ⌜ (0 < worst) × (worst ≤ duration-max) × (self .0 ≤ session-end) ⌝ }
         ensures { λ r. ⌜ r ≡ leb (worst * expired) (self .0) ⌝ }
     {
-        expired <= self.0 / worst as u64
+        if self.0 < expired {
+            return false;
+        }
+        worst as u64 * expired <= self.0
     }
 
     pub fn plus(self, more: Charge) -> Charge

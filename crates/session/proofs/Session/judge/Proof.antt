@@ -1,99 +1,134 @@
--- `Session::judge` takes a census of the used streams, looks at the unused ones, and lets the census decide.
-use mathlib.Core.Path.{sym, _∙_}
-use Prim.Native.Nat.{_-_}
-use lib.ListN.{length-map}
+-- `Session::judge` looks at each of the eight streams, used or unused, and then at the clock and the disk: each way out cites what decides there.
+use borrow.Author.Tests.{not-true, not-false}
+use mathlib.Core.Bool.{_&&_, false≢true}
+use mathlib.Core.Logic.{⊎-elim}
+use mathlib.Core.Path.{_≡_, sym, subst⁻¹, _∙_}
+use Prim.Native.Nat.{_+_, _-_}
+use native.Mathlib.Omega.{arith}
+use lib.Dec.{leb}
+use lib.ListN.{length, length-map}
 use Rattle.table.proofs.Loops.{next-fits, fewer}
-use Rattle.session.proofs.Judging.{offset-fits, first-in, Counting, Resting, counting-none, used, below, worst-positive, can-take, counting-more, resting-none, resting-more, can-judge, judged, judged-is}
+use Rattle.stream.specs.declared.census.Census.{Census}
+use Rattle.stream.proofs.Stream as Cells
+use Rattle.session.proofs.Judging.{offset-fits, first-in, Judging, judging-none, below, can-count, judging-used, judging-unused, Looked, can-say, tests, refused, Passed, horizon-found, idle-decides, at-disk, can-have, busy-decides, judged-is}
 use Rattle.session.proofs.Session.judge.Statement.{statement}
 use Rattle.session.proofs.Session.judge.Tie as tie
 
 abbrev Inv-loop : tie.InvT-loop
-Inv-loop s census₀ i₀ census i = Counting s census i
+Inv-loop s census₀ i₀ census i = Judging s census i
 
 abbrev μ-loop : tie.MeasureT-loop
-μ-loop s census₀ i₀ census i = s .count - i
+μ-loop s census₀ i₀ census i = 8 - i
 
-abbrev Inv-loop2 : tie.InvT-loop2
-Inv-loop2 s census i rest₀ j₀ rest j = Resting s census rest j
-
-abbrev μ-loop2 : tie.MeasureT-loop2
-μ-loop2 s census i rest₀ j₀ rest j = 8 - j
-
-element-copy-out-first : tie.Need-element-copy-out-first Inv-loop μ-loop Inv-loop2 μ-loop2
+element-copy-out-first : tie.Need-element-copy-out-first Inv-loop μ-loop
 element-copy-out-first c = first-in
 
-begin-requires : tie.Need-begin-requires Inv-loop μ-loop Inv-loop2 μ-loop2
+begin-requires : tie.Need-begin-requires Inv-loop μ-loop
 begin-requires c κs = tt
 
--- that there are eight streams stands in what is told of the parameter: its last field is an array of eight, of the streams mapped
-loop-holds : tie.Need-loop-holds Inv-loop μ-loop Inv-loop2 μ-loop2
+-- that there are eight streams stands in what is told of the parameter
+loop-holds : tie.Need-loop-holds Inv-loop μ-loop
 loop-holds c =
     let s = c .before .before .args .t1 in
-    let array = c .before .before .good .0 .1 .1 .1 .1 .1 .1 .1 .1 .1 .1 .0 in
-    counting-none s _ (c .begin .ensures) (sym (length-map (s .streams) _) ∙ array .1 .0 .1)
+    let eight : length (s .streams) ≡ 8 = omega (arith, c .before .before .good, length-map (s .streams) (Cells.the-type .to)) in
+    judging-none s _ (c .begin .ensures) eight
 
-mul-x : tie.Need-mul-x Inv-loop μ-loop Inv-loop2 μ-loop2
-mul-x c = offset-fits _ (below _ _ _ (c .before .before .loop .inv) (c .if1 .taken))
+mul-used : tie.Need-mul-used Inv-loop μ-loop
+mul-used c = offset-fits _ (below _ _ _ (c .before .before .before .loop .inv) (c .before .if1 .taken))
 
-element-copy-out-x : tie.Need-element-copy-out-x Inv-loop μ-loop Inv-loop2 μ-loop2
-element-copy-out-x c = below _ _ _ (c .before .before .loop .inv) (c .if1 .taken)
+element-copy-out-used : tie.Need-element-copy-out-used Inv-loop μ-loop
+element-copy-out-used c = below _ _ _ (c .before .before .before .loop .inv) (c .before .if1 .taken)
 
-is-in-order-requires : tie.Need-is-in-order-requires Inv-loop μ-loop Inv-loop2 μ-loop2
-is-in-order-requires c κs = worst-positive _ _ _ (c .before .before .before .loop .inv) (c .before .if1 .taken)
+with-requires : tie.Need-with-requires Inv-loop μ-loop
+with-requires c κs = let at = c .before .before in can-count _ _ _ (at .before .before .loop .inv) (at .if1 .taken) (c .before .if2 .taken)
 
-with-requires : tie.Need-with-requires Inv-loop μ-loop Inv-loop2 μ-loop2
-with-requires c κs = can-take _ _ _ (c .before .before .before .before .loop .inv) (c .before .before .if1 .taken) _ _ (c .is-in-order .ensures)
+mul-unused : tie.Need-mul-unused Inv-loop μ-loop
+mul-unused c = offset-fits _ (below _ _ _ (c .before .before .before .loop .inv) (c .before .if1 .taken))
 
-add-i : tie.Need-add-i Inv-loop μ-loop Inv-loop2 μ-loop2
-add-i c = next-fits _ (below _ _ _ (c .before .before .before .before .before .loop .inv) (c .before .before .before .if1 .taken))
+element-copy-out-unused : tie.Need-element-copy-out-unused Inv-loop μ-loop
+element-copy-out-unused c = below _ _ _ (c .before .before .before .loop .inv) (c .before .if1 .taken)
 
-loop-less : tie.Need-loop-less Inv-loop μ-loop Inv-loop2 μ-loop2
-loop-less c = fewer _ _ (used _ _ _ (c .before .before .before .before .before .loop .inv) (c .before .before .before .if1 .taken))
-
-loop-again : tie.Need-loop-again Inv-loop μ-loop Inv-loop2 μ-loop2
-loop-again c = counting-more _ _ _ (c .before .before .before .before .before .loop .inv) (c .before .before .before .if1 .taken) _ (c .with .ensures)
-
-loop2-holds : tie.Need-loop2-holds Inv-loop μ-loop Inv-loop2 μ-loop2
-loop2-holds c = resting-none _ _ _ (c .before .before .loop .inv) (c .if1 .left)
-
-mul-x-2 : tie.Need-mul-x-2 Inv-loop μ-loop Inv-loop2 μ-loop2
-mul-x-2 c = offset-fits _ (c .loop2-test .taken)
-
-element-copy-out-x-2 : tie.Need-element-copy-out-x-2 Inv-loop μ-loop Inv-loop2 μ-loop2
-element-copy-out-x-2 c = c .loop2-test .taken
-
-is-unused-requires : tie.Need-is-unused-requires Inv-loop μ-loop Inv-loop2 μ-loop2
+is-unused-requires : tie.Need-is-unused-requires Inv-loop μ-loop
 is-unused-requires c κs = tt
 
-add-j : tie.Need-add-j Inv-loop μ-loop Inv-loop2 μ-loop2
-add-j c = next-fits _ (c .before .before .loop2-test .taken)
+add-i : tie.Need-add-i Inv-loop μ-loop
+add-i c = next-fits _ (below _ _ _ (c .before .before .before .loop .inv) (c .before .if1 .taken))
 
-loop2-less : tie.Need-loop2-less Inv-loop μ-loop Inv-loop2 μ-loop2
-loop2-less c = fewer 8 _ (c .before .before .loop2-test .taken)
+loop-less : tie.Need-loop-less Inv-loop μ-loop
+loop-less c = fewer 8 _ (below _ _ _ (c .before .before .before .loop .inv) (c .before .if1 .taken))
 
-loop2-again : tie.Need-loop2-again Inv-loop μ-loop Inv-loop2 μ-loop2
-loop2-again c = resting-more _ _ _ _ (c .before .before .before .loop2 .inv) (c .before .before .loop2-test .taken) _ (c .is-unused .ensures)
+loop-again : tie.Need-loop-again Inv-loop μ-loop
+loop-again c =
+    let s = c .before .before .before .before .before .before .args .t1 in
+    let at = c .before .before .before .loop in
+    let going = c .before .if1 .taken in
+    ⊎-elim
+    (λ w. judging-used s _ _ (at .inv) going (w .0 .taken) _ (w .3 ∙ w .2 .ensures))
+    (λ w. subst⁻¹ (λ (d : Census). Judging s d (at .i + 1)) (w .3) (judging-unused s _ _ (at .inv) going (w .0 .left) _ (w .2 .ensures)))
+    (c .if2 .came)
 
-slot-of-requires : tie.Need-slot-of-requires Inv-loop μ-loop Inv-loop2 μ-loop2
-slot-of-requires c κs = tt
+-- what the loop leaves
+looked : (c : tie.Else1 Inv-loop μ-loop) → Looked (c .before .before .before .before .before .args .t1) (c .before .before .loop .census) (c .before .before .loop .i)
+looked c = record { judging = c .before .before .loop .inv; over = c .if1 .left }
 
-mul-disk : tie.Need-mul-disk Inv-loop μ-loop Inv-loop2 μ-loop2
-mul-disk c = offset-fits _ (c .slot-of .ensures .0)
+at-requires : tie.Need-at-requires Inv-loop μ-loop
+at-requires c κs = tt
 
-element-copy-out-disk : tie.Need-element-copy-out-disk Inv-loop μ-loop Inv-loop2 μ-loop2
-element-copy-out-disk c = c .slot-of .ensures .0
+is-by-requires : tie.Need-is-by-requires Inv-loop μ-loop
+is-by-requires c κs = tt
 
-is-sound-requires : tie.Need-is-sound-requires Inv-loop μ-loop Inv-loop2 μ-loop2
-is-sound-requires c κs = can-judge _ _ _ _ (c .before .before .before .before .loop2 .inv) _ (c .before .before .slot-of .ensures .1)
+is-sound-requires : tie.Need-is-sound-requires Inv-loop μ-loop
+is-sound-requires c κs = can-say _ _ _ (looked (c .before .before .before .before))
 
-judgement-requires : tie.Need-judgement-requires Inv-loop μ-loop Inv-loop2 μ-loop2
+judgement-requires : tie.Need-judgement-requires Inv-loop μ-loop
 judgement-requires c κs = tt
 
-returns : tie.Need-returns Inv-loop μ-loop Inv-loop2 μ-loop2
+-- the tests of the streams, of the clock and of the number at the disk
+tested : (c : tie.After-is-sound Inv-loop μ-loop) → let here = c .before .before .before .before .before in
+    let s = here .before .before .before .before .before .args .t1 in
+    (c .is-sound .result && c .before .is-by .result && leb (s .served) (s .count)) ≡ tests _ _ _ (looked here)
+tested c = rw (c .is-sound .ensures, c .before .is-by .ensures, c .before .before .at .ensures)
+
+returns : tie.Need-returns Inv-loop μ-loop
 returns c =
-    let at = c .before .before .before .before .before .before .loop2 in
+    let at = c .before .before in
     c .judgement .ensures
-    ∙ judged-is _ _ _ (judged _ _ _ _ (at .inv) _ (c .before .before .before .before .slot-of .ensures .1) (c .before .before .before .before .before .loop2-test .left) _ (c .before .is-sound .ensures))
+    ∙ judged-is _ _ _ (sym (refused _ _ _ (looked (at .before .before .before .before .before)) (sym (tested at) ∙ not-true _ (c .before .if3 .taken))), λ t. absurd (false≢true t))
+
+-- past them the disk decides
+passed : (c : tie.Else3 Inv-loop μ-loop) → let at = c .before .before .before .before .before .before .before .before .loop in
+    Passed (c .before .before .before .before .before .before .before .before .before .before .before .args .t1) (at .census) (at .i)
+passed c = record { looked = looked (c .before .before .before .before .before .before); passes = sym (tested (c .before)) ∙ not-false _ (c .if3 .left) }
+
+judgement-requires-2 : tie.Need-judgement-requires-2 Inv-loop μ-loop
+judgement-requires-2 c κs = tt
+
+returns-2 : tie.Need-returns-2 Inv-loop μ-loop
+returns-2 c =
+    let past = c .before .before in
+    c .judgement2 .ensures
+    ∙ judged-is _ _ _ (idle-decides _ _ _ (passed past) (c .before .if4 .taken), λ t. horizon-found _ _ _ (passed past))
+
+sub-n : tie.Need-sub-n Inv-loop μ-loop
+sub-n c = omega (arith, c .if4 .left)
+
+mul-x : tie.Need-mul-x Inv-loop μ-loop
+mul-x c = offset-fits _ (at-disk _ _ _ (passed (c .before)) (c .if4 .left))
+
+element-copy-out-x : tie.Need-element-copy-out-x Inv-loop μ-loop
+element-copy-out-x c = at-disk _ _ _ (passed (c .before)) (c .if4 .left)
+
+slots-requires : tie.Need-slots-requires Inv-loop μ-loop
+slots-requires c κs = can-have _ _ _ (passed (c .before .before)) (c .before .if4 .left)
+
+judgement-requires-3 : tie.Need-judgement-requires-3 Inv-loop μ-loop
+judgement-requires-3 c κs = tt
+
+returns-3 : tie.Need-returns-3 Inv-loop μ-loop
+returns-3 c =
+    let past = c .before .before .before .before in
+    c .judgement3 .ensures
+    ∙ judged-is _ _ _ (busy-decides _ _ _ (passed past) (c .before .before .before .if4 .left) _ (c .before .slots .ensures), λ t. horizon-found _ _ _ (passed past))
 
 pub judge-spec : {M : Type 1} → statement M
 judge-spec =
@@ -101,28 +136,28 @@ judge-spec =
     (tie.spec
     Inv-loop
     μ-loop
-    Inv-loop2
-    μ-loop2
     element-copy-out-first
     begin-requires
     loop-holds
-    mul-x
-    element-copy-out-x
-    is-in-order-requires
+    mul-used
+    element-copy-out-used
     with-requires
+    mul-unused
+    element-copy-out-unused
+    is-unused-requires
     add-i
     loop-less
     loop-again
-    loop2-holds
-    mul-x-2
-    element-copy-out-x-2
-    is-unused-requires
-    add-j
-    loop2-less
-    loop2-again
-    slot-of-requires
-    mul-disk
-    element-copy-out-disk
+    at-requires
+    is-by-requires
     is-sound-requires
     judgement-requires
-    returns)
+    returns
+    judgement-requires-2
+    returns-2
+    sub-n
+    mul-x
+    element-copy-out-x
+    slots-requires
+    judgement-requires-3
+    returns-3)

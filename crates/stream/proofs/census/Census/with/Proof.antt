@@ -18,15 +18,18 @@ use Rattle.stream.proofs.Orderly as facts
 use Rattle.stream.proofs.census.Census.with.Statement.{statement}
 use Rattle.stream.proofs.census.Census.with.Tie as tie
 
+is-in-order-requires : tie.Need-is-in-order-requires
+is-in-order-requires c κs = (c .pre .worst-low, c .pre .worst-high)
+
 returns : tie.Need-returns
 unfolding counted if
 returns c =
-    let bad = sym (c .before .pre .1) ∙ not-true _ (c .if1 .taken) in
+    let bad = sym (c .before .is-in-order .ensures) ∙ not-true _ (c .if1 .taken) in
     rw bad
 
 -- past the test the stream is in order
-good : (c : tie.Else1) → let a = c .before .args in inOrder (a .self .worst) (a .self .span) (a .self .padding) (a .x) ≡ true
-good c = sym (c .before .pre .1) ∙ not-false _ (c .if1 .left)
+good : (c : tie.Else1) → let a = c .before .before .args in inOrder (a .self .worst) (a .self .span) (a .self .padding) (a .x) ≡ true
+good c = sym (c .before .is-in-order .ensures) ∙ not-false _ (c .if1 .left)
 
 module _ (worst span k : ℕ) (x : Stream) (h : inOrder worst span k x ≡ true) where
   fits : Fits-in worst span k (x .reserved) (x .period)
@@ -52,7 +55,7 @@ div-share : tie.Need-div-share
 div-share c = let low = fits _ _ _ _ (good (c .before .before .before .before .before)) .period-low in omega arith
 
 cast-share : tie.Need-cast-share
-cast-share c = let a = c .before .before .before .before .before .before .args in omega (arith, div-le-self (a .self .span) (a .x .period))
+cast-share c = let a = c .before .before .before .before .before .before .before .args in omega (arith, div-le-self (a .self .span) (a .x .period))
 
 mul-share : tie.Need-mul-share
 mul-share c = rw (c .before .before .micros .ensures) (omega (arith, share-small _ _ _ _ (good (c .before .before .before .before .before))))
@@ -60,7 +63,7 @@ mul-share c = rw (c .before .before .micros .ensures) (omega (arith, share-small
 add-next : tie.Need-add-next
 add-next c =
     rw (c .before .before .before .micros .ensures)
-    (omega (arith, share-small _ _ _ _ (good (c .before .before .before .before .before .before)), c .before .before .before .before .before .before .before .pre .0 .shares-high))
+    (omega (arith, share-small _ _ _ _ (good (c .before .before .before .before .before .before)), c .before .before .before .before .before .before .before .before .pre .shares-high))
 
 smaller-requires : tie.Need-smaller-requires
 smaller-requires c κs = search needs
@@ -80,6 +83,7 @@ pub with-spec : {M : Type 1} → statement M
 with-spec =
     tie.close
     (tie.spec
+    is-in-order-requires
     returns
     earlier-requires
     later-requires

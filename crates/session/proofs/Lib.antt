@@ -26,6 +26,7 @@ pub mod Within
 pub mod Histories
 pub mod Promise
 pub mod PromiseMet
+pub mod Parameters
 pub mod Lending
 pub mod Answering
 pub mod Dues

@@ -43,7 +43,8 @@ use denote.Triple.Spec.{Meets, tripleOf}
 use denote.Triple.Walked.{says, Stays, stay-ref, stay-none, walkOf, goes-none, goes-ref, ends-at, walked, walk-meets}
 use denote.Exit.{yes}
 use Rattle.shelf.proofs.Elements.{element, at-value, typed-in}
-use Rattle.session.proofs.Lending.{Param, Kind, kind-field, kind-row, last-of, silent}
+use Rattle.session.proofs.Parameters.{Param, last-of, silent}
+use Rattle.session.proofs.Lending.{Kind, kind-field, kind-row}
 
 -- a struct's MIR types and its machine values, field by field
 abbrev pub tys : Declared → Tys

@@ -9,7 +9,7 @@ use Rattle.calls.specs.declared.Call.{Call}
 use Rattle.shelf.specs.Image.{answeredAs}
 use Rattle.shelf.specs.InPlace.{changeAs}
 use Rattle.shelf.proofs.Changing.{clock-left, by-change}
-use Rattle.session.proofs.Lending.{uint}
+use Rattle.session.proofs.Parameters.{uint}
 use Rattle.shelf.proofs.Settling.{settle1}
 use Rattle.shelf.proofs.answers.clock as g
 use Rattle.shelf.proofs.answers.clock.Symbol as g-def

@@ -8,7 +8,7 @@ use Rattle.calls.specs.declared.Call.{Call}
 use Rattle.shelf.specs.Image.{answeredAs}
 use Rattle.shelf.specs.InPlace.{changeAs}
 use Rattle.shelf.proofs.Changing.{low, eight, own-turn-left, by-change}
-use Rattle.session.proofs.Lending.{uint}
+use Rattle.session.proofs.Parameters.{uint}
 use Rattle.shelf.proofs.Settling.{settle2}
 use Rattle.shelf.proofs.answers.own_turn as g
 use Rattle.shelf.proofs.answers.own_turn.Symbol as g-def

@@ -1,11 +1,12 @@
--- `yerbagunt_turn` answers as `turn` does and leaves its image, by the law of a thin call with no other parameter.
+-- `yerbagunt_turn` answers as `turn` does and leaves its image, by the law of a thin call.
+use mathlib.Core.List.{[]}
 use contract.Running.{givenOf, tables, tablesOf}
 use denote.Triple.Spec.{tripleOf}
 use denote.Triple.Table.{entered, cited}
 use Rattle.calls.specs.declared.Call.{Call}
 use Rattle.shelf.specs.Image.{answeredAs}
 use Rattle.shelf.proofs.Answering.{by-image}
-use Rattle.session.proofs.Lending.{lent0}
+use Rattle.session.proofs.Lending.{lent}
 use Rattle.shelf.proofs.answers.turn as g
 use Rattle.shelf.proofs.answers.turn.Symbol as g-def
 use Rattle.shelf.proofs.answers.turn.Symbol.{name as #g}
@@ -20,5 +21,5 @@ unfolding code.routine tablesOf
 yerbagunt-turn-spec 𝓤 H 𝓜 𝓖 𝓡 =
     entered 𝓤 H (tripleOf 𝓤 H (𝓖 .A) f.signature (f.spec 𝓤 H (𝓖 .A) (𝓜 .mem) (𝓡 .run)))
     (tables 𝓤 H 𝓜 𝓡 code.env .C) (tables 𝓤 H 𝓜 𝓡 code.env .Λ) #f code.function (code.unfolded 𝓤 H 𝓜 𝓡)
-    (lent0 by-image (λ i. answeredAs i Call.Turn) 𝓤 H (𝓖 .A) (givenOf 𝓤 H 𝓜 𝓖) (tablesOf 𝓤 H 𝓜 (tables 𝓤 H 𝓜 𝓡 code.env)) #g
+    (lent by-image [] (λ i a. answeredAs i Call.Turn) 𝓤 H (𝓖 .A) (givenOf 𝓤 H 𝓜 𝓖) (tablesOf 𝓤 H 𝓜 (tables 𝓤 H 𝓜 𝓡 code.env)) #g
     (cited 𝓤 H (tripleOf 𝓤 H (𝓖 .A) g.signature (g.spec 𝓤 H (𝓖 .A) (𝓜 .mem) (𝓡 .run))) 𝓜 𝓡 code.env #g g-def.routine code.calls-shelf·answers·turn (g-thm.met 𝓤 H 𝓜 𝓖 𝓡)))

@@ -1,11 +1,12 @@
--- `Session::turn_lent` answers as `Session::turn` does and leaves its session, by the law of a thin call with no other parameter.
+-- `Session::turn_lent` answers as `Session::turn` does and leaves its session, by the law of a thin call.
+use mathlib.Core.List.{[]}
 use contract.Running.{givenOf, tables, tablesOf}
 use denote.Triple.Spec.{tripleOf}
 use denote.Triple.Table.{entered, cited}
 use Rattle.session.specs.Calls.{answerTo}
 use Rattle.calls.specs.declared.Call.{Call}
 use Rattle.session.proofs.Answering.{by-session}
-use Rattle.session.proofs.Lending.{lent0}
+use Rattle.session.proofs.Lending.{lent}
 use Rattle.session.proofs.Session.turn as g
 use Rattle.session.proofs.Session.turn.Symbol as g-def
 use Rattle.session.proofs.Session.turn.Symbol.{name as #g}
@@ -20,5 +21,5 @@ unfolding code.routine tablesOf
 turn-lent-spec 𝓤 H 𝓜 𝓖 𝓡 =
     entered 𝓤 H (tripleOf 𝓤 H (𝓖 .A) f.signature (f.spec 𝓤 H (𝓖 .A) (𝓜 .mem) (𝓡 .run)))
     (tables 𝓤 H 𝓜 𝓡 code.env .C) (tables 𝓤 H 𝓜 𝓡 code.env .Λ) #f code.function (code.unfolded 𝓤 H 𝓜 𝓡)
-    (lent0 by-session (λ s. answerTo s Call.Turn) 𝓤 H (𝓖 .A) (givenOf 𝓤 H 𝓜 𝓖) (tablesOf 𝓤 H 𝓜 (tables 𝓤 H 𝓜 𝓡 code.env)) #g
+    (lent by-session [] (λ s a. answerTo s Call.Turn) 𝓤 H (𝓖 .A) (givenOf 𝓤 H 𝓜 𝓖) (tablesOf 𝓤 H 𝓜 (tables 𝓤 H 𝓜 𝓡 code.env)) #g
     (cited 𝓤 H (tripleOf 𝓤 H (𝓖 .A) g.signature (g.spec 𝓤 H (𝓖 .A) (𝓜 .mem) (𝓡 .run))) 𝓜 𝓡 code.env #g g-def.routine code.calls-session·Session·turn (g-thm.met 𝓤 H 𝓜 𝓖 𝓡)))

@@ -1,4 +1,3 @@
 pub mod Image
-pub mod InPlace
 pub mod Filed
 pub mod Laws

@@ -1,12 +1,9 @@
 // What is answered to an image, by value.
 ghost use mathlib.Core.Path.{_≡_};
-ghost use Prim.Native.Nat.{_<_};
 ghost use Rattle.table.specs.Reservations.{tableOf};
-ghost use Rattle.shelf.specs.Image.{imageOf, refusalIn, openedAs, toldAs, answeredAs, shownOf, viewedAs, stateAs, closingAs};
-ghost use Rattle.shelf.specs.InPlace.{countedOf, calledOf, changeFrom, changeAs};
+ghost use Rattle.shelf.specs.Image.{refusalIn, openedAs, toldAs, answeredAs, shownOf, viewedAs, stateAs, closingAs};
 ghost use Rattle.shelf.specs.Filed.{readAs, writtenAs};
 use crate::Answered;
-use crate::Change;
 use crate::Filed;
 use crate::Image;
 use crate::Opening;
@@ -16,9 +13,7 @@ use calls::Call;
 use calls::Reply;
 use file::Reading;
 use file::Writing;
-use session::Answer;
 use session::Session;
-use stream::slot_of;
 use table::Admission;
 use table::Records;
 use view::Closing;
@@ -60,75 +55,10 @@ fn told(reply: Reply, call: Call) -> Told
     }
 }
 
-// The streams that count: none, where the order stands for none.
-fn counted(order: u32, count: usize) -> usize
-    ensures { λ r. ⌜ r ≡ countedOf order count ⌝ }
+// A call to an image. One whose order stands for none is refused 31, and is what it was.
+fn answered(image: Image, call: Call) -> Answered
+    ensures { λ r. ⌜ r ≡ answeredAs image call ⌝ }
 {
-    if order == Image::NEAREST {
-        return count;
-    }
-    0
-}
-
-// The session that a call is made to. With no stream every call refuses it with 31 and changes nothing: so an order that stands for none needs no path of its own.
-fn called(image: Image) -> Session
-    ensures { λ r. ⌜ r ≡ calledOf image ⌝ }
-{
-    let clock = image.clock;
-    let streams = image.streams;
-    let count = counted(image.order, image.count);
-    Session {
-        worst: image.worst,
-        span: image.span,
-        padding: image.padding,
-        count: count,
-        clock: clock,
-        head: image.head,
-        served: image.served,
-        place: image.place,
-        streams: streams,
-    }
-}
-
-// What an answer changes, where the stream at an index is the one that it may change.
-fn changed(answer: Answer, call: Call, at: usize) -> Change
-    requires { ⌜ at < 8 ⌝ }
-    ensures { λ r. ⌜ r ≡ changeFrom at (record { session = imageOf (answer .session); reply = toldAs call (answer .reply) }) ⌝ }
-{
-    let after = answer.session;
-    let answered = answer.reply;
-    let reply = told(answered, call);
-    let stream = after.streams[at];
-    let clock = after.clock;
-    Change {
-        at: at,
-        stream: stream,
-        clock: clock,
-        head: after.head,
-        served: after.served,
-        place: after.place,
-        reply: reply,
-    }
-}
-
-// Each call has a function of its own, so that the compiler writes the call out where it is made; one function for all costs one or two more copies of the session.
-pub(crate) fn arrival(image: Image, number: u64, place: u64) -> Change
-    ensures { λ r. ⌜ r ≡ changeAs image (Call.Arrival number place) ⌝ }
-{
-    let call = Call::Arrival {
-        stream: number,
-        place: place,
-    };
-    let at = slot_of(number as usize);
-    let session = called(image);
-    let answer = session.arrival(number, place);
-    changed(answer, call, at)
-}
-
-pub(crate) fn turn(image: Image) -> Answered
-    ensures { λ r. ⌜ r ≡ answeredAs image Call.Turn ⌝ }
-{
-    let call = Call::Turn;
     if image.order != Image::NEAREST {
         let reply = told(Reply::Refused { number: 31 }, call);
         return Answered {
@@ -137,47 +67,44 @@ pub(crate) fn turn(image: Image) -> Answered
         };
     }
     let session = image.session();
-    let answer = session.turn();
+    let answer = session.call(call);
     let after = Image::of(answer.session);
-    let answered = answer.reply;
-    let reply = told(answered, call);
+    let given = answer.reply;
+    let reply = told(given, call);
     Answered {
         session: after,
         reply: reply,
     }
 }
 
-pub(crate) fn own_turn(image: Image, number: u64, index: u64) -> Change
-    ensures { λ r. ⌜ r ≡ changeAs image (Call.OwnTurn number index) ⌝ }
+pub(crate) fn arrival(image: Image, stream: u64, place: u64) -> Answered
+    ensures { λ r. ⌜ r ≡ answeredAs image (Call.Arrival stream place) ⌝ }
 {
-    let call = Call::OwnTurn {
-        stream: number,
-        index: index,
-    };
-    let at = slot_of(number as usize);
-    let session = called(image);
-    let answer = session.own_turn(number, index);
-    changed(answer, call, at)
+    answered(image, Call::Arrival { stream, place })
 }
 
-pub(crate) fn done(image: Image, duration: u64) -> Change
-    ensures { λ r. ⌜ r ≡ changeAs image (Call.Done duration) ⌝ }
+pub(crate) fn turn(image: Image) -> Answered
+    ensures { λ r. ⌜ r ≡ answeredAs image Call.Turn ⌝ }
 {
-    let call = Call::Done { duration };
-    let at = slot_of(image.served);
-    let session = called(image);
-    let answer = session.done(duration);
-    changed(answer, call, at)
+    answered(image, Call::Turn)
 }
 
-pub(crate) fn clock(image: Image, time: u64) -> Change
-    ensures { λ r. ⌜ r ≡ changeAs image (Call.Clock time) ⌝ }
+pub(crate) fn own_turn(image: Image, stream: u64, index: u64) -> Answered
+    ensures { λ r. ⌜ r ≡ answeredAs image (Call.OwnTurn stream index) ⌝ }
 {
-    let call = Call::Clock { time };
-    let at: usize = 0;
-    let session = called(image);
-    let answer = session.clock(time);
-    changed(answer, call, at)
+    answered(image, Call::OwnTurn { stream, index })
+}
+
+pub(crate) fn done(image: Image, duration: u64) -> Answered
+    ensures { λ r. ⌜ r ≡ answeredAs image (Call.Done duration) ⌝ }
+{
+    answered(image, Call::Done { duration })
+}
+
+pub(crate) fn clock(image: Image, time: u64) -> Answered
+    ensures { λ r. ⌜ r ≡ answeredAs image (Call.Clock time) ⌝ }
+{
+    answered(image, Call::Clock { time })
 }
 
 // The session to be shown: one that stands for none is shown as the all-zero session, which is not sound.

@@ -34,17 +34,6 @@ pub struct Answered {
     pub reply: Told,
 }
 
-// What a call other than a turn changes of an image: one stream at most, the clock and the disk. The reply goes with it.
-pub(crate) struct Change {
-    pub(crate) at: usize,
-    pub(crate) stream: Stream,
-    pub(crate) clock: Clock,
-    pub(crate) head: u64,
-    pub(crate) served: usize,
-    pub(crate) place: u64,
-    pub(crate) reply: Told,
-}
-
 // A session that was opened, and 0; or the refusal, and the all-zero session.
 #[repr(C)]
 pub struct Opening {

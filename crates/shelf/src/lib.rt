@@ -21,7 +21,6 @@ use answers::view;
 use answers::written;
 use calls::Call;
 pub use images::Answered;
-use images::Change;
 pub use images::Filed;
 pub use images::Image;
 pub use images::Opening;
@@ -51,14 +50,9 @@ pub extern "C" fn yerbagunt_open(
 pub extern "C" fn yerbagunt_arrival(session: &mut Image, stream: u64, place: u64) -> Told
     ensures { λ r. ⌜ (r ≡ answeredAs (now (session .entry)) (Call.Arrival stream place) .reply) × (now (session .exit) ≡ answeredAs (now (session .entry)) (Call.Arrival stream place) .session) ⌝ }
 {
-    let c = arrival(*session, stream, place);
-    let at = c.at;
-    session.streams[at] = c.stream;
-    session.clock = c.clock;
-    session.head = c.head;
-    session.served = c.served;
-    session.place = c.place;
-    c.reply
+    let a = arrival(*session, stream, place);
+    *session = a.session;
+    a.reply
 }
 
 #[no_mangle]
@@ -74,42 +68,27 @@ pub extern "C" fn yerbagunt_turn(session: &mut Image) -> Told
 pub extern "C" fn yerbagunt_own_turn(session: &mut Image, stream: u64, index: u64) -> Told
     ensures { λ r. ⌜ (r ≡ answeredAs (now (session .entry)) (Call.OwnTurn stream index) .reply) × (now (session .exit) ≡ answeredAs (now (session .entry)) (Call.OwnTurn stream index) .session) ⌝ }
 {
-    let c = own_turn(*session, stream, index);
-    let at = c.at;
-    session.streams[at] = c.stream;
-    session.clock = c.clock;
-    session.head = c.head;
-    session.served = c.served;
-    session.place = c.place;
-    c.reply
+    let a = own_turn(*session, stream, index);
+    *session = a.session;
+    a.reply
 }
 
 #[no_mangle]
 pub extern "C" fn yerbagunt_done(session: &mut Image, duration: u64) -> Told
     ensures { λ r. ⌜ (r ≡ answeredAs (now (session .entry)) (Call.Done duration) .reply) × (now (session .exit) ≡ answeredAs (now (session .entry)) (Call.Done duration) .session) ⌝ }
 {
-    let c = done(*session, duration);
-    let at = c.at;
-    session.streams[at] = c.stream;
-    session.clock = c.clock;
-    session.head = c.head;
-    session.served = c.served;
-    session.place = c.place;
-    c.reply
+    let a = done(*session, duration);
+    *session = a.session;
+    a.reply
 }
 
 #[no_mangle]
 pub extern "C" fn yerbagunt_clock(session: &mut Image, time: u64) -> Told
     ensures { λ r. ⌜ (r ≡ answeredAs (now (session .entry)) (Call.Clock time) .reply) × (now (session .exit) ≡ answeredAs (now (session .entry)) (Call.Clock time) .session) ⌝ }
 {
-    let c = clock(*session, time);
-    let at = c.at;
-    session.streams[at] = c.stream;
-    session.clock = c.clock;
-    session.head = c.head;
-    session.served = c.served;
-    session.place = c.place;
-    c.reply
+    let a = clock(*session, time);
+    *session = a.session;
+    a.reply
 }
 
 // The clock, the horizon and the latest safe moment of a session.

@@ -1,15 +1,14 @@
--- `yerbagunt_arrival` answers as `answeredAs` and leaves its image, by the law of a call that stores in place with two other parameters.
-use mathlib.Core.Path.{refl}
+-- `yerbagunt_arrival` answers as `arrival` does and leaves its image, by the law of a thin call.
+use mathlib.Core.List.{[], _∷_}
 use mir.Syntax.{w64}
 use contract.Running.{givenOf, tables, tablesOf}
 use denote.Triple.Spec.{tripleOf}
 use denote.Triple.Table.{entered, cited}
 use Rattle.calls.specs.declared.Call.{Call}
 use Rattle.shelf.specs.Image.{answeredAs}
-use Rattle.shelf.specs.InPlace.{changeAs}
-use Rattle.shelf.proofs.Changing.{low, eight, arrival-left, by-change}
+use Rattle.shelf.proofs.Answering.{by-image}
+use Rattle.session.proofs.Lending.{lent}
 use Rattle.session.proofs.Parameters.{uint}
-use Rattle.shelf.proofs.Settling.{settle2}
 use Rattle.shelf.proofs.answers.arrival as g
 use Rattle.shelf.proofs.answers.arrival.Symbol as g-def
 use Rattle.shelf.proofs.answers.arrival.Symbol.{name as #g}
@@ -20,10 +19,9 @@ use Rattle.shelf.proofs.yerbagunt_arrival.Statement as stated
 use Rattle.shelf.proofs.yerbagunt_arrival.Code as code
 
 pub yerbagunt-arrival-spec : {M : Type 1} → stated.statement M
-unfolding code.routine tablesOf changeAs
+unfolding code.routine tablesOf
 yerbagunt-arrival-spec 𝓤 H 𝓜 𝓖 𝓡 =
     entered 𝓤 H (tripleOf 𝓤 H (𝓖 .A) f.signature (f.spec 𝓤 H (𝓖 .A) (𝓜 .mem) (𝓡 .run)))
     (tables 𝓤 H 𝓜 𝓡 code.env .C) (tables 𝓤 H 𝓜 𝓡 code.env .Λ) #f code.function (code.unfolded 𝓤 H 𝓜 𝓡)
-    (settle2 by-change (uint w64) (uint w64) (λ i stream place. changeAs i (Call.Arrival stream place)) (λ i stream place. low stream) (λ i stream place. answeredAs i (Call.Arrival stream place) .session) (λ i stream place. answeredAs i (Call.Arrival stream place) .reply)
-    (λ i stream place is. arrival-left i stream place (eight i is)) (λ i stream place. refl) 𝓤 H (𝓖 .A) (givenOf 𝓤 H 𝓜 𝓖) (tablesOf 𝓤 H 𝓜 (tables 𝓤 H 𝓜 𝓡 code.env)) #g
+    (lent by-image (uint w64 ∷ uint w64 ∷ []) (λ i a. answeredAs i (Call.Arrival (a .0) (a .1 .0))) 𝓤 H (𝓖 .A) (givenOf 𝓤 H 𝓜 𝓖) (tablesOf 𝓤 H 𝓜 (tables 𝓤 H 𝓜 𝓡 code.env)) #g
     (cited 𝓤 H (tripleOf 𝓤 H (𝓖 .A) g.signature (g.spec 𝓤 H (𝓖 .A) (𝓜 .mem) (𝓡 .run))) 𝓜 𝓡 code.env #g g-def.routine code.calls-shelf·answers·arrival (g-thm.met 𝓤 H 𝓜 𝓖 𝓡)))

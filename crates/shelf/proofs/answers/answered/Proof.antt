@@ -1,9 +1,9 @@
--- `turn` judges the order first, and then answers as the session does.
+-- `answered` judges the order first, and then answers as the session does.
 use borrow.Author.Tests.{eq-eqb, ne-eqb}
 use Rattle.table.specs.Fold.{if}
 use Rattle.shelf.specs.Image.{answeredAs}
-use Rattle.shelf.proofs.answers.turn.Statement.{statement}
-use Rattle.shelf.proofs.answers.turn.Tie as tie
+use Rattle.shelf.proofs.answers.answered.Statement.{statement}
+use Rattle.shelf.proofs.answers.answered.Tie as tie
 
 told-requires : tie.Need-told-requires
 told-requires c κs = tt
@@ -15,8 +15,8 @@ returns c = rw (ne-eqb _ _ (c .before .if1 .taken), c .told .ensures)
 session-requires : tie.Need-session-requires
 session-requires c κs = tt
 
-turn-requires : tie.Need-turn-requires
-turn-requires c κs = tt
+call-requires : tie.Need-call-requires
+call-requires c κs = tt
 
 of-requires : tie.Need-of-requires
 of-requires c κs = tt
@@ -28,16 +28,16 @@ returns-2 : tie.Need-returns-2
 unfolding answeredAs if
 returns-2 c =
     let asked = c .before .before .before in
-    rw (eq-eqb _ _ (asked .before .if1 .left), c .told2 .ensures, c .before .of .ensures, c .before .before .turn .ensures, asked .session .ensures)
+    rw (eq-eqb _ _ (asked .before .if1 .left), c .told2 .ensures, c .before .of .ensures, c .before .before .call .ensures, asked .session .ensures)
 
-pub turn-spec : {M : Type 1} → statement M
-turn-spec =
+pub answered-spec : {M : Type 1} → statement M
+answered-spec =
     tie.close
     (tie.spec
     told-requires
     returns
     session-requires
-    turn-requires
+    call-requires
     of-requires
     told-requires-2
     returns-2)

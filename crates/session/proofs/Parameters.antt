@@ -1,7 +1,7 @@
 -- A list of parameters in a walk by hand: whatever their number, their locals are one entry of the walk's context, so that the other entries have fixed places.
 --     Param            what a walk takes of a parameter's type: its row and MIR type, and how a value's machine value is spelled. `uint` is an unsigned integer's
---     slots, stays     the parameters in a signature with n lifetimes, and that nothing is kept of them at exit
---     Args, Each       their values as a function with no lifetime takes them, and that each is of its type.        passed, each     both from what a call was passed
+--     slots, stays     the parameters in a signature with n lifetimes, and that nothing is had of them at exit.        rows, words      their types and machine values
+--     Args, Each       their values as a function with no lifetime takes them, and that each is of its type.        passed, each     both, of what a call was passed
 --     rooms, cells     their locals: empty, and with the values stored
 --     allocated, stored, read, freed       how a walk goes over the locals.        beyond      the place of a local that comes after them
 --     handed, let-go   what a callee takes of them, and what is had of them at exit
@@ -116,12 +116,12 @@ abbrev pub locals : List Param → List Local
 locals [] = []
 locals (P ∷ Ps) = local (P .ty) valueLocal ∷ locals Ps
 
--- the number k places after the parameters
+-- the local k places after the parameters, counted from the first of them
 abbrev pub after : List Param → ℕ → ℕ
 after [] k = k
 after (P ∷ Ps) k = suc (after Ps k)
 
--- the parameters as operands of a call, the first being local i
+-- the parameters as operands of a call, the first being the local i
 abbrev pub operands : ℕ → List Param → List Operand
 operands i [] = []
 operands i (P ∷ Ps) = copy (place i []) ∷ operands (suc i) Ps

@@ -98,7 +98,6 @@ module _ (s : Session) where
     pub worst : c .worst ≡ s .worst
     pub span : c .span ≡ s .span
     pub padding : c .padding ≡ s .padding
-    pub count : c .count ≡ s .count
     pub passed : c .sound ≡ true → Passed c n
     pub failed : c .sound ≡ false → sound s ≡ false
 
@@ -109,7 +108,6 @@ module _ (s : Session) where
         worst = refl;
         span = refl;
         padding = refl;
-        count = refl;
         passed = λ ok.
             record {
               numbers = eqb-true _ _ ok;
@@ -134,7 +132,6 @@ module _ (s : Session) where
         worst = m .worst;
         span = m .span;
         padding = m .padding;
-        count = m .count;
         passed = λ again.
             record {
               numbers = p .numbers;
@@ -151,7 +148,6 @@ module _ (s : Session) where
         worst = m .worst;
         span = m .span;
         padding = m .padding;
-        count = m .count;
         passed = λ again. absurd (false≢true again);
         failed = λ fails. not-sound (λ q. false≢true (sym bad ∙ here ∙ order-of q n l));
       })

@@ -19,7 +19,7 @@ use Rattle.stream.specs.Stream.{slots, unusedStream}
 use Rattle.stream.specs.Bounds.{Bounded}
 use Rattle.session.specs.Session.{streamAt, horizon, tableOf, soundDisk, sound}
 use Rattle.session.specs.Inner.{judgedOf}
-use Rattle.stream.specs.Search.{begun, counted, Countable, loadSo, says, Judgeable}
+use Rattle.stream.specs.Search.{begun, withSound, counted, Countable, loadSo, says, Judgeable}
 use Rattle.time.specs.declared.Clock.{Clock}
 use Rattle.stream.specs.declared.Stream.{Stream}
 use Rattle.stream.specs.declared.census.Census.{Census}
@@ -54,21 +54,6 @@ served-high s q =
     (λ (some : 1 ≤ s .served). let l = served-in s q (λ none. omega (arith, some, none)) .1 in omega (arith, l))
     (λ (none : s .served < 1). omega (arith, none))
     (le-or-lt 1 (s .served))
-
--- a census that was told of an unused stream
-abbrev withSound : Census → Bool → Census
-withSound c b =
-    record {
-      worst = c .worst;
-      span = c .span;
-      padding = c .padding;
-      count = c .count;
-      sound = b;
-      horizon = c .horizon;
-      released = c .released;
-      shares = c .shares;
-      least = c .least;
-    }
 
 module _ (s : Session) where
   -- the streams below i are judged: the used ones are counted, and the unused ones are all zeros
@@ -133,7 +118,6 @@ module _ (s : Session) where
             worst = k .worst;
             span = k .span;
             padding = k .padding;
-            count = k .count;
             passed = λ fine.
                 record {
                   numbers = p .numbers;

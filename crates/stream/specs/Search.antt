@@ -2,7 +2,7 @@
 use mathlib.Core.Bool.{Bool, true, false, not, _&&_, _||_}
 use mathlib.Core.List.{List}
 use mathlib.Core.Path.{_≡_}
-use Prim.Native.Nat.{ℕ, _+_, _-_, _*_, _/_, _≤_, _<_, min, max}
+use Prim.Native.Nat.{ℕ, _+_, _*_, _/_, _≤_, _<_, min, max}
 use lib.ListN.{getD, replicate}
 use lib.Dec.{leb, ltb, eqb}
 use Rattle.table.specs.Fold.{if}
@@ -16,10 +16,6 @@ use Rattle.stream.specs.declared.choice.Near.{Near}
 use Rattle.stream.specs.declared.choice.Pick.{Pick}
 use Rattle.stream.specs.declared.Stream.{Stream}
 
--- where the stream with a number stands among the eight; for a number that none has, the first
-unfoldable pub slotOf : ℕ → ℕ
-slotOf n = if (eqb n 0) 0 (if (ltb 8 n) 0 (n - 1))
-
 -- what a used stream passes whatever the horizon: nothing refuses its reservation, and its cells are sound
 unfoldable pub inOrder : ℕ → ℕ → ℕ → Stream → Bool
 inOrder worst span k x = eqb (streamRefusal worst span k (x .reserved) (x .period)) 0 && soundCells worst k x
@@ -31,12 +27,24 @@ begun worst span k count first =
       worst = worst;
       span = span;
       padding = k;
-      count = count;
       sound = eqb (numbersRefusal (record { worst = worst; span = span; padding = k; count = count; reserved = replicate streams-max 0; period = replicate streams-max 0 })) 0;
       horizon = first .deadline;
       released = moment 0;
       shares = 0;
       least = first .period;
+    }
+
+abbrev pub withSound : Census → Bool → Census
+withSound c sound =
+    record {
+      worst = c .worst;
+      span = c .span;
+      padding = c .padding;
+      sound = sound;
+      horizon = c .horizon;
+      released = c .released;
+      shares = c .shares;
+      least = c .least;
     }
 
 unfoldable pub counted : Census → Stream → Census
@@ -46,24 +54,13 @@ counted c x =
       worst = c .worst;
       span = c .span;
       padding = c .padding;
-      count = c .count;
       sound = c .sound;
       horizon = moment (min (c .horizon .0) (x .deadline .0));
       released = moment (max (c .released .0) (x .release .0));
       shares = c .shares + x .granted .0 * (c .span / x .period);
       least = min (c .least) (x .period);
     })
-    (record {
-      worst = c .worst;
-      span = c .span;
-      padding = c .padding;
-      count = c .count;
-      sound = false;
-      horizon = c .horizon;
-      released = c .released;
-      shares = c .shares;
-      least = c .least;
-    })
+    (withSound c false)
 
 -- with these numbers one more stream can be taken in, and no sum wraps: eight shares of the span are far less
 abbrev pub shares-max : ℕ

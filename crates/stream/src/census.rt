@@ -2,17 +2,16 @@
 ghost use mathlib.Core.Path.{_≡_};
 ghost use mathlib.Core.Bool.{true};
 ghost use Prim.Native.Nat.{min, _<_};
-ghost use Rattle.stream.specs.Search.{slotOf, begun, counted, Countable, says, Judgeable};
+ghost use Rattle.stream.specs.Search.{begun, counted, Countable, says, Judgeable};
 use crate::Stream;
 use table::Table;
 use time::Clock;
 
-// The table's numbers, whether all is in order so far, and, of the used streams that were passed, the smallest deadline, the latest release, the sum of the shares and the smallest period.
+// W, H and k of the table, whether all is in order so far, and, of the used streams that were passed, the smallest deadline, the latest release, the sum of the shares and the smallest period.
 pub struct Census {
     pub worst: u32,
     pub span: u32,
     pub padding: u32,
-    pub count: usize,
     pub sound: bool,
     pub horizon: Clock,
     pub released: Clock,
@@ -40,7 +39,6 @@ impl Census {
             worst: worst,
             span: span,
             padding: padding,
-            count: count,
             sound: refusal == 0,
             horizon: deadline,
             released: start,
@@ -87,17 +85,4 @@ fn smaller(a: u32, b: u32) -> u32
     ensures { λ r. ⌜ r ≡ min a b ⌝ }
 {
     if b < a { b } else { a }
-}
-
-// Where the stream with a number stands among the eight; for a number that none has, the first.
-pub fn slot_of(number: usize) -> usize
-    ensures { λ r. ⌜ (r < 8) × (r ≡ slotOf number) ⌝ }
-{
-    if number == 0 {
-        return 0;
-    }
-    if 8 < number {
-        return 0;
-    }
-    number - 1
 }

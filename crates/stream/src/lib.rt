@@ -12,7 +12,6 @@ ghost use Rattle.time.specs.Time.{session-end};
 ghost use Rattle.stream.specs.Bounds.{Bounded};
 ghost use Rattle.stream.specs.Search.{inOrder};
 pub use census::Census;
-pub use census::slot_of;
 pub use choice::Near;
 pub use choice::Pick;
 pub use choice::consider;

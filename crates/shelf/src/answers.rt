@@ -1,7 +1,7 @@
 // What is answered to an image, by value.
 ghost use mathlib.Core.Path.{_≡_};
 ghost use Rattle.table.specs.Reservations.{tableOf};
-ghost use Rattle.shelf.specs.Image.{refusalIn, openedAs, toldAs, answeredAs, shownOf, viewedAs, stateAs, closingAs};
+ghost use Rattle.shelf.specs.Image.{imageOf, refusalIn, openedAs, toldAs, answeredAs, shownOf, viewedAs, stateAs, closingAs};
 ghost use Rattle.shelf.specs.Filed.{readAs, writtenAs};
 use crate::Answered;
 use crate::Filed;
@@ -13,6 +13,7 @@ use calls::Call;
 use calls::Reply;
 use file::Reading;
 use file::Writing;
+use session::Answer;
 use session::Session;
 use table::Admission;
 use table::Records;
@@ -55,24 +56,26 @@ fn told(reply: Reply, call: Call) -> Told
     }
 }
 
-// A call to an image. One whose order stands for none is refused 31, and is what it was.
-fn answered(image: Image, call: Call) -> Answered
-    ensures { λ r. ⌜ r ≡ answeredAs image call ⌝ }
+// What an image whose order stands for none is answered: 31, and it is what it was.
+fn refused(image: Image, call: Call) -> Answered
+    ensures { λ r. ⌜ r ≡ record { session = image; reply = toldAs call (Reply.Refused 31) } ⌝ }
 {
-    if image.order != Image::NEAREST {
-        let reply = told(Reply::Refused { number: 31 }, call);
-        return Answered {
-            session: image,
-            reply: reply,
-        };
+    let reply = told(Reply::Refused { number: 31 }, call);
+    Answered {
+        session: image,
+        reply: reply,
     }
-    let session = image.session();
-    let answer = session.call(call);
-    let after = Image::of(answer.session);
+}
+
+// What the session of an image answered, as numbers.
+fn in_numbers(answer: Answer, call: Call) -> Answered
+    ensures { λ r. ⌜ r ≡ record { session = imageOf (answer .session); reply = toldAs call (answer .reply) } ⌝ }
+{
+    let session = Image::of(answer.session);
     let given = answer.reply;
     let reply = told(given, call);
     Answered {
-        session: after,
+        session: session,
         reply: reply,
     }
 }
@@ -80,31 +83,61 @@ fn answered(image: Image, call: Call) -> Answered
 pub(crate) fn arrival(image: Image, stream: u64, place: u64) -> Answered
     ensures { λ r. ⌜ r ≡ answeredAs image (Call.Arrival stream place) ⌝ }
 {
-    answered(image, Call::Arrival { stream, place })
+    let call = Call::Arrival { stream, place };
+    if image.order != Image::NEAREST {
+        return refused(image, call);
+    }
+    let session = image.session();
+    let answer = session.arrival(stream, place);
+    in_numbers(answer, call)
 }
 
 pub(crate) fn turn(image: Image) -> Answered
     ensures { λ r. ⌜ r ≡ answeredAs image Call.Turn ⌝ }
 {
-    answered(image, Call::Turn)
+    let call = Call::Turn;
+    if image.order != Image::NEAREST {
+        return refused(image, call);
+    }
+    let session = image.session();
+    let answer = session.turn();
+    in_numbers(answer, call)
 }
 
 pub(crate) fn own_turn(image: Image, stream: u64, index: u64) -> Answered
     ensures { λ r. ⌜ r ≡ answeredAs image (Call.OwnTurn stream index) ⌝ }
 {
-    answered(image, Call::OwnTurn { stream, index })
+    let call = Call::OwnTurn { stream, index };
+    if image.order != Image::NEAREST {
+        return refused(image, call);
+    }
+    let session = image.session();
+    let answer = session.own_turn(stream, index);
+    in_numbers(answer, call)
 }
 
 pub(crate) fn done(image: Image, duration: u64) -> Answered
     ensures { λ r. ⌜ r ≡ answeredAs image (Call.Done duration) ⌝ }
 {
-    answered(image, Call::Done { duration })
+    let call = Call::Done { duration };
+    if image.order != Image::NEAREST {
+        return refused(image, call);
+    }
+    let session = image.session();
+    let answer = session.done(duration);
+    in_numbers(answer, call)
 }
 
 pub(crate) fn clock(image: Image, time: u64) -> Answered
     ensures { λ r. ⌜ r ≡ answeredAs image (Call.Clock time) ⌝ }
 {
-    answered(image, Call::Clock { time })
+    let call = Call::Clock { time };
+    if image.order != Image::NEAREST {
+        return refused(image, call);
+    }
+    let session = image.session();
+    let answer = session.clock(time);
+    in_numbers(answer, call)
 }
 
 // The session to be shown: one that stands for none is shown as the all-zero session, which is not sound.

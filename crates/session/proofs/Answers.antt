@@ -1,23 +1,26 @@
 -- What a call is answered: 31 for a session that is not sound, else the first refusal, else what the call comes to.
-use mathlib.Core.Bool.{Bool, true, false}
+use mathlib.Core.Bool.{Bool, true, false, not, _&&_}
 use mathlib.Core.Path.{_≡_, refl, sym, _∙_, ap}
 use Prim.Native.Nat.{ℕ, suc, _+_, _-_, _≤_, _<_}
 use native.Mathlib.Omega.{arith}
 use lib.Dec.{leb, ltb, eqb}
-use borrow.Author.Tests.{eqb-true, eq-eqb, ne-eqb, lt-ltb, le-ltb}
+use borrow.Author.Tests.{eqb-true, eq-eqb, ne-eqb, lt-ltb, le-ltb, not-true, not-false}
 use Rattle.table.specs.Fold.{if}
 use Rattle.table.specs.Refusal.{given, _or-next_, outside}
 use Rattle.table.proofs.Folds.{all-at}
 use Rattle.time.specs.Time.{session-end, duration-max}
 use Rattle.stream.specs.Stream.{queue-max, filled}
-use Rattle.session.specs.Session.{streamAt, slotsAt, filledAt, someFilled, noSlot, latest, sound}
+use Rattle.session.specs.Session.{streamAt, slotsAt, filledAt, someFilled, noSlot, sound}
 use Rattle.stream.specs.Choice.{firstBest}
-use Rattle.session.specs.Choice.{nearestAt, sentBefore, chosen, expiring}
+use Rattle.session.specs.Choice.{nearestAt, sentBefore, chosen}
 use Rattle.session.specs.Calls.{Verdict, refuse, append, send, move, wait, expire, finish, set-clock, noSuchStream, busy, movePassesEnd, callRefusal, refusal, turnEffect, effect, ruled, verdict, apply, outcome, answerTo}
+use Rattle.session.specs.Inner.{surveyOf, Ahead}
 use Rattle.session.specs.Laws.{PresentTimeChangesNothing}
+use Rattle.time.specs.declared.Clock.{Clock}
 use Rattle.session.specs.declared.Session.{Session}
 use Rattle.calls.specs.declared.Call.{Call}
 use Rattle.session.specs.declared.Answer.{Answer}
+use Rattle.session.specs.declared.searches.Survey.{Survey}
 use Rattle.session.proofs.Sound.{Sound, admits, bounded}
 use Rattle.stream.proofs.Best.{best-positive}
 use Rattle.session.proofs.Grounds.{Grounds, ruled-by}
@@ -71,29 +74,55 @@ pub turn-busy : (s : Session) → sound s ≡ true → (s .served ≡ 0 → ⊥)
 unfolding callRefusal given _or-next_ busy
 turn-busy s ok some = refused s Call.Turn ok 9 (rw (ne-eqb _ _ some))
 
--- what a turn of an idle disk is answered, case by case
-module _ (s : Session) (ok : sound s ≡ true) (idle : s .served ≡ 0) where
+-- a turn past 31 and 10: the session is sound, h is its horizon, and nothing is at the disk
+pub record Idle (s : Session) (h : Clock) : Type 0 where
+  pub ahead : Ahead s h
+  pub rests : s .served ≡ 0
+
+-- and past a.: no slot is filled, and v is what was surveyed
+pub record Unfilled (s : Session) (h : Clock) (v : Survey) : Type 0 where
+  pub idle : Idle s h
+  pub none : someFilled s ≡ false
+  pub seen : v ≡ surveyOf s
+
+-- what a turn of an idle disk is answered, case by case; only 14 can refuse it
+module _ {s : Session} {h : Clock} (idle : Idle s h) where
+  unrefused : (noSlot s && movePassesEnd s) ≡ false → verdict s Call.Turn ≡ turnEffect s
+  unfolding callRefusal given _or-next_ busy effect
+  unrefused e = accepted s Call.Turn (idle .ahead .ok) (rw (eq-eqb _ _ (idle .rests), e))
+
+  -- a. some slot is filled
   pub turn-sends : (i j : ℕ) → i ≡ chosen s → j ≡ nearestAt s (chosen s) → someFilled s ≡ true → verdict s Call.Turn ≡ send i j
-  unfolding callRefusal given _or-next_ busy effect turnEffect if
-  turn-sends i j stream-is index-is some =
-      accepted s Call.Turn ok (rw (eq-eqb _ _ idle, filled-has-slot s some)) ∙ rw (some, stream-is, index-is)
+  unfolding turnEffect if
+  turn-sends i j stream-is index-is some = unrefused (rw (filled-has-slot s some)) ∙ rw (some, stream-is, index-is)
 
-  module _ (none : someFilled s ≡ false) where
-    pub turn-waits : noSlot s ≡ false → ltb (s .clock .0) (latest s) ≡ true → verdict s Call.Turn ≡ wait
-    unfolding callRefusal given _or-next_ busy effect turnEffect if
-    turn-waits slot early = accepted s Call.Turn ok (rw (eq-eqb _ _ idle, slot)) ∙ rw (none, slot, early)
+module _ {s : Session} {h : Clock} {v : Survey} (u : Unfilled s h v) where
+  -- b. no stream has a slot
+  module _ (over : not (v .found) ≡ true) where
+    none-has : noSlot s ≡ true
+    none-has = not-false (noSlot s) (not-true (not (noSlot s)) (rw (u .seen) at over))
 
-    pub turn-expires : (i : ℕ) → i ≡ expiring s → noSlot s ≡ false → ltb (s .clock .0) (latest s) ≡ false → verdict s Call.Turn ≡ expire i
-    unfolding callRefusal given _or-next_ busy effect turnEffect if
-    turn-expires i stream-is slot late = accepted s Call.Turn ok (rw (eq-eqb _ _ idle, slot)) ∙ rw (none, slot, late, stream-is)
+    pub turn-ends : v .«passes_end» ≡ true → verdict s Call.Turn ≡ refuse 14
+    unfolding callRefusal given _or-next_ busy
+    turn-ends past = refused s Call.Turn (u .idle .ahead .ok) 13 (rw (eq-eqb _ _ (u .idle .rests), none-has, rw (u .seen) at past))
 
-    pub turn-moves : noSlot s ≡ true → movePassesEnd s ≡ false → verdict s Call.Turn ≡ move
-    unfolding callRefusal given _or-next_ busy effect turnEffect if
-    turn-moves over fits = accepted s Call.Turn ok (rw (eq-eqb _ _ idle, over, fits)) ∙ rw (none, over)
+    pub turn-moves : v .«passes_end» ≡ false → verdict s Call.Turn ≡ move
+    unfolding turnEffect if
+    turn-moves fits = unrefused (u .idle) (rw (none-has, rw (u .seen) at fits)) ∙ rw (u .none, none-has)
 
-  pub turn-ends : noSlot s ≡ true → movePassesEnd s ≡ true → verdict s Call.Turn ≡ refuse 14
-  unfolding callRefusal given _or-next_ busy
-  turn-ends over passes = refused s Call.Turn ok 13 (rw (eq-eqb _ _ idle, over, passes))
+  -- c. and d. only empty slots
+  module _ (left : not (v .found) ≡ false) where
+    some-has : noSlot s ≡ false
+    some-has = not-true (noSlot s) (not-false (not (noSlot s)) (rw (u .seen) at left))
+
+    module _ {early : Bool} (early-is : early ≡ ltb (s .clock .0) (v .latest .0)) where
+      pub turn-waits : early ≡ true → verdict s Call.Turn ≡ wait
+      unfolding turnEffect if
+      turn-waits yet = unrefused (u .idle) (rw some-has) ∙ rw (u .none, some-has, rw (early-is, u .seen) at yet)
+
+      pub turn-expires : early ≡ false → verdict s Call.Turn ≡ expire (v .expiring)
+      unfolding turnEffect if
+      turn-expires due = unrefused (u .idle) (rw some-has) ∙ rw (u .none, some-has, rw (early-is, u .seen) at due, u .seen)
 
 -- what an arrival is answered, case by case
 module _ (s : Session) (n place : ℕ) (ok : sound s ≡ true) where

@@ -1,15 +1,17 @@
 -- What the inner functions answer, and what they ask of their callers. No rule stands here.
-use mathlib.Core.Bool.{true}
+use mathlib.Core.Bool.{true, not}
 use mathlib.Core.Path.{_≡_}
 use Rattle.table.specs.Fold.{if}
 use Rattle.time.specs.Time.{moment}
-use Rattle.session.specs.Session.{horizon, latest, sound}
-use Rattle.session.specs.Calls.{Verdict, verdict}
+use Rattle.session.specs.Session.{horizon, noSlot, latest, sound}
+use Rattle.session.specs.Choice.{expiring}
+use Rattle.session.specs.Calls.{movePassesEnd, Verdict, verdict}
 use Rattle.time.specs.declared.Clock.{Clock}
 use Rattle.calls.specs.declared.Call.{Call}
 use Rattle.session.specs.declared.Session.{Session}
 use Rattle.session.specs.declared.soundness.Judged.{Judged}
 use Rattle.session.specs.declared.searches.Outlook.{Outlook}
+use Rattle.session.specs.declared.searches.Survey.{Survey}
 
 -- what is judged of a session: whether it is sound, and its horizon if it is
 abbrev pub judgedOf : Session → Judged
@@ -22,6 +24,16 @@ outlookOf s =
       sound = sound s;
       horizon = moment (if (sound s) (horizon s) 0);
       latest = moment (if (sound s) (latest s) 0);
+    }
+
+-- what a turn without a request to send goes by
+abbrev pub surveyOf : Session → Survey
+surveyOf s =
+    record {
+      found = not (noSlot s);
+      expiring = expiring s;
+      «passes_end» = movePassesEnd s;
+      latest = moment (latest s);
     }
 
 -- the session is sound, and h is its horizon

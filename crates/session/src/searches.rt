@@ -1,11 +1,10 @@
 // What a turn looks for among the streams of a sound session, up to its horizon.
 ghost use mathlib.Core.Path.{_≡_};
-ghost use mathlib.Core.Bool.{true, not};
+ghost use mathlib.Core.Bool.{true};
 ghost use Rattle.time.specs.Time.{moment};
-ghost use Rattle.session.specs.Session.{someFilled, noSlot, latest};
-ghost use Rattle.session.specs.Choice.{nearestAt, chosen, expiring};
-ghost use Rattle.session.specs.Calls.{movePassesEnd};
-ghost use Rattle.session.specs.Inner.{outlookOf, Ahead};
+ghost use Rattle.session.specs.Session.{someFilled, latest};
+ghost use Rattle.session.specs.Choice.{nearestAt, chosen};
+ghost use Rattle.session.specs.Inner.{outlookOf, surveyOf, Ahead};
 use crate::Session;
 use stream::Lapse;
 use stream::Pick;
@@ -20,6 +19,14 @@ use time::Clock;
 pub struct Outlook {
     pub sound: bool,
     pub horizon: Clock,
+    pub latest: Clock,
+}
+
+// What a turn without a request to send goes by: whether a stream has a slot and which would lose one, whether a move would close a job past the session's end, and the latest safe moment.
+pub struct Survey {
+    pub found: bool,
+    pub expiring: usize,
+    pub passes_end: bool,
     pub latest: Clock,
 }
 
@@ -46,24 +53,38 @@ impl Session {
         pick
     }
 
-    // The stream that would lose a slot, where one has a slot.
-    pub(crate) fn lapse(self, h: Clock) -> Lapse
+    // All that is asked of the streams where no slot is filled, in one pass.
+    pub(crate) fn survey(self, h: Clock) -> Survey
         requires { ⌜ Ahead self h ⌝ }
-        ensures { λ r. ⌜ r ≡ record { found = not (noSlot self); stream = expiring self } ⌝ }
+        ensures { λ r. ⌜ r ≡ surveyOf self ⌝ }
     {
+        let nothing = Charge::of(0);
         let mut lapse = Lapse {
             found: false,
             stream: 0,
         };
+        let mut sums = Sums {
+            charges: nothing,
+            parts: 0,
+        };
+        let mut passes = false;
         let mut i: usize = 0;
         while i < self.count {
             let best = lapse.stream;
             let other = self.streams[best];
             let x = self.streams[i];
             lapse = better(lapse, other, i, x, self.worst, h);
+            sums = summed(sums, x, self.span, h);
+            passes = passes | x.closes_past_end(h);
             i += 1;
         }
-        lapse
+        let until = h.less_remainders(sums.charges, sums.parts, self.span);
+        Survey {
+            found: lapse.found,
+            expiring: lapse.stream,
+            passes_end: passes,
+            latest: until,
+        }
     }
 
     // What lies ahead of the session.
@@ -105,20 +126,5 @@ impl Session {
             i += 1;
         }
         h.less_remainders(sums.charges, sums.parts, self.span)
-    }
-
-    // Whether a move would close a job past the session's end.
-    pub(crate) fn passes_end(self, h: Clock) -> bool
-        requires { ⌜ Ahead self h ⌝ }
-        ensures { λ r. ⌜ r ≡ movePassesEnd self ⌝ }
-    {
-        let mut passes = false;
-        let mut i: usize = 0;
-        while i < self.count {
-            let x = self.streams[i];
-            passes = passes | x.closes_past_end(h);
-            i += 1;
-        }
-        passes
     }
 }

@@ -1,14 +1,12 @@
 // The house's turn.
 ghost use mathlib.Core.Path.{_≡_};
 ghost use Rattle.session.specs.Calls.{answerTo};
-ghost use Rattle.session.specs.Inner.{Ahead};
 use crate::Answer;
 use crate::Session;
 use calls::Call;
-use time::Clock;
 
 impl Session {
-    // What the house does next: 10, 14.
+    // What the house does next, the first that applies: 10, 14.
     pub fn turn(self) -> Answer
         ensures { λ r. ⌜ r ≡ answerTo self Call.Turn ⌝ }
     {
@@ -19,32 +17,26 @@ impl Session {
         if self.served != 0 {
             return self.refuse(10);
         }
-        self.idle_turn(judged.horizon)
-    }
-
-    // The same where nothing is at the disk, up to the horizon: the first that applies.
-    fn idle_turn(self, h: Clock) -> Answer
-        requires { ⌜ Ahead self h × (self .served ≡ 0) ⌝ }
-        ensures { λ r. ⌜ r ≡ answerTo self Call.Turn ⌝ }
-    {
+        let h = judged.horizon;
         // a. some slot is filled: send
         let pick = self.pick(h);
         if pick.found {
             return self.send(pick.stream, pick.index);
         }
         // b. no stream has a slot: move, or 14
-        let lapse = self.lapse(h);
-        if !lapse.found {
-            if self.passes_end(h) {
+        let empty = self.survey(h);
+        if !empty.found {
+            if empty.passes_end {
                 return self.refuse(14);
             }
             return self.move_on(h);
         }
-        // c. and d. only empty slots: wait until the latest safe moment, or expire one
-        let until = self.latest(h);
+        // c. only empty slots and t < L: wait until L
+        let until = empty.latest;
         if until.is_after(self.clock) {
             return self.wait(until);
         }
-        self.expire(lapse.stream)
+        // d. only empty slots and t ≥ L: expire one slot
+        self.expire(empty.expiring)
     }
 }

@@ -102,11 +102,11 @@ module _ {s : Session} {h : Clock} {v : Survey} (u : Unfilled s h v) where
     none-has : noSlot s ≡ true
     none-has = not-false (noSlot s) (not-true (not (noSlot s)) (rw (u .seen) at over))
 
-    pub turn-ends : v .«passes_end» ≡ true → verdict s Call.Turn ≡ refuse 14
+    pub turn-ends : v .beyond ≡ true → verdict s Call.Turn ≡ refuse 14
     unfolding callRefusal given _or-next_ busy
     turn-ends past = refused s Call.Turn (u .idle .ahead .ok) 13 (rw (eq-eqb _ _ (u .idle .rests), none-has, rw (u .seen) at past))
 
-    pub turn-moves : v .«passes_end» ≡ false → verdict s Call.Turn ≡ move
+    pub turn-moves : v .beyond ≡ false → verdict s Call.Turn ≡ move
     unfolding turnEffect if
     turn-moves fits = unrefused (u .idle) (rw (none-has, rw (u .seen) at fits)) ∙ rw (u .none, none-has)
 

@@ -87,6 +87,6 @@ module _ {s : Session} {h : Clock} {i : ℕ} {lapse : Lapse} {sums : Sums} {pass
 
 -- past all streams it is over
 pub surveyed-all : {s : Session} {h : Clock} {lapse : Lapse} {sums : Sums} {passes : Bool} → Surveyed s h (s .count) lapse sums passes → (until : Clock) → until ≡ moment (latest s)
-    → record { found = lapse .found; expiring = lapse .stream; «passes_end» = passes; latest = until } ≡ surveyOf s
+    → record { found = lapse .found; expiring = lapse .stream; beyond = passes; latest = until } ≡ surveyOf s
 unfolding noSlot expiring movePassesEnd
 surveyed-all {s} v until e = rw (v .slot, v .closing, e, some-not-all (slotsAt s) (s .count))

@@ -32,7 +32,7 @@ surveyOf s =
     record {
       found = not (noSlot s);
       expiring = expiring s;
-      «passes_end» = movePassesEnd s;
+      beyond = movePassesEnd s;
       latest = moment (latest s);
     }
 

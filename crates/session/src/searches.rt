@@ -1,4 +1,4 @@
-// What a turn looks for among the streams of a sound session, up to its horizon.
+// What is looked for among the streams of a sound session, up to its horizon.
 ghost use mathlib.Core.Path.{_≡_};
 ghost use mathlib.Core.Bool.{true};
 ghost use Rattle.time.specs.Time.{moment};
@@ -26,7 +26,7 @@ pub struct Outlook {
 pub struct Survey {
     pub found: bool,
     pub expiring: usize,
-    pub passes_end: bool,
+    pub beyond: bool,
     pub latest: Clock,
 }
 
@@ -82,7 +82,7 @@ impl Session {
         Survey {
             found: lapse.found,
             expiring: lapse.stream,
-            passes_end: passes,
+            beyond: passes,
             latest: until,
         }
     }

@@ -26,7 +26,7 @@ impl Session {
         // b. no stream has a slot: move, or 14
         let empty = self.survey(h);
         if !empty.found {
-            if empty.passes_end {
+            if empty.beyond {
                 return self.refuse(14);
             }
             return self.move_on(h);

@@ -30,10 +30,6 @@ module _ (s : Session) (k : Call) where
   unfolding verdict refusal given _or-next_ ruled
   unsound-verdict e = rw e
 
-  pub unsound-answer : sound s ≡ false → answerTo s k ≡ outcome s (refuse 31)
-  unfolding answerTo
-  unsound-answer e = ap (outcome s) (unsound-verdict e)
-
   -- what the verdict comes to is what the call is answered
   pub answers : {v : Verdict} {r : Answer} → r ≡ outcome s v → verdict s k ≡ v → r ≡ answerTo s k
   unfolding answerTo

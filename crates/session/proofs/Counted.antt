@@ -1,31 +1,30 @@
 -- A session judged stream by stream: what a census holds of the streams passed, and that it decides as the document's whole test does.
 use mathlib.Core.Bool.{Bool, true, false, _&&_, false≢true}
 use mathlib.Core.Path.{_≡_, refl, sym, ap, _∙_}
-use Prim.Native.Nat.{ℕ, _+_, _-_, _*_, _/_, _≤_, _<_}
+use Prim.Native.Nat.{ℕ, _+_, _*_, _/_, _≤_, _<_}
 use native.Mathlib.Numerals.{add-one}
 use native.Mathlib.Omega.{arith}
 use native.Mathlib.Nat.{mul-le-mul}
 use lib.ListN.{getD, List·getD-map}
 use lib.Dec.{leb, eqb}
 use borrow.Author.Tests.{leb-true, eqb-true, eqb-false, le-leb, le-ltb, eq-eqb}
-use Rattle.table.specs.Fold.{if, sumTo, smallestTo, largestTo}
+use Rattle.table.specs.Fold.{sumTo, smallestTo, largestTo}
 use Rattle.table.specs.Refusal.{given, _or-next_}
 use Rattle.table.specs.Admission.{periodAt, grantedOf, shareOf, shareAt, streamRefusalAt, numbersRefusal, streamRefusal, streamsRefusal, sharesOf, smallestPeriod, loadOf, admissionOf}
-use Rattle.table.proofs.Tests.{both, by-if, or-next-none, same-test}
+use Rattle.table.proofs.Tests.{both, by-if, or-next-none}
 use Rattle.table.proofs.Folds.{at-or-below, first-none, first-all, largest-le, largest-high, sum-agree, sum-high, smallest-agree, smallest-is}
 use Rattle.table.proofs.Judged.{Numbers, numbers-of, Fits-in, stream-of, share-high, admits-of}
 use Rattle.time.specs.Time.{moment}
-use Rattle.stream.specs.Stream.{slots, soundCells, soundStream}
-use Rattle.session.specs.Session.{noStream, streamAt, horizon, slotsAt, tableOf, soundDisk, soundRest, sound}
+use Rattle.stream.specs.Stream.{soundCells, soundStream}
+use Rattle.session.specs.Session.{noStream, streamAt, horizon, tableOf, sound}
 use Rattle.stream.specs.Search.{inOrder, begun, counted, Countable, loadSo, says, Judgeable}
 use Rattle.time.specs.declared.Clock.{Clock}
 use Rattle.stream.specs.declared.Stream.{Stream}
 use Rattle.stream.specs.declared.census.Census.{Census}
 use Rattle.session.specs.declared.Session.{Session}
 use Rattle.stream.proofs.Orderly as order
-use Rattle.session.proofs.Sound as facts
 use Rattle.stream.proofs.Orderly.{InOrder}
-use Rattle.session.proofs.Sound.{Sound, sound-of, of-sound, Used, used-bounded}
+use Rattle.session.proofs.Sound.{Sound, sound-of, Used}
 
 module _ (s : Session) where
   -- what a sound session rules out, a session that is not sound may be

@@ -1,11 +1,11 @@
 -- What an effect rests on: the grounds of its verdict, which some call of the sound session comes to. Its stream is one of the eight, and its numbers are small.
 use borrow.Author.Tests.{not-true, not-false}
 use mathlib.Core.Bool.{true, false, not}
-use mathlib.Core.Path.{_≡_, refl, sym, ap, subst, _∙_}
-use Prim.Native.Nat.{ℕ, _+_, _≤_, _<_}
+use mathlib.Core.Path.{_≡_, sym, ap, subst, _∙_}
+use Prim.Native.Nat.{ℕ, _≤_, _<_}
 use native.Mathlib.Omega.{arith}
 use Rattle.table.specs.Fold.{if}
-use Rattle.time.specs.Time.{session-end, moment}
+use Rattle.time.specs.Time.{session-end}
 use Rattle.stream.proofs.Fits.{charge-within, expired-within}
 use Rattle.session.specs.Session.{streamAt, horizon, sound}
 use Rattle.session.specs.Calls.{Verdict, append, send, expire, finish}
@@ -13,7 +13,7 @@ use Rattle.session.specs.Inner.{judgedOf, Ahead, Due}
 use Rattle.session.specs.declared.Session.{Session}
 use Rattle.session.specs.declared.soundness.Judged.{Judged}
 use Rattle.table.proofs.Loops.{below-eight}
-use Rattle.session.proofs.Sound.{Sound, sound-of, count-high, bounded}
+use Rattle.session.proofs.Sound.{sound-of, count-high, bounded}
 use Rattle.session.proofs.Grounds.{Grounds, verdict-grounds}
 use Rattle.session.proofs.Answers.{sendable}
 

@@ -2,11 +2,9 @@
 use mathlib.Core.Bool.{Bool, true, false, _&&_, false≢true}
 use mathlib.Core.Path.{_≡_, refl, sym, subst, _∙_}
 use mathlib.Core.Logic.{_⊎_, inl, inr, ⊎-elim}
-use Prim.Native.Nat.{ℕ, _+_, _-_, _*_, _≤_, _<_}
+use Prim.Native.Nat.{ℕ, _+_, _-_, _≤_, _<_}
 use native.Mathlib.Numerals.{add-one}
 use native.Mathlib.Omega.{arith}
-use mir.Syntax.{w64}
-use mir.Val.{Fits}
 use lib.Dec.{leb, ltb, eqb}
 use lib.ListN.{length}
 use borrow.Author.Tests.{leb-true, ltb-true, ltb-false, le-leb, eq-eqb, ne-eqb}
@@ -21,31 +19,11 @@ use Rattle.session.specs.Session.{streamAt, horizon, tableOf, soundDisk,
 use Rattle.session.specs.Inner.{judgedOf}
 use Rattle.stream.specs.Search.{begun, withSound, counted, Countable, loadSo, says, Judgeable}
 use Rattle.time.specs.declared.Clock.{Clock}
-use Rattle.stream.specs.declared.Stream.{Stream}
 use Rattle.stream.specs.declared.census.Census.{Census}
 use Rattle.session.specs.declared.Session.{Session}
-use Rattle.session.specs.declared.soundness.Judged.{Judged}
-use Rattle.session.proofs.Sound.{Sound, sound-of, of-sound, Used, used as used-of, used-bounded, admits}
+use Rattle.session.proofs.Sound.{Sound, sound-of, of-sound, Used, used as used-of, used-bounded}
 use Rattle.session.proofs.Grounds.{served-in}
 use Rattle.session.proofs.Counted.{CountedTo, not-sound, counted-none, counted-more, countable, horizon-is, judgeable, says-used, used-says}
-
--- an index of the eight streams, or of a queue, multiplied by the size of what it stands for, fits 64 bits
-pub offset-fits : (i : ℕ) → i < 8 → Fits w64 (i * 216)
-offset-fits i l = omega (arith, l)
-
-pub place-fits : (j : ℕ) → j < 16 → Fits w64 (j * 8)
-place-fits j l = omega (arith, l)
-
-pub first-in : 0 < 8
-first-in = omega arith
-
--- and so does the worst case of a sound session
-pub worst-fits : (s : Session) → sound s ≡ true → Fits w64 (s .worst)
-worst-fits s ok = omega (arith, admits s (sound-of s ok) .numbers .worst-high)
-
--- a number that is not its bound is below it
-pub below-bound : (n m : ℕ) → n ≤ m → (n ≡ m → ⊥) → n < m
-below-bound n m le other = omega (arith, le, other)
 
 -- a stream at the disk is a used one
 served-high : (s : Session) → Sound s → s .served ≤ s .count

@@ -2,6 +2,7 @@ pub mod Rules
 pub mod Worked
 pub mod Picks
 pub mod Sound
+pub mod Offsets
 pub mod Counted
 pub mod Judging
 pub mod Remainders

@@ -1,11 +1,11 @@
 -- A sound session, test by test: what each test says, and that these facts make it sound.
-use mathlib.Core.Bool.{Bool, true, false, _&&_, _||_, and-false, false≢true}
+use mathlib.Core.Bool.{Bool, true, false, _||_, and-false, false≢true}
 use mathlib.Core.Path.{_≡_, refl}
 use mathlib.Core.Logic.{⊎-elim}
 use Prim.Native.Nat.{ℕ, _≤_, _<_}
 use native.Mathlib.Omega.{arith}
 use lib.ListN.{length, List·getD-map}
-use lib.Dec.{leb, ltb, eqb}
+use lib.Dec.{ltb, eqb}
 use borrow.Author.Tests.{leb-true, eqb-true, le-leb, lt-ltb, le-ltb, eq-eqb}
 use Rattle.table.specs.Admission.{grantedOf, admissionOf}
 use Rattle.table.proofs.Tests.{both, le-or-lt}
@@ -35,14 +35,6 @@ unfolding soundRest
 rest-of s t =
     let rest = both _ _ t in
     (eqb-true _ _ (rest .0), λ i past l. used-or-zero _ _ (all-at _ 8 (rest .1) i l) (le-ltb i (s .count) past))
-
-pub rest-in : (s : Session) → sound s ≡ true → soundRest (s .streams) (s .count) ≡ true
-unfolding sound
-rest-in s t =
-    let used = eqb (admissionOf (tableOf s)) 0 && usedStreams s in
-    let rest = soundRest (s .streams) (s .count) in
-    let in-time = leb (s .clock .0) session-end in
-    both used rest (both (used && rest) in-time (both (used && rest && in-time) (soundDisk s) t .0) .0) .1
 
 pub sound-of : (s : Session) → sound s ≡ true → Sound s
 unfolding sound usedStreams

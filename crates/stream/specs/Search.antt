@@ -1,7 +1,6 @@
 -- What the code's searches keep of the streams passed so far. No rule stands here: a reader of the rules may pass this file over.
 use mathlib.Core.Bool.{Bool, true, false, not, _&&_, _||_}
 use mathlib.Core.List.{List}
-use mathlib.Core.Path.{_≡_}
 use Prim.Native.Nat.{ℕ, _+_, _*_, _/_, _≤_, _<_, min, max}
 use lib.ListN.{getD, replicate}
 use lib.Dec.{leb, ltb, eqb}

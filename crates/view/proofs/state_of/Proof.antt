@@ -1,6 +1,6 @@
 -- `state_of` shows a stream of a sound session, or refuses by 31 and 8: each way out rewrites the tests that led there.
 use mathlib.Core.Bool.{true}
-use mathlib.Core.Path.{_≡_, sym, _∙_}
+use mathlib.Core.Path.{_≡_}
 use Prim.Native.Nat.{_-_, _≤_, _<_}
 use native.Mathlib.Omega.{arith}
 use borrow.Author.Needs.{needs}

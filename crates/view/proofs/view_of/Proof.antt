@@ -1,6 +1,5 @@
 -- `view_of` shows the clock and what lies ahead of a sound session, or 31.
-use mathlib.Core.Bool.{true, false}
-use mathlib.Core.Path.{_≡_, sym, ap, _∙_}
+use mathlib.Core.Path.{sym, ap, _∙_}
 use borrow.Author.Tests.{not-true, not-false}
 use Rattle.table.specs.Fold.{if}
 use Rattle.session.specs.Session.{sound}

@@ -1,7 +1,7 @@
 -- `Session::append` stores the stream with one request more.
 use Rattle.session.proofs.Outcomes.{appends}
 use Rattle.session.proofs.Dues.{can-append}
-use Rattle.session.proofs.Judging.{offset-fits}
+use Rattle.session.proofs.Offsets.{offset-fits}
 use Rattle.table.proofs.Loops.{next-fits}
 use Rattle.session.proofs.Session.append.Statement.{statement}
 use Rattle.session.proofs.Session.append.Tie as tie

@@ -8,7 +8,7 @@ use Rattle.calls.specs.declared.Call.{Call}
 use Rattle.session.proofs.Answers.{answers, unsound-verdict, arrival-nowhere, arrival-full, arrival-joins}
 use Rattle.session.proofs.Grounds.{named}
 use Rattle.session.proofs.Dues.{by-31, past-31, inside}
-use Rattle.session.proofs.Judging.{offset-fits}
+use Rattle.session.proofs.Offsets.{offset-fits}
 use Rattle.session.proofs.Session.arrival.Statement.{statement}
 use Rattle.session.proofs.Session.arrival.Tie as tie
 

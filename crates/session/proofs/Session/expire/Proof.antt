@@ -1,7 +1,7 @@
 -- `Session::expire` stores the stream with one slot less.
 use Rattle.session.proofs.Outcomes.{expires}
 use Rattle.session.proofs.Dues.{can-expire}
-use Rattle.session.proofs.Judging.{offset-fits}
+use Rattle.session.proofs.Offsets.{offset-fits}
 use Rattle.table.proofs.Loops.{next-fits}
 use Rattle.session.proofs.Session.expire.Statement.{statement}
 use Rattle.session.proofs.Session.expire.Tie as tie

@@ -1,7 +1,7 @@
 -- `Session::finish` charges the stream that was served, and frees the disk.
 use Rattle.session.proofs.Outcomes.{finishes-overlong, finishes}
 use Rattle.session.proofs.Dues.{can-finish}
-use Rattle.session.proofs.Judging.{offset-fits, worst-fits}
+use Rattle.session.proofs.Offsets.{offset-fits, worst-fits}
 use Rattle.table.proofs.Loops.{next-fits}
 use Rattle.session.proofs.Session.finish.Statement.{statement}
 use Rattle.session.proofs.Session.finish.Tie as tie

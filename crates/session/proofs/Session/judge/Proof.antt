@@ -10,7 +10,8 @@ use lib.ListN.{length, length-map}
 use Rattle.table.proofs.Loops.{next-fits, fewer}
 use Rattle.stream.specs.declared.census.Census.{Census}
 use Rattle.stream.proofs.Stream as Cells
-use Rattle.session.proofs.Judging.{offset-fits, first-in, Judging, judging-none, below, can-count, judging-used, judging-unused, Looked, can-say, tests, refused, Passed, horizon-found, idle-decides, at-disk, can-have, busy-decides, judged-is}
+use Rattle.session.proofs.Offsets.{offset-fits, first-in}
+use Rattle.session.proofs.Judging.{Judging, judging-none, below, can-count, judging-used, judging-unused, Looked, can-say, tests, refused, Passed, horizon-found, idle-decides, at-disk, can-have, busy-decides, judged-is}
 use Rattle.session.proofs.Session.judge.Statement.{statement}
 use Rattle.session.proofs.Session.judge.Tie as tie
 

@@ -2,7 +2,7 @@
 use mathlib.Core.Path.{_≡_, ap, _∙_}
 use Prim.Native.Nat.{_≤_, _-_}
 use Rattle.table.proofs.Loops.{next-fits, fewer, none-passed, one-passed, all-passed}
-use Rattle.session.proofs.Judging.{offset-fits}
+use Rattle.session.proofs.Offsets.{offset-fits}
 use Rattle.session.proofs.Dues.{inside}
 use Rattle.session.proofs.Summing.{sumsTo, sums-none, sums-more, can-sum, can-end, until-is}
 use Rattle.session.proofs.Session.latest.Statement.{statement}

@@ -2,7 +2,7 @@
 use mathlib.Core.Path.{_≡_, refl, subst}
 use Prim.Native.Nat.{_≤_, _<_, _-_}
 use Rattle.table.proofs.Loops.{next-fits, fewer, none-passed, one-passed}
-use Rattle.session.proofs.Judging.{offset-fits, first-in}
+use Rattle.session.proofs.Offsets.{offset-fits, first-in}
 use Rattle.session.proofs.Sound.{Sound, sound-of, deadline-high}
 use Rattle.session.proofs.Closings.{Moving, moving-none, moving-in, can-move, passed, moving-more, moving-all}
 use Rattle.session.proofs.Session.move_on.Statement.{statement}

@@ -1,5 +1,4 @@
 -- `Session::outlook` shows the horizon that was judged and the latest safe moment, or zeros.
-use mathlib.Core.Path.{_≡_}
 use Rattle.table.specs.Fold.{if}
 use Rattle.session.specs.Inner.{Ahead}
 use Rattle.session.proofs.Dues.{by-31, past-31}

@@ -13,7 +13,7 @@ use Rattle.session.proofs.Answers.{answers, unsound-verdict, own-busy, 
 use Rattle.session.proofs.Grounds.{named}
 use Rattle.session.proofs.Sound.{sound-of, bounded-by}
 use Rattle.session.proofs.Dues.{by-31, past-31, inside}
-use Rattle.session.proofs.Judging.{offset-fits}
+use Rattle.session.proofs.Offsets.{offset-fits}
 use Rattle.session.proofs.Session.own_turn.Statement.{statement}
 use Rattle.session.proofs.Session.own_turn.Tie as tie
 

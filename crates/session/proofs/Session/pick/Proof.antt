@@ -2,7 +2,7 @@
 use mathlib.Core.Path.{refl}
 use Prim.Native.Nat.{_≤_, _-_}
 use Rattle.table.proofs.Loops.{next-fits, fewer, none-passed, one-passed}
-use Rattle.session.proofs.Judging.{offset-fits}
+use Rattle.session.proofs.Offsets.{offset-fits}
 use Rattle.session.proofs.Dues.{inside}
 use Rattle.session.proofs.Sound.{sound-of, bounded-by}
 use Rattle.session.proofs.Picks.{Picked, picked-none, picked-more, picked-all}

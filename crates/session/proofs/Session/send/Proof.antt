@@ -1,7 +1,7 @@
 -- `Session::send` takes a request out of its queue and stores it as the one at the disk.
 use Rattle.session.proofs.Outcomes.{sends}
 use Rattle.session.proofs.Dues.{can-send}
-use Rattle.session.proofs.Judging.{offset-fits, place-fits}
+use Rattle.session.proofs.Offsets.{offset-fits, place-fits}
 use Rattle.table.proofs.Loops.{next-fits}
 use Rattle.session.proofs.Session.send.Statement.{statement}
 use Rattle.session.proofs.Session.send.Tie as tie

@@ -1,7 +1,7 @@
 -- `Session::survey` passes over the streams once: what it has found is that of the streams passed.
 use Prim.Native.Nat.{_<_, _-_}
 use Rattle.table.proofs.Loops.{next-fits, fewer}
-use Rattle.session.proofs.Judging.{offset-fits}
+use Rattle.session.proofs.Offsets.{offset-fits}
 use Rattle.session.proofs.Summing.{can-sum, can-end, until-is}
 use Rattle.session.proofs.Surveys.{Surveyed, surveyed-none, best-in, next-in, can-compare, can-close, surveyed-more, surveyed-whole, surveyed-all}
 use Rattle.session.proofs.Session.survey.Statement.{statement}

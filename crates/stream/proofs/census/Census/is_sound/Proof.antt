@@ -1,20 +1,12 @@
 -- `Census::is_sound` tests the load, whose sums are small where all streams are in order, and the releases.
-use mathlib.Core.Bool.{Bool, true, false, _&&_, false≢true}
-use mathlib.Core.Path.{_≡_, refl, sym, _∙_}
-use Prim.Native.Nat.{ℕ, zero, suc, _+_, _≤_, _*_, _/_}
+use mathlib.Core.Bool.{true, false}
+use mathlib.Core.Path.{_≡_}
+use Prim.Native.Nat.{_≤_, _*_, _/_}
 use native.Mathlib.Nat.{div-le-self, mul-le-mul}
 use native.Mathlib.Omega.{arith}
-use lib.Dec.{leb, eqb}
-use borrow.Author.Tests.{leb-true, le-leb, eq-eqb, ne-eqb, not-true, not-false}
+use borrow.Author.Tests.{not-true, not-false}
 use borrow.Author.Needs.{needs}
-use Rattle.table.specs.Fold.{if}
-use Rattle.table.proofs.Tests.{both}
-use Rattle.time.specs.Time.{session-end}
-use Rattle.stream.specs.Stream.{slots}
-use Rattle.stream.specs.Search.{loadSo, says}
-use Rattle.time.specs.declared.Clock.{Clock}
-use Rattle.stream.specs.declared.Stream.{Stream}
-use Rattle.stream.specs.declared.census.Census.{Census}
+use Rattle.stream.specs.Search.{says}
 use Rattle.stream.proofs.census.Census.is_sound.Statement.{statement}
 use Rattle.stream.proofs.census.Census.is_sound.Tie as tie
 

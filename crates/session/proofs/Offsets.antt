@@ -1,0 +1,22 @@
+-- Numbers of the code that fit 64 bits: an index of the eight streams or of a queue, times the size of what it stands for, and the worst-case time.
+use mathlib.Core.Bool.{true}
+use mathlib.Core.Path.{_≡_}
+use Prim.Native.Nat.{ℕ, _*_, _<_}
+use native.Mathlib.Omega.{arith}
+use mir.Syntax.{w64}
+use mir.Val.{Fits}
+use Rattle.session.specs.Session.{sound}
+use Rattle.session.specs.declared.Session.{Session}
+use Rattle.session.proofs.Sound.{sound-of, admits}
+
+pub offset-fits : (i : ℕ) → i < 8 → Fits w64 (i * 216)
+offset-fits i l = omega (arith, l)
+
+pub place-fits : (j : ℕ) → j < 16 → Fits w64 (j * 8)
+place-fits j l = omega (arith, l)
+
+pub first-in : 0 < 8
+first-in = omega arith
+
+pub worst-fits : (s : Session) → sound s ≡ true → Fits w64 (s .worst)
+worst-fits s ok = omega (arith, admits s (sound-of s ok) .numbers .worst-high)

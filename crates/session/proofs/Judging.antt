@@ -143,8 +143,12 @@ module _ (s : Session) where
     pub can-say : c .sound ≡ true → Judgeable c
     can-say fine = judgeable s c (counted-all fine) fine
 
+    -- the tests of the streams, of the clock and of the number at the disk
+    abbrev pub tested : Bool → Bool → Bool
+    tested streams in-time = streams && in-time && leb (s .served) (s .count)
+
     abbrev pub tests : Bool
-    tests = says c && leb (s .clock .0) session-end && leb (s .served) (s .count)
+    tests = tested (says c) (leb (s .clock .0) session-end)
 
     -- a sound session passes
     needed : Sound s → tests ≡ true

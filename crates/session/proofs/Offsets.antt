@@ -1,16 +1,19 @@
--- Numbers of the code that fit 64 bits: an index of the eight streams or of a queue, times the size of what it stands for, and the worst-case time.
+-- Numbers of the code that fit 64 bits: an index of the eight streams or of a queue, times the size of what it stands for, and the worst-case time. A size is small by computing.
 use mathlib.Core.Bool.{true}
 use mathlib.Core.Path.{_≡_}
-use Prim.Native.Nat.{ℕ, _*_, _<_}
+use Prim.Native.Nat.{ℕ, _*_, _≤_, _<_}
+use native.Mathlib.Nat.{mul-le-mul}
 use native.Mathlib.Omega.{arith}
+use lib.Dec.{leb}
+use borrow.Author.Tests.{leb-true}
 use mir.Syntax.{w64}
 use mir.Val.{Fits}
 use Rattle.session.specs.Session.{sound}
 use Rattle.session.specs.declared.Session.{Session}
 use Rattle.session.proofs.Sound.{sound-of, admits}
 
-pub offset-fits : (i : ℕ) → i < 8 → Fits w64 (i * 216)
-offset-fits i l = omega (arith, l)
+pub offset-fits : (i size : ℕ) → i < 8 → leb size 65_536 ≡ true → Fits w64 (i * size)
+offset-fits i size l small = let below : i ≤ 7 = omega (arith, l) in omega (arith, mul-le-mul below (leb-true size 65_536 small))
 
 pub place-fits : (j : ℕ) → j < 16 → Fits w64 (j * 8)
 place-fits j l = omega (arith, l)

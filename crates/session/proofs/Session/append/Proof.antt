@@ -1,4 +1,5 @@
 -- `Session::append` stores the stream with one request more.
+use mathlib.Core.Path.{refl}
 use Rattle.session.proofs.Outcomes.{appends}
 use Rattle.session.proofs.Dues.{can-append}
 use Rattle.session.proofs.Offsets.{offset-fits}
@@ -7,7 +8,7 @@ use Rattle.session.proofs.Session.append.Statement.{statement}
 use Rattle.session.proofs.Session.append.Tie as tie
 
 mul-x : tie.Need-mul-x
-mul-x c = offset-fits _ (can-append (c .pre) .0)
+mul-x c = offset-fits _ _ (can-append (c .pre) .0) refl
 
 element-copy-out-x : tie.Need-element-copy-out-x
 element-copy-out-x c = can-append (c .pre) .0
@@ -16,7 +17,7 @@ arrived-requires : tie.Need-arrived-requires
 arrived-requires c κs = can-append (c .before .pre) .1
 
 mul-y : tie.Need-mul-y
-mul-y c = offset-fits _ (can-append (c .before .before .pre) .0)
+mul-y c = offset-fits _ _ (can-append (c .before .before .pre) .0) refl
 
 element-set-from-y : tie.Need-element-set-from-y
 element-set-from-y c = can-append (c .before .before .pre) .0

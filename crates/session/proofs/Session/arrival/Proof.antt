@@ -1,6 +1,6 @@
 -- `Session::arrival` refuses by 31, 8 and 9 and puts the request into the queue: each way out cites its verdict.
 use mathlib.Core.Bool.{true, false}
-use mathlib.Core.Path.{_≡_}
+use mathlib.Core.Path.{_≡_, refl}
 use Prim.Native.Nat.{_≤_, _<_, _-_}
 use Rattle.session.specs.Session.{sound}
 use Rattle.session.specs.Calls.{append, noSuchStream, verdict}
@@ -44,7 +44,7 @@ sub-n : tie.Need-sub-n
 sub-n c = here c .0
 
 mul-x : tie.Need-mul-x
-mul-x c = offset-fits _ (inside _ (ok (c .before)) _ (here c .1))
+mul-x c = offset-fits _ _ (inside _ (ok (c .before)) _ (here c .1)) refl
 
 element-copy-out-x : tie.Need-element-copy-out-x
 element-copy-out-x c = inside _ (ok (c .before)) _ (here c .1)

@@ -1,4 +1,5 @@
 -- `Session::finish` charges the stream that was served, and frees the disk.
+use mathlib.Core.Path.{refl}
 use Rattle.session.proofs.Outcomes.{finishes-overlong, finishes}
 use Rattle.session.proofs.Dues.{can-finish}
 use Rattle.session.proofs.Offsets.{offset-fits, worst-fits}
@@ -16,7 +17,7 @@ after-requires : tie.Need-after-requires
 after-requires c κs = let x = can-finish (c .before .before .pre) in (x .2, rw (c .before .of .ensures) (x .3))
 
 mul-x : tie.Need-mul-x
-mul-x c = offset-fits _ (can-finish (c .before .before .before .pre) .0)
+mul-x c = offset-fits _ _ (can-finish (c .before .before .before .pre) .0) refl
 
 element-copy-out-x : tie.Need-element-copy-out-x
 element-copy-out-x c = can-finish (c .before .before .before .pre) .0
@@ -25,7 +26,7 @@ charged-requires : tie.Need-charged-requires
 charged-requires c κs = let x = can-finish (c .before .before .before .before .pre) in (x .1, rw (c .before .before .before .of .ensures) (x .3))
 
 mul-y : tie.Need-mul-y
-mul-y c = offset-fits _ (can-finish (c .before .before .before .before .before .before .pre) .0)
+mul-y c = offset-fits _ _ (can-finish (c .before .before .before .before .before .before .pre) .0) refl
 
 element-set-from-y : tie.Need-element-set-from-y
 element-set-from-y c = can-finish (c .before .before .before .before .before .before .pre) .0

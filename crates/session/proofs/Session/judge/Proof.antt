@@ -1,17 +1,16 @@
 -- `Session::judge` looks at each of the eight streams, used or unused, and then at the clock and the disk: each way out cites what decides there.
 use borrow.Author.Tests.{not-true, not-false}
-use mathlib.Core.Bool.{_&&_, false≢true}
+use mathlib.Core.Bool.{false≢true}
 use mathlib.Core.Logic.{⊎-elim}
-use mathlib.Core.Path.{_≡_, sym, subst⁻¹, _∙_}
+use mathlib.Core.Path.{_≡_, refl, sym, subst⁻¹, _∙_}
 use Prim.Native.Nat.{_+_, _-_}
 use native.Mathlib.Omega.{arith}
-use lib.Dec.{leb}
 use lib.ListN.{length, length-map}
 use Rattle.table.proofs.Loops.{next-fits, fewer}
 use Rattle.stream.specs.declared.census.Census.{Census}
 use Rattle.stream.proofs.Stream as Cells
 use Rattle.session.proofs.Offsets.{offset-fits, first-in}
-use Rattle.session.proofs.Judging.{Judging, judging-none, below, can-count, judging-used, judging-unused, Looked, can-say, tests, refused, Passed, horizon-found, idle-decides, at-disk, can-have, busy-decides, judged-is}
+use Rattle.session.proofs.Judging.{Judging, judging-none, below, can-count, judging-used, judging-unused, Looked, can-say, tested, tests, refused, Passed, horizon-found, idle-decides, at-disk, can-have, busy-decides, judged-is}
 use Rattle.session.proofs.Session.judge.Statement.{statement}
 use Rattle.session.proofs.Session.judge.Tie as tie
 
@@ -35,7 +34,7 @@ loop-holds c =
     judging-none s _ (c .begin .ensures) eight
 
 mul-used : tie.Need-mul-used Inv-loop μ-loop
-mul-used c = offset-fits _ (below _ _ _ (c .before .before .before .loop .inv) (c .before .if1 .taken))
+mul-used c = offset-fits _ _ (below _ _ _ (c .before .before .before .loop .inv) (c .before .if1 .taken)) refl
 
 element-copy-out-used : tie.Need-element-copy-out-used Inv-loop μ-loop
 element-copy-out-used c = below _ _ _ (c .before .before .before .loop .inv) (c .before .if1 .taken)
@@ -44,7 +43,7 @@ with-requires : tie.Need-with-requires Inv-loop μ-loop
 with-requires c κs = let at = c .before .before in can-count _ _ _ (at .before .before .loop .inv) (at .if1 .taken) (c .before .if2 .taken)
 
 mul-unused : tie.Need-mul-unused Inv-loop μ-loop
-mul-unused c = offset-fits _ (below _ _ _ (c .before .before .before .loop .inv) (c .before .if1 .taken))
+mul-unused c = offset-fits _ _ (below _ _ _ (c .before .before .before .loop .inv) (c .before .if1 .taken)) refl
 
 element-copy-out-unused : tie.Need-element-copy-out-unused Inv-loop μ-loop
 element-copy-out-unused c = below _ _ _ (c .before .before .before .loop .inv) (c .before .if1 .taken)
@@ -84,22 +83,20 @@ is-sound-requires c κs = can-say _ _ _ (looked (c .before .before .before .befo
 judgement-requires : tie.Need-judgement-requires Inv-loop μ-loop
 judgement-requires c κs = tt
 
--- the tests of the streams, of the clock and of the number at the disk
-tested : (c : tie.After-is-sound Inv-loop μ-loop) → let here = c .before .before .before .before .before in
-    let s = here .before .before .before .before .before .args .t1 in
-    (c .is-sound .result && c .before .is-by .result && leb (s .served) (s .count)) ≡ tests _ _ _ (looked here)
-tested c = rw (c .is-sound .ensures, c .before .is-by .ensures, c .before .before .at .ensures)
+tests-are : (c : tie.After-is-sound Inv-loop μ-loop) → let all = looked (c .before .before .before .before .before) in
+    tested _ _ _ all (c .is-sound .result) (c .before .is-by .result) ≡ tests _ _ _ all
+tests-are c = rw (c .is-sound .ensures, c .before .is-by .ensures, c .before .before .at .ensures)
 
 returns : tie.Need-returns Inv-loop μ-loop
 returns c =
     let at = c .before .before in
     c .judgement .ensures
-    ∙ judged-is _ _ _ (sym (refused _ _ _ (looked (at .before .before .before .before .before)) (sym (tested at) ∙ not-true _ (c .before .if3 .taken))), λ t. absurd (false≢true t))
+    ∙ judged-is _ _ _ (sym (refused _ _ _ (looked (at .before .before .before .before .before)) (sym (tests-are at) ∙ not-true _ (c .before .if3 .taken))), λ t. absurd (false≢true t))
 
 -- past them the disk decides
 passed : (c : tie.Else3 Inv-loop μ-loop) → let at = c .before .before .before .before .before .before .before .before .loop in
     Passed (c .before .before .before .before .before .before .before .before .before .before .before .args .t1) (at .census) (at .i)
-passed c = record { looked = looked (c .before .before .before .before .before .before); passes = sym (tested (c .before)) ∙ not-false _ (c .if3 .left) }
+passed c = record { looked = looked (c .before .before .before .before .before .before); passes = sym (tests-are (c .before)) ∙ not-false _ (c .if3 .left) }
 
 judgement-requires-2 : tie.Need-judgement-requires-2 Inv-loop μ-loop
 judgement-requires-2 c κs = tt
@@ -114,7 +111,7 @@ sub-n : tie.Need-sub-n Inv-loop μ-loop
 sub-n c = omega (arith, c .if4 .left)
 
 mul-x : tie.Need-mul-x Inv-loop μ-loop
-mul-x c = offset-fits _ (at-disk _ _ _ (passed (c .before)) (c .if4 .left))
+mul-x c = offset-fits _ _ (at-disk _ _ _ (passed (c .before)) (c .if4 .left)) refl
 
 element-copy-out-x : tie.Need-element-copy-out-x Inv-loop μ-loop
 element-copy-out-x c = at-disk _ _ _ (passed (c .before)) (c .if4 .left)

@@ -1,5 +1,5 @@
 -- `Session::latest` gives the latest safe moment: its sums are those of the streams passed.
-use mathlib.Core.Path.{_≡_, ap, _∙_}
+use mathlib.Core.Path.{_≡_, refl, ap, _∙_}
 use Prim.Native.Nat.{_≤_, _-_}
 use Rattle.table.proofs.Loops.{next-fits, fewer, none-passed, one-passed, all-passed}
 use Rattle.session.proofs.Offsets.{offset-fits}
@@ -21,7 +21,7 @@ loop-holds : tie.Need-loop-holds Inv-loop μ-loop
 loop-holds c = (none-passed _, sums-none _ _ (c .of .ensures))
 
 mul-x : tie.Need-mul-x Inv-loop μ-loop
-mul-x c = offset-fits _ (inside _ (c .before .before .before .pre .ok) _ (c .loop-test .taken))
+mul-x c = offset-fits _ _ (inside _ (c .before .before .before .pre .ok) _ (c .loop-test .taken)) refl
 
 element-copy-out-x : tie.Need-element-copy-out-x Inv-loop μ-loop
 element-copy-out-x c = inside _ (c .before .before .before .pre .ok) _ (c .loop-test .taken)

@@ -32,7 +32,7 @@ within : (c : tie.In-loop Inv-loop μ-loop) → c .before .loop .i < 8
 within c = let at = c .before .loop in moving-in _ (at .inv .2 .0) (at .self) (at .next) (at .i) (at .inv .2 .1) (c .loop-test .taken)
 
 mul-x : tie.Need-mul-x Inv-loop μ-loop
-mul-x c = offset-fits _ (within c)
+mul-x c = offset-fits _ _ (within c) refl
 
 element-copy-out-x : tie.Need-element-copy-out-x Inv-loop μ-loop
 element-copy-out-x c = within c
@@ -41,7 +41,7 @@ moved-requires-2 : tie.Need-moved-requires-2 Inv-loop μ-loop
 moved-requires-2 c κs = let at = c .before .before .loop in can-move _ (at .inv .2 .0) (at .self) (at .next) (at .i) (at .inv .2 .1) (within (c .before))
 
 mul-y : tie.Need-mul-y Inv-loop μ-loop
-mul-y c = offset-fits _ (within (c .before .before))
+mul-y c = offset-fits _ _ (within (c .before .before)) refl
 
 element-set-from-y : tie.Need-element-set-from-y Inv-loop μ-loop
 element-set-from-y c = within (c .before .before)

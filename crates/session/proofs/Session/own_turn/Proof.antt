@@ -1,6 +1,6 @@
 -- `Session::own_turn` refuses by 31, 10, 8 and 15 and sends the request that was chosen: each way out cites its verdict.
 use mathlib.Core.Bool.{true, false}
-use mathlib.Core.Path.{_≡_, ap, _∙_}
+use mathlib.Core.Path.{_≡_, refl, ap, _∙_}
 use Prim.Native.Nat.{_≤_, _<_, _-_}
 use native.Mathlib.Omega.{arith}
 use Rattle.time.specs.Time.{moment}
@@ -58,7 +58,7 @@ sub-n : tie.Need-sub-n
 sub-n c = here c .0
 
 mul-x : tie.Need-mul-x
-mul-x c = offset-fits _ (inside _ (ok (c .before .before)) _ (here c .1))
+mul-x c = offset-fits _ _ (inside _ (ok (c .before .before)) _ (here c .1)) refl
 
 element-copy-out-x : tie.Need-element-copy-out-x
 element-copy-out-x c = inside _ (ok (c .before .before)) _ (here c .1)

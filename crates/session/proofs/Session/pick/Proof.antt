@@ -22,7 +22,7 @@ loop-holds : tie.Need-loop-holds Inv-loop μ-loop
 loop-holds c = (none-passed _, picked-none _ _ refl refl)
 
 mul-x : tie.Need-mul-x Inv-loop μ-loop
-mul-x c = offset-fits _ (inside _ (c .before .before .before .pre .ok) _ (c .loop-test .taken))
+mul-x c = offset-fits _ _ (inside _ (c .before .before .before .pre .ok) _ (c .loop-test .taken)) refl
 
 element-copy-out-x : tie.Need-element-copy-out-x Inv-loop μ-loop
 element-copy-out-x c = inside _ (c .before .before .before .pre .ok) _ (c .loop-test .taken)

@@ -1,4 +1,5 @@
 -- `Session::send` takes a request out of its queue and stores it as the one at the disk.
+use mathlib.Core.Path.{refl}
 use Rattle.session.proofs.Outcomes.{sends}
 use Rattle.session.proofs.Dues.{can-send}
 use Rattle.session.proofs.Offsets.{offset-fits, place-fits}
@@ -7,7 +8,7 @@ use Rattle.session.proofs.Session.send.Statement.{statement}
 use Rattle.session.proofs.Session.send.Tie as tie
 
 mul-x : tie.Need-mul-x
-mul-x c = offset-fits _ (can-send (c .pre) .0)
+mul-x c = offset-fits _ _ (can-send (c .pre) .0) refl
 
 element-copy-out-x : tie.Need-element-copy-out-x
 element-copy-out-x c = can-send (c .pre) .0
@@ -22,7 +23,7 @@ without-requires : tie.Need-without-requires
 without-requires c κs = let x = can-send (c .before .before .pre) in (x .1, x .2)
 
 mul-y : tie.Need-mul-y
-mul-y c = offset-fits _ (can-send (c .before .before .before .pre) .0)
+mul-y c = offset-fits _ _ (can-send (c .before .before .before .pre) .0) refl
 
 element-set-from-y : tie.Need-element-set-from-y
 element-set-from-y c = can-send (c .before .before .before .pre) .0

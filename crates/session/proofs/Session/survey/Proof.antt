@@ -1,4 +1,5 @@
 -- `Session::survey` passes over the streams once: what it has found is that of the streams passed.
+use mathlib.Core.Path.{refl}
 use Prim.Native.Nat.{_<_, _-_}
 use Rattle.table.proofs.Loops.{next-fits, fewer}
 use Rattle.session.proofs.Offsets.{offset-fits}
@@ -20,7 +21,7 @@ loop-holds : tie.Need-loop-holds Inv-loop μ-loop
 loop-holds c = surveyed-none (c .before .pre) _ (c .of .ensures)
 
 mul-other : tie.Need-mul-other Inv-loop μ-loop
-mul-other c = offset-fits _ (best-in (c .before .loop .inv))
+mul-other c = offset-fits _ _ (best-in (c .before .loop .inv)) refl
 
 element-copy-out-other : tie.Need-element-copy-out-other Inv-loop μ-loop
 element-copy-out-other c = best-in (c .before .loop .inv)
@@ -30,7 +31,7 @@ x-in : (c : tie.In-loop Inv-loop μ-loop) → c .before .loop .i < 8
 x-in c = next-in (c .before .loop .inv) (c .loop-test .taken)
 
 mul-x : tie.Need-mul-x Inv-loop μ-loop
-mul-x c = offset-fits _ (x-in (c .before))
+mul-x c = offset-fits _ _ (x-in (c .before)) refl
 
 element-copy-out-x : tie.Need-element-copy-out-x Inv-loop μ-loop
 element-copy-out-x c = x-in (c .before)

@@ -12,16 +12,16 @@ use Rattle.table.specs.Fold.{if, smallestTo}
 use Rattle.table.specs.Admission.{admissionOf}
 use Rattle.table.proofs.Lists.{set-each, set-alike}
 use Rattle.time.specs.Time.{session-end, duration-max}
-use Rattle.stream.specs.Stream.{slots, withQueue, withCharge, soundQueue}
+use Rattle.stream.specs.Stream.{slots, withQueue, withCharge, soundQueue, unusedStream}
 use Rattle.session.specs.Session.{noStream, streamAt, horizon, slotsAt, tableOf, soundDisk, withStreams, withStream, withDisk}
 use Rattle.time.specs.declared.Clock.{Clock}
 use Rattle.stream.specs.declared.Stream.{Stream}
 use Rattle.session.specs.declared.Session.{Session}
-use Rattle.stream.proofs.Orderly.{Queue, queue-of, of-queue, InOrder}
+use Rattle.stream.proofs.Orderly.{Queue, queue-of, of-queue, InOrder, worked-order}
 use Rattle.session.proofs.Sound.{Sound, admits}
 
 -- the table of a session is admitted as it was, where no stream's reservation changes
-pub table-kept : (s : Session) → Sound s → (xs : List Stream)
+table-kept : (s : Session) → Sound s → (xs : List Stream)
     → map (λ (x : Stream). x .reserved) xs ≡ map (λ (x : Stream). x .reserved) (s .streams)
     → map (λ (x : Stream). x .period) xs ≡ map (λ (x : Stream). x .period) (s .streams)
     → admissionOf (tableOf (withStreams s xs)) ≡ 0
@@ -30,6 +30,25 @@ table-kept s q xs es ps = ap admissionOf same ∙ q .admitted
     same : tableOf (withStreams s xs) ≡ tableOf s
     same i =
         record { worst = s .worst; span = s .span; padding = s .padding; count = s .count; reserved = es i; period = ps i }
+
+-- so a session is sound with other streams of the same reservations, if they and the disk are in order
+pub streams-kept : (s : Session) → Sound s → (xs : List Stream)
+    → map (λ (x : Stream). x .reserved) xs ≡ map (λ (x : Stream). x .reserved) (s .streams)
+    → map (λ (x : Stream). x .period) xs ≡ map (λ (x : Stream). x .period) (s .streams)
+    → length xs ≡ length (s .streams)
+    → let next = withStreams s xs in
+    ((i : ℕ) → i < s .count → InOrder (s .worst) (s .padding) (horizon next) (streamAt next i))
+    → ((i : ℕ) → s .count ≤ i → i < 8 → unusedStream (streamAt next i) ≡ true)
+    → soundDisk next ≡ true → Sound next
+streams-kept s q xs es ps many each others disk =
+    record {
+      admitted = table-kept s q xs es ps;
+      eight = many ∙ q .eight;
+      each = each;
+      others = others;
+      clock-high = q .clock-high;
+      disk = disk;
+    }
 
 -- the disk stays in order while it is idle, whatever the streams
 pub idle-kept : (s : Session) (xs : List Stream) → Sound s → s .served ≡ 0 → soundDisk (withStreams s xs) ≡ true
@@ -57,25 +76,13 @@ module _ (s : Session) (q : Sound s) (i : ℕ) (l : i < s .count) (charge expire
       let x = q .each i l in
       let xs = s .streams in
       let here : i < length xs = omega (arith, q .eight, admits s q .numbers .count-high) in
-      let order : InOrder (s .worst) (s .padding) (horizon s) new = record {
-        budget = x .budget;
-        due = x .due;
-        released = x .released;
-        deadline-high = x .deadline-high;
-        charge-high = high;
-        expiries = low;
-        queue = queue;
-      } in
-      record {
-        admitted = table-kept s q (set xs i new) (map-set-same _ xs i new noStream refl) (map-set-same _ xs i new noStream refl);
-        eight = length-set xs i new ∙ q .eight;
-        each = λ j m.
-            subst (λ (h : ℕ). InOrder (s .worst) (s .padding) h (streamAt (withStream s i new) j)) (sym horizon-kept)
-            (set-each xs i new noStream (InOrder (s .worst) (s .padding) (horizon s)) here order j (q .each j m));
-        others = λ j past m. rw (getD-set-other xs i j new noStream (λ e. omega arith)) (q .others j past m);
-        clock-high = q .clock-high;
-        disk = disk;
-      }
+      let order = worked-order (s .worst) (s .padding) (horizon s) (streamAt s i) x charge expired queued places high low queue in
+      streams-kept s q (set xs i new) (map-set-same _ xs i new noStream refl) (map-set-same _ xs i new noStream refl) (length-set xs i new)
+      (λ j m.
+      subst (λ (h : ℕ). InOrder (s .worst) (s .padding) h (streamAt (withStream s i new) j)) (sym horizon-kept)
+      (set-each xs i new noStream (InOrder (s .worst) (s .padding) (horizon s)) here order j (q .each j m)))
+      (λ j past m. rw (getD-set-other xs i j new noStream (λ e. omega arith)) (q .others j past m))
+      disk
 
   -- where the charge stays, so do the slots of each stream
   pub slots-kept : charge ≡ streamAt s i .charge .0 → (j : ℕ) → slotsAt (withStream s i new) j ≡ slotsAt s j

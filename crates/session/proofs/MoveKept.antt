@@ -11,16 +11,16 @@ use Rattle.table.proofs.Tests.{by-if}
 use Rattle.table.proofs.Folds.{smallest-is}
 use Rattle.table.proofs.Lists.{map-alike}
 use Rattle.time.specs.Time.{session-end}
-use Rattle.stream.specs.Stream.{closed, moved, soundQueue}
+use Rattle.stream.specs.Stream.{closed, moved}
 use Rattle.session.specs.Session.{noStream, streamAt, horizon, withStreams}
 use Rattle.session.specs.Calls.{move}
 use Rattle.time.specs.declared.Clock.{Clock}
 use Rattle.stream.specs.declared.Stream.{Stream}
 use Rattle.session.specs.declared.Session.{Session}
-use Rattle.stream.proofs.Orderly.{queue-of, of-queue, InOrder}
+use Rattle.stream.proofs.Orderly.{InOrder, later-order, closed-order}
 use Rattle.session.proofs.Sound.{Sound, admits, bounded, unused-deadline}
 use Rattle.session.proofs.Grounds.{Grounds}
-use Rattle.session.proofs.Changes.{table-kept, idle-kept}
+use Rattle.session.proofs.Changes.{streams-kept, idle-kept}
 
 module _ (now : Clock) (h : ℕ) where
   -- what a stream keeps as its job closes, it keeps in a move
@@ -42,30 +42,13 @@ module _ (now : Clock) (h : ℕ) where
   -- a stream in order is in order at a later horizon, if its deadline does not pass the end
   moved-order : (worst k later : ℕ) (x : Stream) → h ≤ later → InOrder worst k h x
       → (x .deadline .0 ≡ h → x .deadline .0 + x .period ≤ session-end) → InOrder worst k later (moved now h x)
-  unfolding moved closed soundQueue
+  unfolding moved
   moved-order worst k later x le q inTime =
       by-if (InOrder worst k later) _ (closed now x) x
       (λ c.
       let due = eqb-true (x .deadline .0) h c in
-      record {
-        budget = q .budget;
-        due = refl;
-        released = omega arith;
-        deadline-high = inTime due;
-        charge-high = omega arith;
-        expiries = omega arith;
-        queue = queue-of (closed now x) (of-queue x (q .queue));
-      })
-      (λ c.
-      record {
-        budget = q .budget;
-        due = q .due;
-        released = omega (arith, q .released);
-        deadline-high = q .deadline-high;
-        charge-high = q .charge-high;
-        expiries = q .expiries;
-        queue = q .queue;
-      })
+      closed-order worst k h x q now later (omega (arith, due, le)) (inTime due))
+      (λ c. later-order worst k h x q later le)
 
 module _ (s : Session) (q : Sound s) where
   -- the horizon is a period at least
@@ -103,15 +86,11 @@ module _ (s : Session) (q : Sound s) where
       let xs = s .streams in
       let kept : (cell : Stream → ℕ) → ((x : Stream) → cell (closed (s .clock) x) ≡ cell x) → map cell (map moving xs) ≡ map cell xs =
       λ cell e. map-alike cell moving (moved-keeps (s .clock) (horizon s) cell e) xs in
-      record {
-        admitted = table-kept s q (map moving xs) (kept (λ x. x .reserved) (λ x. refl)) (kept (λ x. x .period) (λ x. refl));
-        eight = length-map xs moving ∙ q .eight;
-        each = λ i l.
-            rw (moved-at i)
-            (moved-order (s .clock) (horizon s) (s .worst) (s .padding) (horizon next) (streamAt s i) horizon-later (q .each i l) (g .inTime i l));
-        others = λ i past l.
-            let unused = q .others i past l in
-            rw (moved-at i, stays (streamAt s i) (unused-deadline (streamAt s i) unused)) unused;
-        clock-high = q .clock-high;
-        disk = idle-kept s (map moving xs) q (g .idle);
-      }
+      streams-kept s q (map moving xs) (kept (λ x. x .reserved) (λ x. refl)) (kept (λ x. x .period) (λ x. refl)) (length-map xs moving)
+      (λ i l.
+      rw (moved-at i)
+      (moved-order (s .clock) (horizon s) (s .worst) (s .padding) (horizon next) (streamAt s i) horizon-later (q .each i l) (g .inTime i l)))
+      (λ i past l.
+      let unused = q .others i past l in
+      rw (moved-at i, stays (streamAt s i) (unused-deadline (streamAt s i) unused)) unused)
+      (idle-kept s (map moving xs) q (g .idle))

@@ -4,7 +4,7 @@ use mathlib.Core.List.{List, [], _∷_, map}
 use mathlib.Core.Path.{_≡_, refl, _∙_, ap}
 use Prim.Native.Nat.{ℕ, _≤_, _<_}
 use native.Mathlib.Omega.{arith}
-use lib.ListN.{getD, getD-replicate, List·getD-map}
+use lib.ListN.{getD, List·getD-map}
 use lib.Dec.{lit<}
 use borrow.Author.Tests.{lt-ltb, le-ltb, eq-eqb}
 use Rattle.table.specs.Fold.{if, allTo}
@@ -14,7 +14,7 @@ use Rattle.table.specs.declared.Table.{Table}
 use Rattle.table.proofs.Tests.{by-if}
 use Rattle.table.proofs.Lists.{length-listTo, getD-listTo}
 use Rattle.table.proofs.Judged.{Admits, admits-of, admits-alike}
-use Rattle.stream.specs.Stream.{queue-max, soundQueue, unusedStream, zeroJob, freshStream}
+use Rattle.stream.specs.Stream.{soundQueue, unusedStream, zeroJob, freshStream}
 use Rattle.session.specs.Session.{noStream, streamAt, horizon, tableOf, soundDisk, sound}
 use Rattle.calls.specs.Replies.{numberOf}
 use Rattle.session.specs.Calls.{Verdict, refuse, append, send, move, wait, expire, finish, set-clock, verdict, replyTo, answerTo, after}
@@ -25,7 +25,7 @@ use Rattle.session.specs.declared.Session.{Session}
 use Rattle.calls.specs.declared.Call.{Call}
 use Rattle.calls.specs.declared.Reply.{Reply}
 use Rattle.session.proofs.Rules.{rules}
-use Rattle.stream.proofs.Orderly.{InOrder}
+use Rattle.stream.proofs.Orderly.{InOrder, fresh-order}
 use Rattle.session.proofs.Sound.{Sound, sound-of, of-sound}
 use Rattle.session.proofs.Grounds.{Grounds, verdict-grounds}
 use Rattle.session.proofs.Keeps.{calls-keep-sound}
@@ -46,23 +46,9 @@ module _ (t : Table) (admitted : admissionOf t ≡ 0) where
   fresh-at i l = opened-at i (omega (arith, judged .numbers .count-high)) ∙ rw (lt-ltb i (t .count) l)
 
   -- and are in order
-  fresh-order : (h i : ℕ) → i < t .count → InOrder (t .worst) (t .padding) h (streamAt (freshSession t) i)
-  unfolding freshStream
-  fresh-order h i l =
-      rw (fresh-at i l)
-      (record {
-        budget = refl;
-        due = omega arith;
-        released = omega arith;
-        deadline-high = omega (arith, judged .each i l .period-high);
-        charge-high = omega arith;
-        expiries = omega arith;
-        queue = record {
-          queued-high = omega arith;
-          cells = refl;
-          unused = λ j past m. getD-replicate queue-max j 0 0 m;
-        };
-      })
+  order-at : (h i : ℕ) → i < t .count → InOrder (t .worst) (t .padding) h (streamAt (freshSession t) i)
+  order-at h i l =
+      rw (fresh-at i l) (fresh-order (t .worst) (t .padding) h (reservedAt t i) (periodAt t i) (omega (arith, judged .each i l .period-high)))
 
   -- the table of the session is the one that was admitted, as far as it is used
   fresh-admitted : admissionOf (tableOf (freshSession t)) ≡ 0
@@ -88,7 +74,7 @@ module _ (t : Table) (admitted : admissionOf t ≡ 0) where
       record {
         admitted = fresh-admitted;
         eight = length-listTo (openedStream t) streams-max;
-        each = fresh-order (horizon (freshSession t));
+        each = order-at (horizon (freshSession t));
         others = fresh-others;
         clock-high = omega arith;
         disk = refl;

@@ -1,17 +1,19 @@
 -- A stream whose cells are sound, test by test: what each test says, and that these facts make them sound.
 use mathlib.Core.Bool.{Bool, true, false, _||_, false≢true}
+use mathlib.Core.List.{List}
 use mathlib.Core.Path.{_≡_, refl, sym}
 use mathlib.Core.Logic.{⊎-elim}
 use Prim.Native.Nat.{ℕ, _+_, _*_, _≤_, _<_}
 use native.Mathlib.Omega.{arith}
-use lib.ListN.{length, getD}
+use lib.ListN.{length, getD, getD-replicate}
 use lib.Dec.{ltb, eqb}
 use borrow.Author.Tests.{leb-true, eqb-true, le-leb, lt-ltb, le-ltb, eq-eqb}
 use Rattle.table.specs.Admission.{grantedOf}
 use Rattle.table.proofs.Tests.{both, le-or-lt}
 use Rattle.table.proofs.Folds.{all-at, all-of}
 use Rattle.time.specs.Time.{session-end, duration-max}
-use Rattle.stream.specs.Stream.{queue-max, soundQueue, soundCells, soundStream}
+use Rattle.stream.specs.Stream.{queue-max, freshStream, withQueue, withCharge, closed, soundQueue, soundCells, soundStream}
+use Rattle.time.specs.declared.Clock.{Clock}
 use Rattle.stream.specs.declared.Stream.{Stream}
 
 -- a cell that is used or 0
@@ -95,3 +97,60 @@ of-stream worst k h x q =
       of-queue x (q .queue),
       le-leb _ _ (q .released),
     )
+
+-- A stream in order stays so: at a later horizon, with another charge and queue, and with its job closed. A fresh one is in order.
+module _ (worst k h : ℕ) (x : Stream) (q : InOrder worst k h x) where
+  pub later-order : (later : ℕ) → h ≤ later → InOrder worst k later x
+  later-order later le =
+      record {
+        budget = q .budget;
+        due = q .due;
+        released = omega (arith, q .released, le);
+        deadline-high = q .deadline-high;
+        charge-high = q .charge-high;
+        expiries = q .expiries;
+        queue = q .queue;
+      }
+
+  pub worked-order : (charge expired queued : ℕ) (places : List ℕ) → charge ≤ x .granted .0 + duration-max → worst * expired ≤ charge
+      → Queue (withQueue (withCharge x charge expired) queued places) → InOrder worst k h (withQueue (withCharge x charge expired) queued places)
+  worked-order charge expired queued places high low queue =
+      record {
+        budget = q .budget;
+        due = q .due;
+        released = q .released;
+        deadline-high = q .deadline-high;
+        charge-high = high;
+        expiries = low;
+        queue = queue;
+      }
+
+  pub closed-order : (now : Clock) (later : ℕ) → x .deadline .0 ≤ later → x .deadline .0 + x .period ≤ session-end → InOrder worst k later (closed now x)
+  unfolding closed soundQueue
+  closed-order now later le in-time =
+      record {
+        budget = q .budget;
+        due = refl;
+        released = le;
+        deadline-high = in-time;
+        charge-high = omega arith;
+        expiries = omega arith;
+        queue = queue-of (closed now x) (of-queue x (q .queue));
+      }
+
+pub fresh-order : (worst k h e p : ℕ) → p ≤ session-end → InOrder worst k h (freshStream e p (grantedOf worst k e))
+unfolding freshStream
+fresh-order worst k h e p high =
+    record {
+      budget = refl;
+      due = omega arith;
+      released = omega arith;
+      deadline-high = high;
+      charge-high = omega arith;
+      expiries = omega arith;
+      queue = record {
+        queued-high = omega arith;
+        cells = refl;
+        unused = λ j past m. getD-replicate queue-max j 0 0 m;
+      };
+    }

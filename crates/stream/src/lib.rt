@@ -137,9 +137,11 @@ impl Stream {
     pub fn is_unused(self) -> bool
         ensures { λ r. ⌜ r ≡ unusedStream self ⌝ }
     {
+        let table = (self.reserved == 0) & (self.period == 0);
+        let expired = self.expired == 0;
+        let queued = self.queued == 0;
         let start = Clock::at(0);
         let nothing = Charge::of(0);
-        let table = (self.reserved == 0) & (self.period == 0);
         let granted = self.granted.is(nothing);
         let release = self.release.is(start);
         let deadline = self.deadline.is(start);
@@ -147,15 +149,7 @@ impl Stream {
         let places = self.places;
         let queue = queue_is_sound(places, 0);
         let last = self.last.is_zero();
-        table
-            & granted
-            & release
-            & deadline
-            & charge
-            & (self.expired == 0)
-            & (self.queued == 0)
-            & queue
-            & last
+        table & granted & release & deadline & charge & expired & queued & queue & last
     }
 
     // With a place at the queue's end.

@@ -32,14 +32,14 @@ returns : tie.Need-returns
 unfolding unusedStream
 returns c =
     rw (
-      c .before .before .is-zero .ensures,
-      c .before .before .before .queue-is-sound .ensures,
-      c .before .before .before .before .before .is4 .ensures,
-      c .before .before .before .before .before .before .is3 .ensures,
-      c .before .before .before .before .before .before .before .is2 .ensures,
-      c .before .before .before .before .before .before .before .before .is .ensures,
-      c .before .before .before .before .before .before .before .before .before .before .before .of .ensures,
-      c .before .before .before .before .before .before .before .before .before .before .before .before .at .ensures,
+      c .is-zero .ensures,
+      c .before .queue-is-sound .ensures,
+      c .before .before .before .is4 .ensures,
+      c .before .before .before .before .is3 .ensures,
+      c .before .before .before .before .before .is2 .ensures,
+      c .before .before .before .before .before .before .is .ensures,
+      c .before .before .before .before .before .before .before .of .ensures,
+      c .before .before .before .before .before .before .before .before .at .ensures,
     )
 
 pub is-unused-spec : {M : Type 1} → statement M

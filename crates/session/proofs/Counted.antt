@@ -17,7 +17,7 @@ use Rattle.table.proofs.Judged.{Numbers, numbers-of, Fits-in, stream-of, share-
 use Rattle.time.specs.Time.{moment}
 use Rattle.stream.specs.Stream.{soundCells, soundStream}
 use Rattle.session.specs.Session.{noStream, streamAt, horizon, tableOf, sound}
-use Rattle.stream.specs.Search.{inOrder, begun, counted, Countable, loadSo, says, Judgeable}
+use Rattle.stream.specs.Search.{inOrder, begun, withSound, counted, Countable, loadSo, says, Judgeable}
 use Rattle.time.specs.declared.Clock.{Clock}
 use Rattle.stream.specs.declared.Stream.{Stream}
 use Rattle.stream.specs.declared.census.Census.{Census}
@@ -84,20 +84,20 @@ module _ (s : Session) where
   share-in i h = rw (order-budget i h)
 
   -- the used streams below n are in order, and the census has their numbers
-  pub record Passed (c : Census) (n : ℕ) : Type 0 where
+  pub record Numbered (soonest latest : Clock) (sum smallest n : ℕ) : Type 0 where
     pub numbers : numbersRefusal (tableOf s) ≡ 0
     pub each : (i : ℕ) → i < n → inOrderAt i ≡ true
-    pub horizon : c .horizon ≡ moment (smallestTo (λ i. streamAt s i .deadline .0) n)
-    pub released : c .released ≡ moment (largestTo (λ i. streamAt s i .release .0) n)
-    pub shares : c .shares ≡ sumTo shareIn n
-    pub least : c .least ≡ smallestTo (λ i. streamAt s i .period) n
+    pub horizon : soonest ≡ moment (smallestTo (λ i. streamAt s i .deadline .0) n)
+    pub released : latest ≡ moment (largestTo (λ i. streamAt s i .release .0) n)
+    pub shares : sum ≡ sumTo shareIn n
+    pub least : smallest ≡ smallestTo (λ i. streamAt s i .period) n
 
   -- the census has the table's numbers; a stream that is not in order fails the session
   pub record CountedTo (c : Census) (n : ℕ) : Type 0 where
     pub worst : c .worst ≡ s .worst
     pub span : c .span ≡ s .span
     pub padding : c .padding ≡ s .padding
-    pub passed : c .sound ≡ true → Passed c n
+    pub passed : c .sound ≡ true → Numbered (c .horizon) (c .released) (c .shares) (c .least) n
     pub failed : c .sound ≡ false → sound s ≡ false
 
   pub counted-none : CountedTo (begun (s .worst) (s .span) (s .padding) (s .count) (streamAt s 0)) 0
@@ -142,14 +142,14 @@ module _ (s : Session) where
             };
         failed = λ fails. absurd (false≢true (sym fails ∙ ok));
       })
-      (λ bad.
-      record {
-        worst = m .worst;
-        span = m .span;
-        padding = m .padding;
-        passed = λ again. absurd (false≢true again);
-        failed = λ fails. not-sound (λ q. false≢true (sym bad ∙ here ∙ order-of q n l));
-      })
+      (λ bad. fails c (n + 1) m (not-sound (λ q. false≢true (sym bad ∙ here ∙ order-of q n l))))
+    where
+      fails : (c : Census) (k : ℕ) → CountedTo c n → sound s ≡ false → CountedTo (withSound c false) k
+      fails c k m not = record { worst = m .worst; span = m .span; padding = m .padding; passed = λ again. absurd (false≢true again); failed = λ e. not }
+
+  -- so far all is in order, and another test is made
+  pub counted-and : (c : Census) (n : ℕ) → c .sound ≡ true → CountedTo c n → (test : Bool) → (test ≡ false → sound s ≡ false) → CountedTo (withSound c test) n
+  counted-and c n ok m test fails = record { worst = m .worst; span = m .span; padding = m .padding; passed = λ again. m .passed ok; failed = fails }
 
   -- the numbers of a census all of whose streams are in order are small
   pub countable : (c : Census) (n : ℕ) → n ≤ s .count → c .sound ≡ true → CountedTo c n → Countable c
@@ -164,7 +164,7 @@ module _ (s : Session) where
       }
 
   module _ (c : Census) (m : CountedTo c (s .count)) (ok : c .sound ≡ true) where
-    abbrev p : Passed c (s .count)
+    abbrev p : Numbered (c .horizon) (c .released) (c .shares) (c .least) (s .count)
     p = m .passed ok
 
     abbrev numbers-in : Numbers (tableOf s)

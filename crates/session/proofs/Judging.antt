@@ -23,7 +23,7 @@ use Rattle.stream.specs.declared.census.Census.{Census}
 use Rattle.session.specs.declared.Session.{Session}
 use Rattle.session.proofs.Sound.{Sound, sound-of, of-sound, Used, used as used-of, used-bounded}
 use Rattle.session.proofs.Grounds.{served-in}
-use Rattle.session.proofs.Counted.{CountedTo, not-sound, counted-none, counted-more, countable, horizon-is, judgeable, says-used, used-says}
+use Rattle.session.proofs.Counted.{CountedTo, not-sound, counted-none, counted-more, counted-and, countable, horizon-is, judgeable, says-used, used-says}
 
 -- a stream at the disk is a used one
 served-high : (s : Session) → Sound s → s .served ≤ s .count
@@ -88,33 +88,13 @@ module _ (s : Session) where
       not-zero : zero ≡ false → sound s ≡ false
       not-zero bad = not-sound s (λ q. false≢true (sym bad ∙ e ∙ q .others i past below))
 
-      all-counted : CountedTo s (withSound c zero) (s .count)
-      all-counted =
-          let k = m .all past in
-          let p = k .passed ok in
-          record {
-            worst = k .worst;
-            span = k .span;
-            padding = k .padding;
-            passed = λ fine.
-                record {
-                  numbers = p .numbers;
-                  each = p .each;
-                  horizon = p .horizon;
-                  released = p .released;
-                  shares = p .shares;
-                  least = p .least;
-                };
-            failed = not-zero;
-          }
-
       pub judging-unused : Judging (withSound c zero) (i + 1)
       judging-unused =
           record {
             inside = omega (arith, below);
             eight = m .eight;
             counts = λ le. absurd (omega (arith, le, past));
-            all = λ more. all-counted;
+            all = λ more. counted-and s c (s .count) ok (m .all past) zero not-zero;
             zeros = λ fine j low k. at-or-below (λ n. unusedStream (streamAt s n) ≡ true) j (rw (add-one) at k) (sym e ∙ fine) (m .zeros ok j low);
             failed = not-zero;
           }

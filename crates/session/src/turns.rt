@@ -20,7 +20,8 @@ impl Session {
         let h = judged.horizon;
         // a. some slot is filled: send
         let pick = self.pick(h);
-        if pick.found {
+        let filled = pick.found;
+        if filled {
             return self.send(pick.stream, pick.index);
         }
         // b. no stream has a slot: move, or 14

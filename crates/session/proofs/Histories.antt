@@ -13,21 +13,17 @@ use Rattle.table.specs.Admission.{reservedAt, periodAt}
 use Rattle.table.specs.declared.Table.{Table}
 use Rattle.stream.specs.Stream.{arrived, without, charged, lapsed, closed, moved}
 use Rattle.session.specs.Session.{noStream, streamAt, horizon}
-use Rattle.session.specs.Calls.{Verdict, refuse, append, send, move, wait, expire, finish, set-clock, apply, overlong, late, replyTo, outcome}
+use Rattle.session.specs.Calls.{Verdict, refuse, append, send, move, wait, expire, finish, set-clock, apply, replyTo}
 use Rattle.session.specs.Promise.{Moment, closes, closings, dueOf, sinceClosing, durationOf, reported, expiry, chargeOf}
 use Rattle.stream.specs.declared.Stream.{Stream}
 use Rattle.session.specs.declared.Session.{Session}
 use Rattle.calls.specs.declared.Call.{Call}
+use Rattle.calls.specs.declared.Reply.{Reply}
 use Rattle.session.proofs.Sound.{Sound, admits}
 use Rattle.session.proofs.Grounds.{Grounds}
 use Rattle.session.proofs.Changes.{worked}
 use Rattle.session.proofs.MoveKept.{moved-at}
-use Rattle.session.proofs.Reasons.{Reasons}
-use Rattle.session.proofs.Within.{Plain}
-
--- a call that comes to a verdict
-abbrev pub momentOf : Session → Call → Verdict → Moment
-momentOf s k v = record { before = s; call = k; answer = outcome s v }
+use Rattle.session.proofs.Reasons.{Reasons, done-or-overlong, clock-or-late}
 
 -- how a stream's cells go on where its job is closed or not, with so much reported and so many slots expired
 pub record Follows (closing : Bool) (lasted lost worst : ℕ) (x y : Stream) : Type 0 where
@@ -63,9 +59,11 @@ module _ (s : Session) (q : Sound s) (k : Call) (i : ℕ) where
   cell : (j : ℕ) → j < s .count → j < length (s .streams)
   cell j l = omega (arith, q .eight, admits s q .numbers .count-high)
 
-  -- how stream i goes on at a moment, by what its call and reply tell
-  abbrev pub Told : Verdict → Stream → Type 0
-  Told v y = let m = momentOf s k v in Follows (closes i m) (reported i m) (expiry i m) (s .worst) x y
+  -- how stream i goes on, by what the call and its reply tell
+  abbrev Told : Reply → Stream → Type 0
+  Told r y =
+      let m : Moment = record { before = s; call = k; answer = record { session = s; reply = r } } in
+      Follows (closes i m) (reported i m) (expiry i m) (s .worst) x y
 
   -- nothing is told, and nothing changes
   quiet : Follows false 0 0 (s .worst) x x
@@ -79,57 +77,70 @@ module _ (s : Session) (q : Sound s) (k : Call) (i : ℕ) where
       subst (λ (n : ℕ). Follows false lasted lost (s .worst) (streamAt s n) (worked (streamAt s j) charge expired queued places)) (sym same)
       (worked-on lasted lost (s .worst) (streamAt s j) charge expired queued places charge-is expired-is)
 
-  refuse-told : (n : ℕ) → n ≤ 15 → Told (refuse n) x
-  unfolding replyTo if
-  refuse-told n low = rw (ne-eqb n 22 (λ e. omega arith), ne-eqb n 23 (λ e. omega arith), ne-eqb n 25 (λ e. omega arith)) quiet
+  -- what the reply to a verdict tells is how it goes on
+  abbrev pub Tells : Verdict → Type 0
+  Tells v = Told (replyTo s v) (streamAt (apply s v) i)
 
-  append-told : (j place : ℕ) → j < s .count → Told (append j place) (streamAt (apply s (append j place)) i)
+  refuse-told : (n : ℕ) → n ≤ 15 → Tells (refuse n)
+  unfolding apply replyTo if
+  refuse-told n low =
+      rw (ne-eqb n 22 (λ e. omega arith), ne-eqb n 23 (λ e. omega arith), ne-eqb n 25 (λ e. omega arith), ne-eqb n 26 (λ e. omega arith)) quiet
+
+  append-told : (j place : ℕ) → j < s .count → Tells (append j place)
   unfolding apply replyTo if arrived
-  append-told j place l = set-at (Told (append j place)) (s .streams) j _ (cell j l) i (λ e. at j 0 0 _ _ _ _ e (omega arith) (omega arith)) (λ e. quiet)
+  append-told j place l = set-at (Told (replyTo s (append j place))) (s .streams) j _ (cell j l) i (λ e. at j 0 0 _ _ _ _ e (omega arith) (omega arith)) (λ e. quiet)
 
-  send-told : (j n : ℕ) → j < s .count → Told (send j n) (streamAt (apply s (send j n)) i)
+  send-told : (j n : ℕ) → j < s .count → Tells (send j n)
   unfolding apply replyTo if without
-  send-told j n l = set-at (Told (send j n)) (s .streams) j _ (cell j l) i (λ e. at j 0 0 _ _ _ _ e (omega arith) (omega arith)) (λ e. quiet)
+  send-told j n l = set-at (Told (replyTo s (send j n))) (s .streams) j _ (cell j l) i (λ e. at j 0 0 _ _ _ _ e (omega arith) (omega arith)) (λ e. quiet)
 
-  move-told : Told move (streamAt (apply s move) i)
+  move-told : Tells move
   unfolding apply replyTo if moved closed
   move-told =
-      subst (Told move) (sym (moved-at s q i))
+      subst (Told (replyTo s move)) (sym (moved-at s q i))
       (go (eqb (x .deadline .0) (horizon s)))
     where
       go : (b : Bool) → Follows b 0 0 (s .worst) x (if b (closed (s .clock) x) x)
       go true = record { reserved-same = refl; period-same = refl; charge-next = refl; expired-next = refl; deadline-next = refl }
       go false = quiet
 
-  expire-told : (j : ℕ) → j < s .count → Told (expire j) (streamAt (apply s (expire j)) i)
+  expire-told : (j : ℕ) → j < s .count → Tells (expire j)
   unfolding apply replyTo if lapsed
   expire-told j l =
-      set-at (Told (expire j)) (s .streams) j _ (cell j l) i
+      set-at (Told (replyTo s (expire j))) (s .streams) j _ (cell j l) i
       (λ e. rw (eq-eqb (j + 1) (i + 1) (omega arith)) (at j 0 1 _ _ _ _ e (omega arith) refl))
       (λ e. rw (ne-eqb (j + 1) (i + 1) (λ f. e (omega arith))) quiet)
 
-  finish-told : (j a : ℕ) → j < s .count → overlong s a ≡ false → durationOf k ≡ a → Told (finish j a) (streamAt (apply s (finish j a)) i)
-  unfolding apply replyTo if charged
-  finish-told j a l short lasted =
-      set-at (Told (finish j a)) (s .streams) j _ (cell j l) i
-      (λ e. rw (short, eq-eqb (j + 1) (i + 1) (omega arith), lasted) (at j a 0 _ _ _ _ e (omega arith) (omega arith)))
-      (λ e. rw (short, ne-eqb (j + 1) (i + 1) (λ f. e (omega arith))) quiet)
+  -- a completion, overlong or not
+  charged-told : (j a : ℕ) → j < s .count → durationOf k ≡ a
+      → Follows false (if (eqb (j + 1) (i + 1)) (durationOf k) 0) 0 (s .worst) x (streamAt (apply s (finish j a)) i)
+  unfolding apply if charged
+  charged-told j a l lasted =
+      set-at (Follows false (if (eqb (j + 1) (i + 1)) (durationOf k) 0) 0 (s .worst) x) (s .streams) j _ (cell j l) i
+      (λ e. rw (eq-eqb (j + 1) (i + 1) (omega arith), lasted) (at j a 0 _ _ _ _ e (omega arith) (omega arith)))
+      (λ e. rw (ne-eqb (j + 1) (i + 1) (λ f. e (omega arith))) quiet)
 
-  clock-told : (t : ℕ) → late s t ≡ false → Told (set-clock t) x
-  unfolding replyTo if
-  clock-told t early = rw early quiet
+  finish-told : (j a : ℕ) → j < s .count → durationOf k ≡ a → Tells (finish j a)
+  unfolding if
+  finish-told j a l lasted =
+      let grown = charged-told j a l lasted in
+      done-or-overlong (λ r. Told r (streamAt (apply s (finish j a)) i)) s j a (λ over. grown) (λ short. grown)
+
+  clock-told : (t : ℕ) → Tells (set-clock t)
+  unfolding apply if
+  clock-told t = clock-or-late (λ r. Told r x) s t (λ after-l. quiet) (λ early. quiet)
 
   -- whatever a call comes to
-  pub told : (v : Verdict) → Grounds s v → Reasons s k v → Plain s v → Told v (streamAt (apply s v) i)
+  pub told : (v : Verdict) → Grounds s v → Reasons s k v → Tells v
   unfolding apply replyTo if
-  told (refuse n) g r plain = refuse-told n r
-  told (append j place) g r plain = append-told j place (g .exists)
-  told (send j n) g r plain = send-told j n (g .exists)
-  told move g r plain = move-told
-  told wait g r plain = quiet
-  told (expire j) g r plain = expire-told j (g .exists)
-  told (finish j a) g r plain = finish-told j a (g .exists) plain r
-  told (set-clock t) g r plain = clock-told t plain
+  told (refuse n) g r = refuse-told n r
+  told (append j place) g r = append-told j place (g .exists)
+  told (send j n) g r = send-told j n (g .exists)
+  told move g r = move-told
+  told wait g r = quiet
+  told (expire j) g r = expire-told j (g .exists)
+  told (finish j a) g r = finish-told j a (g .exists) r
+  told (set-clock t) g r = clock-told t
 
 -- the cells of stream i hold what the history tells
 pub record Holds (t : Table) (i : ℕ) (past : List Moment) (x : Stream) : Type 0 where

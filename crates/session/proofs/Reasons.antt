@@ -1,14 +1,16 @@
--- What else a verdict on a sound session rests on, for the promise: why a move, why an expiry, and whose duration.
+-- What else a verdict rests on, for the promise: why a move, why an expiry, whose duration, and why one reply and not the other.
 use mathlib.Core.Bool.{true, false}
 use mathlib.Core.Path.{_≡_, refl}
-use Prim.Native.Nat.{_≤_}
+use Prim.Native.Nat.{ℕ, _+_, _≤_}
 use Rattle.table.specs.Refusal.{given, _or-next_}
 use Rattle.table.proofs.Tests.{by-if}
-use Rattle.session.specs.Session.{someFilled, noSlot}
-use Rattle.session.specs.Calls.{Verdict, refuse, append, send, move, wait, expire, finish, set-clock, callRefusal, refusal, turnEffect, effect, verdict}
+use Rattle.time.specs.Time.{moment, diskTime}
+use Rattle.session.specs.Session.{streamAt, someFilled, noSlot}
+use Rattle.session.specs.Calls.{Verdict, refuse, append, send, move, wait, expire, finish, set-clock, callRefusal, refusal, turnEffect, effect, verdict, overlong, late, replyTo}
 use Rattle.session.specs.Promise.{durationOf}
 use Rattle.session.specs.declared.Session.{Session}
 use Rattle.calls.specs.declared.Call.{Call}
+use Rattle.calls.specs.declared.Reply.{Reply}
 use Rattle.session.proofs.Sound.{Sound, of-sound}
 use Rattle.session.proofs.Grounds.{call-refusal-high, ruled-by}
 
@@ -43,3 +45,15 @@ pub verdict-reasons : (s : Session) → Sound s → (k : Call) → Reasons s k (
 unfolding verdict refusal given _or-next_
 verdict-reasons s q k =
     rw (of-sound s q) (ruled-by (Reasons s k) (callRefusal s k) (effect s k) (call-refusal-high s k) (λ none. effect-reasons s k))
+
+-- a completion is overlong or not, a clock report late or not
+module _ (P : Reply → Type 0) (s : Session) where
+  pub done-or-overlong : (i a : ℕ)
+      → let charge = diskTime (streamAt s i .charge .0 + a) in
+      (overlong s a ≡ true → P (Reply.Overlong (i + 1) charge)) → (overlong s a ≡ false → P (Reply.Done (i + 1) charge)) → P (replyTo s (finish i a))
+  unfolding replyTo
+  done-or-overlong i a = by-if P _ _ _
+
+  pub clock-or-late : (t : ℕ) → (late s t ≡ true → P (Reply.Late (moment t))) → (late s t ≡ false → P (Reply.Clock (moment t))) → P (replyTo s (set-clock t))
+  unfolding replyTo
+  clock-or-late t = by-if P _ _ _

@@ -1,5 +1,5 @@
 -- While no completion is overlong and no clock report late, each call keeps both halves of the promise's invariant.
-use mathlib.Core.Bool.{Bool, true, false, _&&_}
+use mathlib.Core.Bool.{Bool, true, false, _&&_, false≢true}
 use mathlib.Core.List.{List}
 use mathlib.Core.Path.{_≡_, refl}
 use mathlib.Core.Logic.{_⊎_, inl, inr, ⊎-elim}
@@ -9,11 +9,13 @@ use native.Mathlib.Omega.{arith}
 use borrow.Author.Tests.{ltb-false}
 use Rattle.stream.specs.Stream.{withQueue, arrived, without, charged, lapsed}
 use Rattle.session.specs.Session.{streamAt, horizon, latest, withStream}
-use Rattle.session.specs.Calls.{Verdict, refuse, append, send, move, wait, expire, finish, set-clock, apply, overlong, late}
+use Rattle.session.specs.Calls.{Verdict, refuse, append, send, move, wait, expire, finish, set-clock, apply, overlong, late, replyTo}
+use Rattle.session.specs.Promise.{inBounds}
 use Rattle.stream.specs.declared.Stream.{Stream}
 use Rattle.session.specs.declared.Session.{Session}
 use Rattle.session.proofs.Sound.{Sound}
 use Rattle.session.proofs.Grounds.{Grounds}
+use Rattle.session.proofs.Reasons.{done-or-overlong, clock-or-late}
 use Rattle.session.proofs.Halves.{usedAt, rateAt, Room, InTime, slot-has-room}
 use Rattle.session.proofs.HalvesKept.{charge-keeps-room, charge-keeps-time, move-keeps-room, move-keeps-time, clock-keeps-time}
 
@@ -26,16 +28,14 @@ not-both : (a b : Bool) → (a && b) ≡ false → (a ≡ false) ⊎ (b ≡ fals
 not-both true b h = inr h
 not-both false b h = inl refl
 
--- no completion is overlong and no clock report late
-abbrev pub Plain : Session → Verdict → Type 0
-Plain s (refuse n) = Unit {0}
-Plain s (append i place) = Unit {0}
-Plain s (send i j) = Unit {0}
-Plain s move = Unit {0}
-Plain s wait = Unit {0}
-Plain s (expire i) = Unit {0}
-Plain s (finish i a) = overlong s a ≡ false
-Plain s (set-clock t) = late s t ≡ false
+-- within bounds, a completion lasted at most W, and a clock report is not late
+not-overlong : (s : Session) (i a : ℕ) → inBounds (replyTo s (finish i a)) ≡ true → a ≤ s .worst
+unfolding overlong
+not-overlong s i a =
+    done-or-overlong (λ r. inBounds r ≡ true → a ≤ s .worst) s i a (λ over is. absurd (false≢true is)) (λ short is. ltb-false (s .worst) a short)
+
+not-late : (s : Session) (t : ℕ) → inBounds (replyTo s (set-clock t)) ≡ true → late s t ≡ false
+not-late s t = clock-or-late (λ r. inBounds r ≡ true → late s t ≡ false) s t (λ after-l is. absurd (false≢true is)) (λ early is. early)
 
 module _ (s : Session) (q : Sound s) (safe : Safe s) where
   abbrev x : ℕ → Stream
@@ -70,11 +70,10 @@ module _ (s : Session) (q : Sound s) (safe : Safe s) where
         time = charge-keeps-time s q i l _ _ _ _ (s .worst) refl (s .clock .0) (s .clock .0) (omega arith) (safe .time);
       }
 
-  finish-safe : (i a : ℕ) → Grounds s (finish i a) → overlong s a ≡ false → Safe (apply s (finish i a))
-  unfolding apply charged horizon overlong
-  finish-safe i a g short =
+  finish-safe : (i a : ℕ) → Grounds s (finish i a) → a ≤ s .worst → Safe (apply s (finish i a))
+  unfolding apply charged horizon
+  finish-safe i a g le =
       let l = g .exists in
-      let le : a ≤ s .worst = ltb-false (s .worst) a short in
       let enough : usedAt s i + a * s .span ≤ horizon s * rateAt s i = omega (arith, slot-has-room s q i l (g .slot), mul-le-mul-right (s .span) le) in
       record {
         room = charge-keeps-room s q i l (x i .charge .0 + a) (x i .expired) (x i .queued) (x i .places) a refl enough (safe .room);
@@ -93,13 +92,13 @@ module _ (s : Session) (q : Sound s) (safe : Safe s) where
             (not-both _ _ early);
       }
 
-  pub effect-safe : (v : Verdict) → Grounds s v → Plain s v → Safe (apply s v)
+  pub effect-safe : (v : Verdict) → Grounds s v → inBounds (replyTo s v) ≡ true → Safe (apply s v)
   unfolding apply
-  effect-safe (refuse n) g plain = safe
-  effect-safe (append i place) g plain = append-safe i place g
-  effect-safe (send i j) g plain = send-safe i j g
-  effect-safe move g plain = record { room = move-keeps-room s q (safe .room); time = move-keeps-time s q (s .clock .0) (safe .room) (safe .time) }
-  effect-safe wait g plain = safe
-  effect-safe (expire i) g plain = expire-safe i g
-  effect-safe (finish i a) g plain = finish-safe i a g plain
-  effect-safe (set-clock t) g plain = set-clock-safe t plain
+  effect-safe (refuse n) g is = safe
+  effect-safe (append i place) g is = append-safe i place g
+  effect-safe (send i j) g is = send-safe i j g
+  effect-safe move g is = record { room = move-keeps-room s q (safe .room); time = move-keeps-time s q (s .clock .0) (safe .room) (safe .time) }
+  effect-safe wait g is = safe
+  effect-safe (expire i) g is = expire-safe i g
+  effect-safe (finish i a) g is = finish-safe i a g (not-overlong s i a is)
+  effect-safe (set-clock t) g is = set-clock-safe t (not-late s t is)

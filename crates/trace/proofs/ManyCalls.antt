@@ -1,5 +1,5 @@
 -- The promise is not empty on a long run either: eight streams and 240 calls, by computing. It stands here and not beside the promise, since it is the dearest computation of all.
-use mathlib.Core.Bool.{Bool, true, not, _&&_}
+use mathlib.Core.Bool.{Bool, true, _&&_}
 use mathlib.Core.Path.{_≡_, refl, ap, _∙_}
 use mathlib.Core.List.{List, [], _∷_, map}
 use Prim.Native.Nat.{ℕ, zero, suc, _+_, _%_}
@@ -12,7 +12,7 @@ use Rattle.calls.specs.Replies.{numberOf, valueOf}
 use Rattle.session.specs.Calls.{answerTo, after}
 use Rattle.session.specs.Opening.{openingOf}
 use Rattle.session.specs.Cases.{padded, table}
-use Rattle.session.specs.Promise.{Moment, historyFrom, historyOf, withinBounds, Promised}
+use Rattle.session.specs.Promise.{Moment, historyFrom, historyOf, inBounds, withinBounds, OnTime}
 use Rattle.session.specs.declared.Session.{Session}
 use Rattle.calls.specs.declared.Call.{Call}
 use Rattle.calls.specs.declared.Call.the-variants.{Arrival, Turn, Done, Clock}
@@ -50,7 +50,7 @@ unfoldable ranFrom : ℕ → Bool → Session → Reply → Bool × List ℕ
 ranFrom zero within s r = (within, deadlines s)
 ranFrom (suc n) within s r =
     let a = answerTo s (nextCall n r) in
-    ranFrom n (not (eqb (numberOf (a .reply)) 26) && not (eqb (numberOf (a .reply)) 28) && within) (a .session) (a .reply)
+    ranFrom n (inBounds (a .reply) && within) (a .session) (a .reply)
 
 ran-within : (n : ℕ) (past : List Moment) (s : Session) (r : Reply) → withinBounds (historyFrom past s (callsFrom n s r)) ≡ ranFrom n (withinBounds past) s r .0
 unfolding historyFrom withinBounds callsFrom ranFrom
@@ -65,7 +65,7 @@ unfolding after callsFrom ranFrom
 ran-ends zero within s r = refl
 ran-ends (suc n) within s r =
     let a = answerTo s (nextCall n r) in
-    ran-ends n (not (eqb (numberOf (a .reply)) 26) && not (eqb (numberOf (a .reply)) 28) && within) (a .session) (a .reply)
+    ran-ends n (inBounds (a .reply) && within) (a .session) (a .reply)
 
 abbrev closed : List ℕ
 closed = 90_000 ∷ 90_000 ∷ 100_000 ∷ 100_000 ∷ 90_000 ∷ 90_000 ∷ 120_000 ∷ 120_000 ∷ []
@@ -82,9 +82,9 @@ none-past : withinBounds [] ≡ true
 unfolding withinBounds
 none-past = refl
 
-many-promised : Promised eight (after (openingOf eight .session) manyCalls) (historyOf eight manyCalls)
+many-promised : OnTime eight (after (openingOf eight .session) manyCalls) (historyOf eight manyCalls)
 many-promised =
-    promise eight manyCalls admitted
+    promise eight manyCalls admitted .1
     (ran-within 240 [] (openingOf eight .session) (Reply.Refused 0)
     ∙ ap (λ (within : Bool). ranFrom 240 within (openingOf eight .session) (Reply.Refused 0) .0) none-past
     ∙ ap (λ (b : Bool × List ℕ). b .0) ran)

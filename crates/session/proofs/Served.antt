@@ -1,0 +1,46 @@
+-- The requests that a card can count on: within bounds, the completions and the expired slots of a closed job come to at least g / W.
+use mathlib.Core.Bool.{Bool, true, false}
+use mathlib.Core.List.{List, [], _∷_}
+use mathlib.Core.Path.{_≡_}
+use Prim.Native.Nat.{ℕ, _+_, _*_, _/_, _≤_, _<_}
+use native.Mathlib.Nat.{div-lt-iff-lt-mul}
+use native.Mathlib.Omega.{arith}
+use Rattle.table.specs.Fold.{if}
+use Rattle.table.specs.declared.Table.{Table}
+use Rattle.table.proofs.Tests.{both}
+use Rattle.table.proofs.Judged.{admits-of}
+use Rattle.session.specs.Session.{streamAt}
+use Rattle.session.specs.Promise.{Moment, inBounds, withinBounds, closes, sinceClosing, reported, completion, expiry, chargeOf, budgetOf, RequestsServed}
+use Rattle.session.proofs.Promise.{AllLawful, lawful-from, within-before, promise}
+
+-- what is reported for a job, within bounds, is at most W for each of its completions
+sum-at-most : (b : Bool) (lasted ended lasted-before ended-before worst : ℕ) → lasted ≤ worst * ended → lasted-before ≤ worst * ended-before
+    → if b 0 (lasted + lasted-before) ≤ worst * if b 0 (ended + ended-before)
+unfolding if
+sum-at-most true lasted ended lasted-before ended-before worst now before = omega arith
+sum-at-most false lasted ended lasted-before ended-before worst now before = omega arith
+
+reported-most : (t : Table) (i : ℕ) (past : List Moment) → AllLawful t past → withinBounds past ≡ true
+    → sinceClosing reported i past ≤ t .worst * sinceClosing completion i past
+unfolding withinBounds sinceClosing
+reported-most t i [] lawful within = omega arith
+reported-most t i (m ∷ past) lawful within =
+    let parts = both (inBounds (m .answer .reply)) (withinBounds past) within in
+    sum-at-most (closes i m) (reported i m) (completion i m) (sinceClosing reported i past) (sinceClosing completion i past) (t .worst)
+    (lawful .0 .short (parts .0) i) (reported-most t i past (lawful .1) (parts .1))
+
+-- with W for each expired slot that is more than g less W, so they are at least g / W
+enough : (budget charge worst lasted ended lost : ℕ) → 0 < worst → budget < charge + worst → charge ≡ lasted + worst * lost → lasted ≤ worst * ended
+    → budget / worst ≤ ended + lost
+enough budget charge worst lasted ended lost pos more made most =
+    let below : budget / worst < ended + lost + 1 = div-lt-iff-lt-mul pos .1 (omega arith) in omega arith
+
+pub requests-served : RequestsServed
+unfolding chargeOf
+requests-served t calls admitted within later m earlier e i l closing =
+    let made = promise t calls admitted .0 .closed-jobs later m earlier e i l closing .made-of in
+    let more = promise t calls admitted .1 within .closed-jobs later m earlier e i l closing .more-than in
+    enough (budgetOf t i) (streamAt (m .before) i .charge .0) (t .worst)
+    (sinceClosing reported i earlier) (sinceClosing completion i earlier) (sinceClosing expiry i earlier)
+    (omega (arith, admits-of t admitted .numbers .worst-low)) more made
+    (reported-most t i earlier (lawful-from t calls admitted later m earlier e .1) (within-before t calls admitted later m earlier e within))

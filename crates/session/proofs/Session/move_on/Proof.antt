@@ -1,7 +1,8 @@
 -- `Session::move_on` moves stream by stream, in place: what it has done of the streams passed.
 use mathlib.Core.Path.{_≡_, refl, subst}
 use Prim.Native.Nat.{_≤_, _<_, _-_}
-use Rattle.table.proofs.Loops.{next-fits, fewer, none-passed, one-passed}
+use native.Mathlib.Omega.{arith}
+use Rattle.table.proofs.Loops.{none-passed, one-passed}
 use Rattle.session.proofs.Offsets.{offset-fits, first-in}
 use Rattle.session.proofs.Sound.{Sound, sound-of, deadline-high}
 use Rattle.session.proofs.Closings.{Moving, moving-none, moving-in, can-move, passed, moving-more, moving-all}
@@ -50,10 +51,10 @@ earlier-requires : tie.Need-earlier-requires Inv-loop μ-loop
 earlier-requires c κs = tt
 
 add-i : tie.Need-add-i Inv-loop μ-loop
-add-i c = next-fits _ (within (c .before .before .before))
+add-i c = let l = within (c .before .before .before) in omega (arith, l)
 
 loop-less : tie.Need-loop-less Inv-loop μ-loop
-loop-less c = fewer _ _ (c .before .before .before .loop-test .taken)
+loop-less c = omega (arith, c .before .before .before .loop-test .taken)
 
 loop-again : tie.Need-loop-again Inv-loop μ-loop
 loop-again c =

@@ -12,3 +12,4 @@ pub mod Events
 pub mod Traces
 pub mod Round
 pub mod Listing
+pub mod Determined

@@ -5,3 +5,4 @@ pub mod Judged
 pub mod LentTables
 pub mod Taking
 pub mod Loops
+pub mod Determined

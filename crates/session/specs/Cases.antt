@@ -1,4 +1,4 @@
--- Document 01's worked cases, one line each: what the rules give, beside what the document says. The statement that covers the list is `CasesHold`.
+-- Document 01's worked cases, one line each: what the rules give, beside what the document says. Those marked P and the others stand in two lists; the statements that cover them are `MarkedCasesHold` and `OtherCasesHold` of `Laws`.
 use mathlib.Core.List.{List, [], _∷_, _++_, map}
 use Prim.Native.Nat.{ℕ, zero, suc, _/_, _%_}
 use lib.ListN.{length, replicate, take}
@@ -109,27 +109,9 @@ twins = table 25_000 250_000 1 (25_000 ∷ 25_000 ∷ []) (250_000 ∷ 250_000 �
 abbrev pub bothUsedUp : List Call
 bothUsedUp = Arrival 2 100 ∷ Turn ∷ Done 50_000 ∷ oneRequest 50_000 ++ (Turn ∷ [])
 
--- the lines of the document that are not marked, and what else a reader may ask: a duration of W, W + 1, 0, 10,000,000 and 10,000,001; a clock at L = 200,000, at L + 1, and at the present time past L; two streams that share a deadline both close; a padding of 0 is one of 1; stream 1's 6 comes before stream 2's 5
-unfoldable pub others : List Case
-others =
-    answers single (oneRequest 25_000) (20 ∷ 21 ∷ 25 ∷ [])
-    ∷ answers single (oneRequest 25_001) (20 ∷ 21 ∷ 26 ∷ [])
-    ∷ answers single (oneRequest 0) (20 ∷ 21 ∷ 12 ∷ [])
-    ∷ answers single (oneRequest 10_000_000) (20 ∷ 21 ∷ 26 ∷ [])
-    ∷ answers single (oneRequest 10_000_001) (20 ∷ 21 ∷ 12 ∷ [])
-    ∷ answers single (Clock 200_000 ∷ []) (27 ∷ [])
-    ∷ answers single (Clock 200_001 ∷ Clock 200_001 ∷ Clock 200_000 ∷ []) (28 ∷ 27 ∷ 13 ∷ [])
-    ∷ answers twins bothUsedUp (20 ∷ 21 ∷ 26 ∷ 20 ∷ 21 ∷ 26 ∷ 23 ∷ [])
-    ∷ records twins bothUsedUp 0 (50_000 ∷ 100_000 ∷ 250_000 ∷ 0 ∷ [])
-    ∷ records twins bothUsedUp 1 (50_000 ∷ 100_000 ∷ 250_000 ∷ 0 ∷ [])
-    ∷ admits (alone 0 950_000) 0
-    ∷ admits (alone 0 950_001) 7
-    ∷ admits (table 25_000 1_000_000 1 (0 ∷ 25_000 ∷ []) (250_000 ∷ 300_000 ∷ [])) 6
-    ∷ []
-
--- the cases marked P, in the document's order, and the others after them
-unfoldable pub cases : List Case
-cases =
+-- the cases marked P, in the document's order
+unfoldable pub markedCases : List Case
+markedCases =
     prints
     listed
     (Arrival 1 100
@@ -181,4 +163,22 @@ cases =
     ∷ [])
     ∷ records single twoRequests 0 (50_000 ∷ 50_000 ∷ 250_000 ∷ 0 ∷ [])
     ∷ answers listed (replicate 17 (Arrival 1 5)) (replicate 16 20 ++ (9 ∷ []))
-    ∷ others
+    ∷ []
+
+-- the lines of the document that are not marked, and what else a reader may ask: a duration of W, W + 1, 0, 10,000,000 and 10,000,001; a clock at L = 200,000, at L + 1, and at the present time past L; two streams that share a deadline both close; a padding of 0 is one of 1; stream 1's 6 comes before stream 2's 5
+unfoldable pub otherCases : List Case
+otherCases =
+    answers single (oneRequest 25_000) (20 ∷ 21 ∷ 25 ∷ [])
+    ∷ answers single (oneRequest 25_001) (20 ∷ 21 ∷ 26 ∷ [])
+    ∷ answers single (oneRequest 0) (20 ∷ 21 ∷ 12 ∷ [])
+    ∷ answers single (oneRequest 10_000_000) (20 ∷ 21 ∷ 26 ∷ [])
+    ∷ answers single (oneRequest 10_000_001) (20 ∷ 21 ∷ 12 ∷ [])
+    ∷ answers single (Clock 200_000 ∷ []) (27 ∷ [])
+    ∷ answers single (Clock 200_001 ∷ Clock 200_001 ∷ Clock 200_000 ∷ []) (28 ∷ 27 ∷ 13 ∷ [])
+    ∷ answers twins bothUsedUp (20 ∷ 21 ∷ 26 ∷ 20 ∷ 21 ∷ 26 ∷ 23 ∷ [])
+    ∷ records twins bothUsedUp 0 (50_000 ∷ 100_000 ∷ 250_000 ∷ 0 ∷ [])
+    ∷ records twins bothUsedUp 1 (50_000 ∷ 100_000 ∷ 250_000 ∷ 0 ∷ [])
+    ∷ admits (alone 0 950_000) 0
+    ∷ admits (alone 0 950_001) 7
+    ∷ admits (table 25_000 1_000_000 1 (0 ∷ 25_000 ∷ []) (250_000 ∷ 300_000 ∷ [])) 6
+    ∷ []

@@ -14,13 +14,21 @@ use Rattle.session.specs.Choice.{nearestAt, sentBefore, chosen, expiresB
 use Rattle.calls.specs.Replies.{numberOf}
 use Rattle.session.specs.Calls.{answerTo, after}
 use Rattle.session.specs.Opening.{zeroSession, openingOf}
-use Rattle.session.specs.Cases.{Case, cases}
+use Rattle.session.specs.Cases.{Case, markedCases, otherCases}
 use Rattle.session.specs.declared.Session.{Session}
 use Rattle.calls.specs.declared.Call.{Call}
 
--- Each worked case of document 01 comes out as the document says.
-abbrev pub CasesHold : Type 0
-CasesHold = map (λ (k : Case). k .rules) cases ≡ map (λ (k : Case). k .document) cases
+-- each case of a list comes out as the document says
+abbrev pub Hold : List Case → Type 0
+Hold cases = map (λ (k : Case). k .rules) cases ≡ map (λ (k : Case). k .document) cases
+
+-- "P marks a case to be proved": each of them holds.
+abbrev pub MarkedCasesHold : Type 0
+MarkedCasesHold = Hold markedCases
+
+-- And so does each of the others.
+abbrev pub OtherCasesHold : Type 0
+OtherCasesHold = Hold otherCases
 
 -- "Opening makes a sound session", and the all-zero one "is not sound".
 abbrev pub OpeningIsSound : Type 0

@@ -27,17 +27,30 @@ fn main() {
 }
 
 fn meter(times: u64, file: &[u8]) {
+    let reading = file::read(file);
     let Reading::LaidOut {
         count: _,
         start,
         end,
         events,
-    } = file::read(file)
+    } = reading
     else {
-        print(listing::refused(16));
+        print_unread(reading);
         return;
     };
     measure(file::table_of(file), &file[start..end], events, times);
+}
+
+fn print_unread(reading: Reading) {
+    match reading {
+        Reading::LaidOut {
+            count: _,
+            start: _,
+            end: _,
+            events: _,
+        } => {}
+        Reading::Refused(number) => print(listing::refused(number)),
+    }
 }
 
 fn measure(table: Table, trace: &[u8], events: usize, times: u64) {

@@ -20,14 +20,15 @@ fn main() {
 
 // Prints what document 01 says of a file: its listing, or the number that refuses it.
 fn replay(file: &[u8]) {
+    let reading = file::read(file);
     let Reading::LaidOut {
         count: _,
         start,
         end,
         events,
-    } = file::read(file)
+    } = reading
     else {
-        print(listing::refused(16));
+        print_unread(reading);
         return;
     };
     let opened = Session::open(file::table_of(file));
@@ -38,6 +39,18 @@ fn replay(file: &[u8]) {
     };
     print(listing::header());
     run(opened.session, &file[start..end], events);
+}
+
+fn print_unread(reading: Reading) {
+    match reading {
+        Reading::LaidOut {
+            count: _,
+            start: _,
+            end: _,
+            events: _,
+        } => {}
+        Reading::Refused(number) => print(listing::refused(number)),
+    }
 }
 
 fn print_refusal(admission: Admission) {

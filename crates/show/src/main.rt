@@ -22,17 +22,30 @@ fn main() {
 
 // Prints the notes of a file, or says by which number it is refused.
 fn show(file: &[u8]) {
+    let reading = file::read(file);
     let Reading::LaidOut {
         count,
         start,
         end,
         events,
-    } = file::read(file)
+    } = reading
     else {
-        print(STDERR_FILENO, listing::refused(16));
+        tell_unread(reading);
         return;
     };
     print_lines(file::table_of(file), &file[start..end], 3 + count + events);
+}
+
+fn tell_unread(reading: Reading) {
+    match reading {
+        Reading::LaidOut {
+            count: _,
+            start: _,
+            end: _,
+            events: _,
+        } => {}
+        Reading::Refused(number) => print(STDERR_FILENO, listing::refused(number)),
+    }
 }
 
 // Prints the first lines of the notes of a table and a trace.

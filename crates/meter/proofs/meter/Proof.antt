@@ -9,17 +9,14 @@ use Rattle.meter.proofs.meter.Tie as tie
 read-requires : tie.Need-read-requires
 read-requires c κs = search needs
 
-enum-known-start : tie.Need-enum-known-start
-enum-known-start c = search needs
+enum-known-reading : tie.Need-enum-known-reading
+enum-known-reading c = search needs
 
 enum-told : tie.Need-enum-told
 enum-told c = search needs
 
-refused-requires : tie.Need-refused-requires
-refused-requires c κs = search needs
-
-print-requires : tie.Need-print-requires
-print-requires c κs = search needs
+print-unread-requires : tie.Need-print-unread-requires
+print-unread-requires c κs = search needs
 
 returns : tie.Need-returns
 returns c = search needs
@@ -30,17 +27,17 @@ table-of-requires c κs = search needs
 sub-measure : tie.Need-sub-measure
 sub-measure c =
     let at = c .before .before in
-    omega (arith, accepted-is-within _ _ _ _ _ (sym (at .before .before .read .ensures) ∙ at .start .given .1) .whole-events)
+    omega (arith, accepted-is-within _ _ _ _ _ (sym (at .before .before .read .ensures) ∙ at .reading .given .1) .whole-events)
 
 part-measure-start : tie.Need-part-measure-start
 part-measure-start c =
     let at = c .before .before in
-    omega (arith, accepted-is-within _ _ _ _ _ (sym (at .before .before .read .ensures) ∙ at .start .given .1) .whole-events)
+    omega (arith, accepted-is-within _ _ _ _ _ (sym (at .before .before .read .ensures) ∙ at .reading .given .1) .whole-events)
 
 part-measure-end : tie.Need-part-measure-end
 part-measure-end c =
     let at = c .before .before in
-    omega (arith, accepted-is-within _ _ _ _ _ (sym (at .before .before .read .ensures) ∙ at .start .given .1) .in-file)
+    omega (arith, accepted-is-within _ _ _ _ _ (sym (at .before .before .read .ensures) ∙ at .reading .given .1) .in-file)
 
 measure-requires : tie.Need-measure-requires
 measure-requires c κs = search needs
@@ -53,10 +50,9 @@ meter-spec =
     tie.close
     (tie.spec
     read-requires
-    enum-known-start
+    enum-known-reading
     enum-told
-    refused-requires
-    print-requires
+    print-unread-requires
     returns
     table-of-requires
     sub-measure

@@ -9,17 +9,14 @@ use Rattle.replay.proofs.replay.Tie as tie
 read-requires : tie.Need-read-requires
 read-requires c κs = search needs
 
-enum-known-start : tie.Need-enum-known-start
-enum-known-start c = search needs
+enum-known-reading : tie.Need-enum-known-reading
+enum-known-reading c = search needs
 
 enum-told : tie.Need-enum-told
 enum-told c = search needs
 
-refused-requires : tie.Need-refused-requires
-refused-requires c κs = search needs
-
-print-requires : tie.Need-print-requires
-print-requires c κs = search needs
+print-unread-requires : tie.Need-print-unread-requires
+print-unread-requires c κs = search needs
 
 returns : tie.Need-returns
 returns c = search needs
@@ -45,23 +42,23 @@ returns-2 c = search needs
 header-requires : tie.Need-header-requires
 header-requires c κs = search needs
 
-print-requires-2 : tie.Need-print-requires-2
-print-requires-2 c κs = search needs
+print-requires : tie.Need-print-requires
+print-requires c κs = search needs
 
 sub-run : tie.Need-sub-run
 sub-run c =
     let at = c .before .before .before .before .before .before .before in
-    omega (arith, accepted-is-within _ _ _ _ _ (sym (at .before .before .read .ensures) ∙ at .start .given .1) .whole-events)
+    omega (arith, accepted-is-within _ _ _ _ _ (sym (at .before .before .read .ensures) ∙ at .reading .given .1) .whole-events)
 
 part-run-start : tie.Need-part-run-start
 part-run-start c =
     let at = c .before .before .before .before .before .before .before in
-    omega (arith, accepted-is-within _ _ _ _ _ (sym (at .before .before .read .ensures) ∙ at .start .given .1) .whole-events)
+    omega (arith, accepted-is-within _ _ _ _ _ (sym (at .before .before .read .ensures) ∙ at .reading .given .1) .whole-events)
 
 part-run-end : tie.Need-part-run-end
 part-run-end c =
     let at = c .before .before .before .before .before .before .before in
-    omega (arith, accepted-is-within _ _ _ _ _ (sym (at .before .before .read .ensures) ∙ at .start .given .1) .in-file)
+    omega (arith, accepted-is-within _ _ _ _ _ (sym (at .before .before .read .ensures) ∙ at .reading .given .1) .in-file)
 
 run-requires : tie.Need-run-requires
 run-requires c κs = search needs
@@ -74,10 +71,9 @@ replay-spec =
     tie.close
     (tie.spec
     read-requires
-    enum-known-start
+    enum-known-reading
     enum-told
-    refused-requires
-    print-requires
+    print-unread-requires
     returns
     table-of-requires
     open-requires
@@ -86,7 +82,7 @@ replay-spec =
     print-refusal-requires
     returns-2
     header-requires
-    print-requires-2
+    print-requires
     sub-run
     part-run-start
     part-run-end

@@ -9,17 +9,14 @@ use Rattle.show.proofs.show.Tie as tie
 read-requires : tie.Need-read-requires
 read-requires c κs = search needs
 
-enum-known-count : tie.Need-enum-known-count
-enum-known-count c = search needs
+enum-known-reading : tie.Need-enum-known-reading
+enum-known-reading c = search needs
 
 enum-told : tie.Need-enum-told
 enum-told c = search needs
 
-refused-requires : tie.Need-refused-requires
-refused-requires c κs = search needs
-
-print-requires : tie.Need-print-requires
-print-requires c κs = search needs
+tell-unread-requires : tie.Need-tell-unread-requires
+tell-unread-requires c κs = search needs
 
 returns : tie.Need-returns
 returns c = search needs
@@ -28,19 +25,19 @@ table-of-requires : tie.Need-table-of-requires
 table-of-requires c κs = search needs
 
 sub-print-lines : tie.Need-sub-print-lines
-sub-print-lines c = omega (arith, accepted-is-within _ _ _ _ _ (sym (c .before .before .before .before .read .ensures) ∙ c .before .before .count .given .1) .whole-events)
+sub-print-lines c = omega (arith, accepted-is-within _ _ _ _ _ (sym (c .before .before .before .before .read .ensures) ∙ c .before .before .reading .given .1) .whole-events)
 
 part-print-lines-start : tie.Need-part-print-lines-start
-part-print-lines-start c = omega (arith, accepted-is-within _ _ _ _ _ (sym (c .before .before .before .before .read .ensures) ∙ c .before .before .count .given .1) .whole-events)
+part-print-lines-start c = omega (arith, accepted-is-within _ _ _ _ _ (sym (c .before .before .before .before .read .ensures) ∙ c .before .before .reading .given .1) .whole-events)
 
 part-print-lines-end : tie.Need-part-print-lines-end
-part-print-lines-end c = omega (arith, accepted-is-within _ _ _ _ _ (sym (c .before .before .before .before .read .ensures) ∙ c .before .before .count .given .1) .in-file)
+part-print-lines-end c = omega (arith, accepted-is-within _ _ _ _ _ (sym (c .before .before .before .before .read .ensures) ∙ c .before .before .reading .given .1) .in-file)
 
 add-print-lines : tie.Need-add-print-lines
-add-print-lines c = omega (arith, accepted-is-within _ _ _ _ _ (sym (c .before .before .before .before .before .read .ensures) ∙ c .before .before .before .count .given .1) .count-high)
+add-print-lines c = omega (arith, accepted-is-within _ _ _ _ _ (sym (c .before .before .before .before .before .read .ensures) ∙ c .before .before .before .reading .given .1) .count-high)
 
 add-print-lines-2 : tie.Need-add-print-lines-2
-add-print-lines-2 c = omega (arith, accepted-is-within _ _ _ _ _ (sym (c .before .before .before .before .before .read .ensures) ∙ c .before .before .before .count .given .1) .count-high, accepted-is-within _ _ _ _ _ (sym (c .before .before .before .before .before .read .ensures) ∙ c .before .before .before .count .given .1) .events-high)
+add-print-lines-2 c = omega (arith, accepted-is-within _ _ _ _ _ (sym (c .before .before .before .before .before .read .ensures) ∙ c .before .before .before .reading .given .1) .count-high, accepted-is-within _ _ _ _ _ (sym (c .before .before .before .before .before .read .ensures) ∙ c .before .before .before .reading .given .1) .events-high)
 
 print-lines-requires : tie.Need-print-lines-requires
 print-lines-requires c κs = search needs
@@ -53,10 +50,9 @@ show-spec =
     tie.close
     (tie.spec
     read-requires
-    enum-known-count
+    enum-known-reading
     enum-told
-    refused-requires
-    print-requires
+    tell-unread-requires
     returns
     table-of-requires
     sub-print-lines

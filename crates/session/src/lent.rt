@@ -1,6 +1,6 @@
 // The same by lending: a session that is opened with a lent table, and the calls of a session that is kept in place.
 ghost use mathlib.Core.Path.{_≡_};
-ghost use Rattle.table.specs.Reservations.{tableOf, lentTable};
+ghost use Rattle.table.specs.Reservations.{tableOfRecords, lentTable};
 ghost use Rattle.session.specs.Calls.{answerTo};
 ghost use Rattle.session.specs.Opening.{openingOf};
 use crate::Opened;
@@ -22,7 +22,7 @@ impl Session {
 
     // The same with what was taken of it.
     pub fn open_taken(worst: u32, span: u32, padding: u32, records: Records) -> Opened
-        ensures { λ r. ⌜ r ≡ openingOf (tableOf worst span padding (records .rows) (records .count)) ⌝ }
+        ensures { λ r. ⌜ r ≡ openingOf (tableOfRecords worst span padding (records .rows) (records .count)) ⌝ }
     {
         let table = Table::of(worst, span, padding, records);
         Session::open(table)

@@ -1,6 +1,6 @@
 // What is answered to an image, by value.
 ghost use mathlib.Core.Path.{_≡_};
-ghost use Rattle.table.specs.Reservations.{tableOf};
+ghost use Rattle.table.specs.Reservations.{tableOfRecords};
 ghost use Rattle.shelf.specs.Image.{imageOf, refusalIn, openedAs, toldAs, answeredAs, shownOf, viewedAs, stateAs, closingAs};
 ghost use Rattle.shelf.specs.Filed.{readAs, writtenAs};
 use crate::Answered;
@@ -23,7 +23,7 @@ use view::View;
 
 // A session opened with what was taken of a table.
 pub(crate) fn open(worst: u32, span: u32, padding: u32, records: Records) -> Opening
-    ensures { λ r. ⌜ r ≡ openedAs (tableOf worst span padding (records .rows) (records .count)) ⌝ }
+    ensures { λ r. ⌜ r ≡ openedAs (tableOfRecords worst span padding (records .rows) (records .count)) ⌝ }
 {
     let opened = Session::open_taken(worst, span, padding, records);
     let session = Image::of(opened.session);

@@ -21,8 +21,8 @@ unfoldable pub recordsOf : List Reservation → Records
 recordsOf records = record { rows = listTo (recordAt records) streams-max; count = length records }
 
 -- "with three numbers for the whole table": the table of W, H, k, records and a count
-unfoldable pub tableOf : ℕ → ℕ → ℕ → List Reservation → ℕ → Table
-tableOf worst span k records count =
+unfoldable pub tableOfRecords : ℕ → ℕ → ℕ → List Reservation → ℕ → Table
+tableOfRecords worst span k records count =
     record {
       worst = worst;
       span = span;
@@ -34,4 +34,4 @@ tableOf worst span k records count =
 
 -- the table of W, H, k and a lent slice: its count is the slice's length, which admission judges
 abbrev pub lentTable : ℕ → ℕ → ℕ → List Reservation → Table
-lentTable worst span k records = tableOf worst span k records (length records)
+lentTable worst span k records = tableOfRecords worst span k records (length records)

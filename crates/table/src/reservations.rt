@@ -1,6 +1,6 @@
 // A table that comes as a lent slice of reservation records.
 ghost use mathlib.Core.Path.{_≡_};
-ghost use Rattle.table.specs.Reservations.{recordAt, recordsOf, tableOf};
+ghost use Rattle.table.specs.Reservations.{recordAt, recordsOf, tableOfRecords};
 use crate::Table;
 
 // What is booked for one stream.
@@ -51,7 +51,7 @@ pub fn take_in(table: &[Reservation]) -> Records
 impl Table {
     // The table of three numbers and of records that were taken in.
     pub fn of(worst: u32, span: u32, padding: u32, records: Records) -> Table
-        ensures { λ r. ⌜ r ≡ tableOf worst span padding (records .rows) (records .count) ⌝ }
+        ensures { λ r. ⌜ r ≡ tableOfRecords worst span padding (records .rows) (records .count) ⌝ }
     {
         let rows = records.rows;
         let mut reserved = [0u32; 8];

@@ -4,7 +4,7 @@ use mathlib.Core.List.{List}
 use Prim.Native.Nat.{ℕ, _≤_, _-_}
 use native.Mathlib.Omega.{arith}
 use Rattle.table.specs.Fold.{listTo}
-use Rattle.table.specs.Reservations.{recordAt, tableOf}
+use Rattle.table.specs.Reservations.{recordAt, tableOfRecords}
 use Rattle.table.proofs.Lists.{Filled, filled-more, filled-all}
 use Rattle.table.proofs.Table.of.Statement.{statement}
 use Rattle.table.proofs.Table.of.Tie as tie
@@ -56,7 +56,7 @@ loop-again c =
     )
 
 returns : tie.Need-returns Inv-loop μ-loop
-unfolding tableOf
+unfolding tableOfRecords
 returns c =
     let at = c .before .loop in
     let rows = c .before .before .before .args .records .rows in

@@ -1,12 +1,14 @@
 -- The parts of a file, stored from place to place.
+use mathlib.Core.Bool.{true, false}
 use mathlib.Core.Path.{_≡_, refl, sym, ap, _∙_}
 use mathlib.Core.List.{List, _++_}
 use Prim.Native.Nat.{ℕ, suc, _+_, _*_, _≤_, _<_}
-use borrow.Author.Tests.{lt-ltb, le-ltb}
+use borrow.Author.Tests.{le-leb, lt-leb}
 use native.Mathlib.Omega.{arith}
 use lib.ListN.{length, drop, length-append}
 use lib.Seq.{sets}
 use Rattle.table.specs.Fold.{if}
+use Rattle.table.specs.Refusal.{given, _or-next_}
 use Rattle.table.specs.Admission.{reservedAt, periodAt}
 use Rattle.table.specs.declared.Table.{Table}
 use Rattle.cells.specs.Cells.{cell}
@@ -14,7 +16,7 @@ use Rattle.cells.proofs.Numbers.{length-cell}
 use Rattle.cells.proofs.Runs.{sets-next, sets-start, Wrote, wrote-more}
 use Rattle.file.specs.File.{entry, contents, table-start, streamCells, tableBody, event-size, eventCells, bytesOf, fileOf}
 use Rattle.file.specs.Reading.{eventsIn}
-use Rattle.file.specs.Writing.{withEvent}
+use Rattle.file.specs.Writing.{isStorable, putRefusal, withEvent}
 use Rattle.file.specs.declared.event.Event.{Event}
 use Rattle.file.proofs.Lengths.{length-contents, length-streams, length-four}
 
@@ -77,19 +79,20 @@ event-stored out at kind stream value =
     )
     (sets-next (a ++ cell 6 0) (cell 8 value) out at 8 eight)
 
--- an event is stored below the number of whole ones, and past it nothing
-pub stored-past : (trace : List ℕ) (i : ℕ) (e : Event) → eventsIn trace ≤ i → trace ≡ withEvent trace i e
-unfolding withEvent if
-stored-past trace i e h = rw (le-ltb i (eventsIn trace) h)
+-- what is not stored: an event without bytes, and one past the last whole one
+pub refused-unstorable : (trace : List ℕ) (i : ℕ) (e : Event) → isStorable e ≡ false → (16 ≡ putRefusal trace i e) × (trace ≡ withEvent trace i e)
+unfolding withEvent putRefusal given _or-next_ if
+refused-unstorable trace i e h = rw h (refl, refl)
 
-pub stored-there : (trace : List ℕ) (i : ℕ) {e known : Event} → e ≡ known → i < eventsIn trace
-    → sets trace (event-size * i) (bytesOf known) ≡ withEvent trace i e
-unfolding withEvent if
-stored-there trace i is h = rw (is, lt-ltb i (eventsIn trace) h)
+pub refused-past : (trace : List ℕ) (i : ℕ) (e : Event) → isStorable e ≡ true → eventsIn trace ≤ i → (17 ≡ putRefusal trace i e) × (trace ≡ withEvent trace i e)
+unfolding withEvent putRefusal given _or-next_ if
+refused-past trace i e h past = rw (h, le-leb (eventsIn trace) i past) (refl, refl)
 
-pub now-stored : (trace : List ℕ) (i : ℕ) {e known : Event} {after : List ℕ} → after ≡ sets trace (event-size * i) (bytesOf known) → e ≡ known → i < eventsIn trace
-    → after ≡ withEvent trace i e
-now-stored trace i stored is h = stored ∙ stored-there trace i is h
+-- any other is
+pub stored-there : (trace : List ℕ) (i : ℕ) (e : Event) → isStorable e ≡ true → i < eventsIn trace
+    → (0 ≡ putRefusal trace i e) × (sets trace (event-size * i) (bytesOf e) ≡ withEvent trace i e)
+unfolding withEvent putRefusal given _or-next_ if
+stored-there trace i e h there = rw (h, lt-leb (eventsIn trace) i there) (refl, refl)
 
 pub file-parts : (t : Table) (trace : List ℕ) → fileOf t trace ≡ contents (length (tableBody t)) (length trace) ++ tableBody t ++ trace
 unfolding fileOf

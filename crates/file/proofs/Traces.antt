@@ -14,6 +14,7 @@ use Rattle.table.proofs.Lists.{relisted}
 use Rattle.cells.specs.Cells.{cell, Bytes}
 use Rattle.file.specs.File.{event-size, eventCells, bytesOf, traceOf}
 use Rattle.file.specs.Reading.{eventsIn, eventAt, formed, isTrace}
+use Rattle.file.specs.Writing.{isStorable}
 use Rattle.file.specs.Laws.{Coded, StoredReadsBack, AllCoded, TraceReadsBack, TraceWritesBack}
 use Rattle.file.specs.declared.event.Event.{Event}
 use Rattle.file.specs.declared.event.Event.the-variants.{Arrival, Turn, OwnTurn, Done, Clock, Malformed}
@@ -33,14 +34,25 @@ length-event (Done duration) c = refl
 length-event (Clock time) c = refl
 length-event Malformed c = absurd c
 
+-- what has room in its cells has bytes
+pub coded-storable : (e : Event) → Coded e → isStorable e ≡ true
+unfolding isStorable
+coded-storable (Arrival stream place) c = le-leb stream 255 (omega (arith, c .0))
+coded-storable Turn c = refl
+coded-storable (OwnTurn stream index) c = le-leb stream 255 (omega (arith, c .0))
+coded-storable (Done duration) c = refl
+coded-storable (Clock time) c = refl
+coded-storable Malformed c = absurd c
+
 pub stored-reads-back : StoredReadsBack
 stored-reads-back trace i e c h =
     let at = event-size * i in
     let size = length-event e c in
     let front : length (take at trace) ≡ at = length-take-le at trace (omega arith) in
     let parts = sets-eq (bytesOf e) trace at (omega (arith, size)) ∙ append-assoc (take at trace) (bytesOf e) (drop (at + length (bytesOf e)) trace) in
-    rw (← stored-there trace i refl h)
-    (ap (λ l. eventAt l i) parts ∙ event-reads-back e (take at trace) (drop (at + length (bytesOf e)) trace) i c front, length-sets trace at (bytesOf e))
+    let stored = stored-there trace i e (coded-storable e c) h in
+    rw (← stored .1)
+    (sym (stored .0), ap (λ l. eventAt l i) parts ∙ event-reads-back e (take at trace) (drop (at + length (bytesOf e)) trace) i c front, length-sets trace at (bytesOf e))
 
 coded-formed : (e : Event) → Coded e → formed e ≡ true
 coded-formed (Arrival stream place) c = refl

@@ -11,7 +11,7 @@ use Rattle.table.specs.declared.Table.{Table}
 use Rattle.cells.specs.Cells.{Bytes}
 use Rattle.file.specs.File.{event-size, events-max, bytesOf, traceOf, table-start, fileOf}
 use Rattle.file.specs.Reading.{eventsIn, eventAt, formed, isTrace, tableLength, part, tableIn, traceIn, column, isLaidOut, readOf}
-use Rattle.file.specs.Writing.{isWritable, writeOf, writtenOn, withEvent}
+use Rattle.file.specs.Writing.{isWritable, writeOf, writtenOn, putRefusal, withEvent}
 use Rattle.file.specs.Listing.{listing-table, listing-events, listing-file}
 use Rattle.file.specs.declared.Reading.the-variants.{LaidOut}
 use Rattle.file.specs.declared.Writing.the-variants.{Written, Refused}
@@ -115,11 +115,11 @@ EventWritesBack =
     (trace : List ℕ) (i : ℕ) → Bytes trace → formed (eventAt trace i) ≡ true
     → Coded (eventAt trace i) × (bytesOf (eventAt trace i) ≡ take event-size (drop (event-size * i) trace))
 
--- an event that was stored in a trace is read from it, and the trace is as long as before
+-- an event that was stored in a trace is read from it, and the trace is as long as before; one that has room in its cells is stored wherever the trace has a place
 abbrev pub StoredReadsBack : Type 0
 StoredReadsBack =
     (trace : List ℕ) (i : ℕ) (e : Event) → Coded e → i < eventsIn trace
-    → (eventAt (withEvent trace i e) i ≡ e) × (length (withEvent trace i e) ≡ length trace)
+    → (putRefusal trace i e ≡ 0) × (eventAt (withEvent trace i e) i ≡ e) × (length (withEvent trace i e) ≡ length trace)
 
 abbrev pub AllCoded : List Event → Type 0
 AllCoded [] = Unit

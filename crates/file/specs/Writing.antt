@@ -1,5 +1,5 @@
 -- Writing a session file, and an event of a trace, into a buffer that is lent.
-use mathlib.Core.Bool.{Bool, not, _&&_}
+use mathlib.Core.Bool.{Bool, true, false, not, _&&_}
 use mathlib.Core.List.{List, _++_}
 use Prim.Native.Nat.{ℕ, _*_}
 use lib.Dec.{leb, ltb, eqb}
@@ -14,6 +14,7 @@ use Rattle.file.specs.Reading.{eventsIn, isTrace}
 use Rattle.file.specs.declared.Writing.{Writing}
 use Rattle.file.specs.declared.Writing.the-variants.{Written, Refused}
 use Rattle.file.specs.declared.event.Event.{Event}
+use Rattle.file.specs.declared.event.Event.the-variants.{Arrival, Turn, OwnTurn, Done, Clock, Malformed}
 
 -- "it writes count up to 8 and up to 4,000 events of the above form"
 unfoldable pub isWritable : Table → List ℕ → Bool
@@ -35,6 +36,21 @@ unfoldable pub writtenOn : Table → List ℕ → List ℕ → List ℕ
 writtenOn t trace out =
     if (eqb (writeRefusal t trace (length out)) 0) (fileOf t trace ++ drop (length (fileOf t trace)) out) out
 
--- a trace with an event stored at i, counted from 0; past the last whole one it stays as it is
+-- an event that has bytes: it is not malformed, and its stream has room in one byte
+unfoldable pub isStorable : Event → Bool
+isStorable (Arrival stream place) = leb stream 255
+isStorable Turn = true
+isStorable (OwnTurn stream index) = leb stream 255
+isStorable (Done duration) = true
+isStorable (Clock time) = true
+isStorable Malformed = false
+
+-- Of an event to be stored at i of a trace, counted from 0: 16 "file or event not as laid out", 17 past the last whole one
+unfoldable pub putRefusal : List ℕ → ℕ → Event → ℕ
+putRefusal trace i e =
+    given (not (isStorable e)) 16
+    or-next given (leb (eventsIn trace) i) 17
+
+-- a trace with an event stored at i; where that is refused it stays as it is
 unfoldable pub withEvent : List ℕ → ℕ → Event → List ℕ
-withEvent trace i e = if (ltb i (eventsIn trace)) (sets trace (event-size * i) (bytesOf e)) trace
+withEvent trace i e = if (eqb (putRefusal trace i e) 0) (sets trace (event-size * i) (bytesOf e)) trace

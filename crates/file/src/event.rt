@@ -5,9 +5,9 @@ ghost use mathlib.Core.Path.{_≡_};
 ghost use Prim.Native.Nat.{_+_, _≤_, _^_};
 ghost use lib.Seq.{sets};
 ghost use Rattle.table.specs.Fold.{allTo};
-ghost use Rattle.file.specs.File.{eventCells};
+ghost use Rattle.file.specs.File.{eventCells, bytesOf};
 ghost use Rattle.file.specs.Reading.{eventOf, eventAt, formed, isTrace};
-ghost use Rattle.file.specs.Writing.{withEvent};
+ghost use Rattle.file.specs.Writing.{isStorable, putRefusal, withEvent};
 
 // What an event asks for. Streams are counted from 1, a queue's places from 0.
 pub enum Event {
@@ -23,6 +23,9 @@ impl Event {
     pub const SIZE: usize = 16;
 
     pub const MOST: usize = 4_000;
+
+    // The most that the byte of a stream holds.
+    const STREAM_MAX: u64 = 255;
 }
 
 // The event at i of a trace, counted from 0; past the last one, Malformed.
@@ -71,14 +74,38 @@ fn event_of(kind: u64, stream: u64, value: u64) -> Event
     Event::Malformed
 }
 
-// Stores an event at i of a trace; past the last one, nothing.
-pub fn put_event(trace: &mut [u8], i: usize, event: Event)
+// Stores an event at i of a trace, counted from 0: 0, or 16, 17 and nothing is stored.
+pub fn put_event(trace: &mut [u8], i: usize, event: Event) -> u64
+    ensures { λ r. ⌜ r ≡ putRefusal (now (trace .entry)) i event ⌝ }
     ensures { λ _. ⌜ now (trace .exit) ≡ withEvent (now (trace .entry)) i event ⌝ }
 {
-    if trace.len() / Event::SIZE <= i {
-        return;
+    if !is_storable(event) {
+        return 16;
     }
-    let at = Event::SIZE * i;
+    if trace.len() / Event::SIZE <= i {
+        return 17;
+    }
+    put_bytes_of(trace, Event::SIZE * i, event);
+    0
+}
+
+// Whether an event has bytes: it is not malformed, and its stream has room in one byte.
+fn is_storable(event: Event) -> bool
+    ensures { λ r. ⌜ r ≡ isStorable event ⌝ }
+{
+    match event {
+        Event::Arrival { stream, place: _ } => stream <= Event::STREAM_MAX,
+        Event::OwnTurn { stream, index: _ } => stream <= Event::STREAM_MAX,
+        Event::Turn | Event::Done { duration: _ } | Event::Clock { time: _ } => true,
+        Event::Malformed => false,
+    }
+}
+
+// Stores the bytes of an event from an index on; of a malformed one there are none.
+fn put_bytes_of(trace: &mut [u8], at: usize, event: Event)
+    requires { ⌜ at + 16 ≤ 2 ^ 63 ⌝ }
+    ensures { λ _. ⌜ now (trace .exit) ≡ sets (now (trace .entry)) at (bytesOf event) ⌝ }
+{
     match event {
         Event::Arrival { stream, place } => put_cells(trace, at, 1, stream, place),
         Event::Turn => put_cells(trace, at, 2, 0, 0),

@@ -21,7 +21,7 @@ use Rattle.file.proofs.Accepted.{read-accepted}
 use Rattle.file.proofs.Events.{event-writes-back}
 use Rattle.file.proofs.Round.{table-read-is-trimmed, accepted-is-within, accepted-writes-back}
 use Rattle.file.proofs.Stores.{stored-there}
-use Rattle.file.proofs.Traces.{length-event}
+use Rattle.file.proofs.Traces.{length-event, coded-storable}
 use Rattle.listing.specs.Line.{rendered}
 use Rattle.notes.specs.declared.Notes.{Notes}
 use Rattle.notes.specs.declared.line.Line.{Line}
@@ -90,7 +90,7 @@ module _ (trace : List ℕ) (b : Bytes trace) (well : (i : ℕ) → i < eventsIn
       let w = event-writes-back trace e b (well e (omega arith)) in
       let here : e < eventsIn (stored buffer trace e) = omega (arith, q .1, room, h) in
       let size : length (bytesOf (eventAt trace e)) ≡ event-size = length-event (eventAt trace e) (w .0) in
-      rw (← stored-there (stored buffer trace e) e refl here)
+      rw (← stored-there (stored buffer trace e) e (eventAt trace e) (coded-storable (eventAt trace e) (w .0)) here .1)
       (one-more (stored buffer trace e) (bytesOf (eventAt trace e)) e here size (q .0) (w .1), length-sets (stored buffer trace e) (event-size * e) (bytesOf (eventAt trace e)) ∙ q .1)
 
 -- ---- the lines, one after the other

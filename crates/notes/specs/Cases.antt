@@ -2,7 +2,7 @@
 use mathlib.Core.List.{List, [], _∷_}
 use Prim.Native.String.{String}
 use Rattle.notes.specs.declared.Composed.{Composed}
-use Rattle.notes.specs.declared.Composed.the-variants.{Written, Wrong, Unfinished}
+use Rattle.notes.specs.declared.Composed.the-variants.{Written, Wrong, Unfinished, Refused}
 use Rattle.notes.specs.declared.Expected.the-variants.{Worst, Span, Padding, StreamOrEvent, Event}
 
 pub record Case : Type 0 where
@@ -32,4 +32,6 @@ cases =
     ∷ gives "worst 1\nspan 1\npadding 1\nown 1 0 0\n" (Wrong 4 StreamOrEvent)
     ∷ gives "worst 1\nspan 1\npadding 1\ndone\t1\n" (Wrong 4 StreamOrEvent)
     ∷ gives "worst 1\nspan 1\npadding 1\nturn\nTurn\n" (Wrong 5 Event)
+    ∷ gives "worst 1\nspan 1\npadding 1\nturn\nturn\n" (Written 74)
+    ∷ gives "worst 1\nspan 1\npadding 1\nturn\nturn\nturn\n" (Refused 17)
     ∷ []

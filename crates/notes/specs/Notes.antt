@@ -158,7 +158,7 @@ told (Writing.Refused number) = Refused number
 abbrev pub traceOfNotes : Notes → List ℕ → List ℕ
 traceOfNotes n trace = take (event-size * n .events) trace
 
--- Notes that are right and whole are written as a session file; of others nothing is. 17 is for a trace that is shorter than its events, which no notes have that were read into it.
+-- Notes that are right and whole are written as a session file; of others nothing is. 17 is for a trace that has no room for all events that were read.
 unfoldable pub filedBy : Notes → List ℕ → List ℕ → Filed
 filedBy n trace out =
     if (n .wrong) (filed (Wrong (n .line) (expectedBy n)) out)

@@ -98,7 +98,7 @@ fn end_line(notes: Notes, trace: &mut [u8]) -> Notes
     next
 }
 
-// Stores the event of a line at i of a trace; of another line nothing.
+// Stores the event of a line at i of a trace; of another line nothing. An event that the trace has no room for is counted all the same, and `filed` answers 17.
 fn put_line(trace: &mut [u8], i: usize, line: Line)
     ensures { λ _. ⌜ now (trace .exit) ≡ traceAfter (now (trace .entry)) i line ⌝ }
 {

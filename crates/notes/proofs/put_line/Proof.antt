@@ -34,7 +34,7 @@ returns : tie.Need-returns
 returns c =
     let called = c .before .before in
     let a = called .before .before .before .before .before .before .args in
-    called .put-event .ensures ∙ ap (λ (line : Line). traceAfter (a .trace .now) (a .i) line) (sym (called .before .before .before .line .given .1))
+    called .put-event .ensures .1 ∙ ap (λ (line : Line). traceAfter (a .trace .now) (a .i) line) (sym (called .before .before .before .line .given .1))
 
 returns-2 : tie.Need-returns-2
 returns-2 c = let a = c .before .before .args in kept (a .trace .now) (a .i) (a .line) (c .match .keys2)

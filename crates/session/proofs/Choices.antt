@@ -10,7 +10,7 @@ use lib.Dec.{ltb}
 use borrow.Author.Tests.{ltb-true, ltb-false, le-ltb, eq-eqb}
 use Rattle.table.proofs.Tests.{neither, le-or-lt}
 use Rattle.table.proofs.Folds.{some-positive}
-use Rattle.stream.specs.Stream.{Fraction}
+use Rattle.time.specs.Exact.{Fraction}
 use Rattle.session.specs.Session.{streamAt, slotsAt, filledAt, someFilled, noSlot}
 use Rattle.stream.specs.Choice.{distance, expiryOf, expiresFirst}
 use Rattle.session.specs.Choice.{nearestAt, distanceAt, sentBefore, chosen, expiresBefore, expiring}

@@ -5,7 +5,7 @@ use Prim.Native.Nat.{ℕ, _+_}
 use lib.Dec.{ltb}
 use lib.ListN.{getD}
 use Rattle.table.specs.Fold.{if}
-use Rattle.time.specs.Time.{moment, diskTime}
+use Rattle.time.specs.Time.{moment}
 use Rattle.stream.specs.Stream.{arrived, without, charged, lapsed}
 use Rattle.session.specs.Session.{streamAt, latest, withStream, withDisk}
 use Rattle.session.specs.Calls.{refuse, append, send, wait, expire, finish, set-clock, overlong, late, apply, replyTo, outcome}
@@ -47,14 +47,14 @@ module _ (s : Session) where
   waits until e = rw e
 
   -- a completion, overlong or not
-  module _ (i d : ℕ) (taken : Charge) (y : Stream) (now : Clock) (is : taken ≡ diskTime d) (stored : y ≡ charged (taken .0) (streamAt s i)) (grown : now ≡ moment (s .clock .0 + taken .0)) where
-    pub finishes-overlong : ltb (s .worst) d ≡ true → with-reply (withDisk (withStream s i y) now (s .head) 0 0) (Reply.Overlong (i + 1) (y .charge)) ≡ outcome s (finish i d)
+  module _ (i : ℕ) (taken : Charge) (y : Stream) (now : Clock) (stored : y ≡ charged (taken .0) (streamAt s i)) (grown : now ≡ moment (s .clock .0 + taken .0)) where
+    pub finishes-overlong : ltb (s .worst) (taken .0) ≡ true → with-reply (withDisk (withStream s i y) now (s .head) 0 0) (Reply.Overlong (i + 1) (y .charge)) ≡ outcome s (finish i (taken .0))
     unfolding apply replyTo charged overlong if
-    finishes-overlong long = rw (stored, grown, is, long)
+    finishes-overlong long = rw (stored, grown, long)
 
-    pub finishes : ltb (s .worst) d ≡ false → with-reply (withDisk (withStream s i y) now (s .head) 0 0) (Reply.Done (i + 1) (y .charge)) ≡ outcome s (finish i d)
+    pub finishes : ltb (s .worst) (taken .0) ≡ false → with-reply (withDisk (withStream s i y) now (s .head) 0 0) (Reply.Done (i + 1) (y .charge)) ≡ outcome s (finish i (taken .0))
     unfolding apply replyTo charged overlong if
-    finishes short = rw (stored, grown, is, short)
+    finishes short = rw (stored, grown, short)
 
   -- a report of the time, late or not
   module _ (now : Clock) where

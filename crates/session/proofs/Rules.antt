@@ -3,7 +3,8 @@ use Prim.Native.Nat.{ℕ}
 use Rattle.table.specs.Fold.{if, sumTo, smallestTo, allTo, someTo, listTo, countTo}
 use Rattle.table.specs.Refusal.{given, _or-next_, firstTo, outside}
 use Rattle.table.specs.Admission.{paddingOf, grantedOf, shareOf, sharesOf, smallestPeriod, loadOf, numbersRefusal, streamRefusal, streamsRefusal, admissionOf, answered}
-use Rattle.stream.specs.Stream.{slots, filled, less, same, microDeadline, shifted, arrived, without, charged, lapsed, closed, moved, soundQueue, soundCells, soundStream, zeroJob, unusedStream, freshStream}
+use Rattle.time.specs.Exact.{less, same}
+use Rattle.stream.specs.Stream.{slots, filled, microDeadline, shifted, arrived, without, charged, lapsed, closed, moved, soundQueue, soundCells, soundStream, zeroJob, unusedStream, freshStream}
 use Rattle.session.specs.Session.{horizon, someFilled, noSlot, latest, soundDisk, soundRest, usedStreams, sound}
 use Rattle.stream.specs.Choice.{firstBest, distance, nearest, expiresFirst}
 use Rattle.session.specs.Choice.{sentBefore, chosen, expiring}

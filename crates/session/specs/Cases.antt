@@ -5,7 +5,8 @@ use lib.ListN.{length, replicate, take}
 use Rattle.table.specs.Ranges.{streams-max}
 use Rattle.table.specs.Admission.{admissionOf}
 use Rattle.table.specs.declared.Table.{Table}
-use Rattle.stream.specs.Stream.{Fraction, slots, microDeadline, charged, freshStream}
+use Rattle.time.specs.Exact.{Fraction}
+use Rattle.stream.specs.Stream.{slots, microDeadline, charged, freshStream}
 use Rattle.session.specs.Session.{streamAt}
 use Rattle.session.specs.Calls.{Line, after, linesFrom}
 use Rattle.session.specs.Opening.{openingOf}

@@ -26,6 +26,6 @@ impl Session {
         if now.is_past_end() {
             return self.refuse(14);
         }
-        self.finish(self.served - 1, duration)
+        self.finish(self.served - 1, taken)
     }
 }

@@ -122,12 +122,11 @@ impl Session {
     }
 
     // The request at the disk has ended, and its stream is charged.
-    pub(crate) fn finish(mut self, n: usize, duration: u64) -> Answer
-        requires { ⌜ Due self (finish n duration) ⌝ }
-        ensures { λ r. ⌜ r ≡ outcome self (finish n duration) ⌝ }
+    pub(crate) fn finish(mut self, n: usize, taken: Charge) -> Answer
+        requires { ⌜ Due self (finish n (taken .0)) ⌝ }
+        ensures { λ r. ⌜ r ≡ outcome self (finish n (taken .0)) ⌝ }
     {
-        let overlong = (self.worst as u64) < duration;
-        let taken = Charge::of(duration);
+        let overlong = taken.is_over(self.worst);
         let end = self.clock.after(taken);
         let x = self.streams[n];
         let y = x.charged(taken);

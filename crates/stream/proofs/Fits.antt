@@ -2,16 +2,18 @@
 use mathlib.Core.Bool.{false}
 use mathlib.Core.Path.{_≡_}
 use Prim.Native.Nat.{ℕ, _+_, _-_, _*_, _/_, _%_, _^_, _≤_}
-use native.Mathlib.Nat.{mul-le-mul, mul-le-mul-right, mul-right-comm, mul-div-le, le-trans, lt-of-le-of-lt, div-le-self, mod-lt, le-mul-of-pos-right}
+use native.Mathlib.Nat.{mul-le-mul, mul-le-mul-right, mul-right-comm, mul-div-le, le-trans, lt-of-le-of-lt, mod-lt, div-add-mod', le-mul-of-pos-right}
 use native.Mathlib.Omega.{arith}
 use lib.Dec.{T, ltb, lit<}
 use mir.Syntax.{w64}
 use mir.Val.{Fits}
-use Rattle.time.specs.Time.{session-end, duration-max, diskTime}
+use Rattle.time.specs.Time.{session-end, duration-max, parts-max, diskTime}
+use Rattle.time.specs.Exact.{paced, fractionOf, Proper}
 use Rattle.table.specs.Ranges.{worst-max, span-max, period-max}
 use Rattle.table.specs.Refusal.{outside}
 use Rattle.table.proofs.Tests.{within}
 use Rattle.stream.specs.Bounds.{Bounded}
+use Rattle.stream.specs.Choice.{expiryOf}
 use Rattle.time.specs.declared.Charge.{Charge}
 use Rattle.stream.specs.declared.Stream.{Stream}
 
@@ -33,26 +35,34 @@ module _ {worst h : ℕ} {x : Stream} (q : Bounded worst h x) where
   pub ahead-high : h - x .release .0 ≤ period-max
   ahead-high = omega (arith, q .ahead, q .due, q .period-high)
 
-  pub room-fits : Fits w64 ((h - x .release .0) * x .granted .0)
-  room-fits = mul-fits period-max period-max ahead-high (omega (arith, q .budget-high, q .period-high)) tt
+  pub room-high : x .granted .0 * (h - x .release .0) ≤ parts-max
+  room-high =
+      let budget : x .granted .0 ≤ period-max = omega (arith, q .budget-high, q .period-high) in
+      let most : x .granted .0 * (h - x .release .0) ≤ period-max * period-max = mul-le-mul {n₂ = period-max} {m₂ = period-max} budget ahead-high in
+      omega (arith, most)
 
-  pub used-fits : Fits w64 (x .charge .0 * x .period)
-  used-fits = mul-fits charge-max period-max charge-high (q .period-high) tt
+  pub used-high : x .charge .0 * x .period ≤ parts-max
+  used-high =
+      let most : x .charge .0 * x .period ≤ charge-max * period-max = mul-le-mul {n₂ = charge-max} {m₂ = period-max} charge-high (q .period-high) in
+      omega (arith, most)
 
   pub step-fits : Fits w64 (worst * x .period)
   step-fits = mul-fits worst-max period-max (q .worst-high) (q .period-high) tt
 
-  pub whole-fits : Fits w64 (x .release .0 + x .charge .0 * x .period / x .granted .0)
-  whole-fits =
-      let used : x .charge .0 * x .period ≤ charge-max * period-max = mul-le-mul {n₂ = charge-max} {m₂ = period-max} charge-high (q .period-high) in
-      omega (arith, q .due, q .deadline-high, div-le-self (x .charge .0 * x .period) (x .granted .0))
+  -- r + c × p / g leaves less than a microsecond over, and is the fraction of the rules
+  pub pace-proper : Proper (paced (x .release .0) (x .charge .0) (x .period) (x .granted .0))
+  pace-proper =
+      record {
+        rest-low = mod-lt (x .charge .0 * x .period) (q .budget-low);
+        below-high = omega (arith, q .budget-high, q .period-high);
+      }
 
-  pub rest-fits : {y : Stream} → Bounded worst h y → (n : ℕ) → Fits w64 (n % x .granted .0 * y .granted .0)
-  rest-fits other n =
-      mul-fits period-max period-max
-      (omega (arith, mod-lt n (q .budget-low), q .budget-high, q .period-high))
-      (omega (arith, other .budget-high, other .period-high))
-      tt
+  pub pace-is : fractionOf (paced (x .release .0) (x .charge .0) (x .period) (x .granted .0)) ≡ expiryOf x
+  pace-is =
+      let used = x .charge .0 * x .period in
+      let above : (x .release .0 + used / x .granted .0) * x .granted .0 + used % x .granted .0 ≡ x .release .0 * x .granted .0 + used =
+      omega (arith, div-add-mod' used (x .granted .0)) in
+      λ i. record { above = above i; below = x .granted .0 }
 
   pub expired-high : x .expired ≤ charge-max
   expired-high = omega (arith, charge-high, q .expiries, le-mul-of-pos-right (x .expired) (q .worst-low))

@@ -3,7 +3,6 @@ pub mod Queue
 pub mod Orderly
 pub mod Queues
 pub mod Fits
-pub mod Fractions
 pub mod Best
 pub mod Ranks
 pub mod First

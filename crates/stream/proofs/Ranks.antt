@@ -6,7 +6,7 @@ use native.Mathlib.Nat.{mul-le-mul-right, le-of-mul-le-mul-right}
 use native.Mathlib.Omega.{arith}
 use lib.Dec.{ltb, eqb}
 use borrow.Author.Tests.{ltb-true, ltb-false, eqb-true, le-ltb, eq-eqb}
-use Rattle.stream.specs.Stream.{Fraction, less, same}
+use Rattle.time.specs.Exact.{Fraction, less, same}
 
 -- of two indices below n at most one goes before the other; and where a does not go before b, nor b before c, a does not go before c
 pub record Ranks (before : ℕ → ℕ → Bool) (n : ℕ) : Type 0 where

@@ -5,7 +5,7 @@ use Prim.Native.Nat.{ℕ, zero, suc, _+_, _-_, _*_}
 use lib.ListN.{getD}
 use lib.Dec.{ltb}
 use Rattle.table.specs.Fold.{if}
-use Rattle.stream.specs.Stream.{Fraction, less, same}
+use Rattle.time.specs.Exact.{Fraction, less, same}
 use Rattle.stream.specs.declared.Stream.{Stream}
 
 -- of the indices below n that pass, the first that no other beats: of equals the lower one; 0 where none passes

@@ -8,6 +8,7 @@ use lib.Dec.{leb, ltb, eqb}
 use Rattle.table.specs.Fold.{if, allTo}
 use Rattle.table.specs.Admission.{grantedOf}
 use Rattle.time.specs.Time.{session-end, duration-max, moment, diskTime}
+use Rattle.time.specs.Exact.{Fraction}
 use Rattle.time.specs.declared.Clock.{Clock}
 use Rattle.stream.specs.declared.Job.{Job}
 use Rattle.stream.specs.declared.Stream.{Stream}
@@ -39,17 +40,6 @@ slots worst h x = ((h - x .release .0) * x .granted .0 - x .charge .0 * x .perio
 -- "Filled slots: the smaller of s and the queue length; the first so many queued requests are the set (000's DSS)."
 unfoldable pub filled : ℕ → ℕ → Stream → ℕ
 filled worst h x = min (slots worst h x) (x .queued)
-
--- an exact fraction, and the order of two
-pub record Fraction : Type 0 where
-  pub above : ℕ
-  pub below : ℕ
-
-unfoldable pub less : Fraction → Fraction → Bool
-less a b = ltb (a .above * b .below) (b .above * a .below)
-
-unfoldable pub same : Fraction → Fraction → Bool
-same a b = eqb (a .above * b .below) (b .above * a .below)
 
 -- "The micro-deadline of slot n is r + (c + n × W) × p / g, a fraction, never rounded."
 unfoldable pub microDeadline : ℕ → Stream → ℕ → Fraction

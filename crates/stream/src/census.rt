@@ -59,7 +59,7 @@ impl Census {
         }
         let horizon = self.horizon.earlier(x.deadline);
         let released = self.released.later(x.release);
-        let share = x.granted.micros() * (self.span / x.period) as u64;
+        let share = x.granted.times((self.span / x.period) as u64);
         next.horizon = horizon;
         next.released = released;
         next.shares = self.shares + share;

@@ -31,7 +31,7 @@ pub fn summed(sums: Sums, x: Stream, span: u32, h: Clock) -> Sums
     ensures { λ r. ⌜ r ≡ record { charges = diskTime (sums .charges .0 + x .charge .0); parts = sums .parts + (h .0 - x .release .0) * x .granted .0 * (span / x .period) } ⌝ }
 {
     let charges = sums.charges.plus(x.charge);
-    let part = h.since(x.release) * x.granted.micros() * (span / x.period) as u64;
+    let part = x.granted.times(h.since(x.release)) * (span / x.period) as u64;
     Sums {
         charges: charges,
         parts: sums.parts + part,
@@ -57,19 +57,13 @@ pub fn better(best: Lapse, other: Stream, i: usize, x: Stream, worst: u32, h: Cl
     }
 }
 
-// Which of two streams loses a slot first: whole parts, then remainders crosswise, then deadlines, so that 64 bits are enough.
+// Which of two streams loses a slot first: that whose r + c × p / g is least, and of equals that with the earlier deadline.
 fn expires_before(a: Stream, b: Stream) -> bool
     requires { ⌜ ((worst : ℕ) × (h : ℕ) × Bounded worst h a × Bounded worst h b) ⌝ }
     ensures { λ r. ⌜ r ≡ expiresFirst a b ⌝ }
 {
-    let of_a = a.charge.micros() * a.period as u64;
-    let of_b = b.charge.micros() * b.period as u64;
-    let budget_a = a.granted.micros();
-    let budget_b = b.granted.micros();
-    let whole_a = a.release.micros() + of_a / budget_a;
-    let whole_b = b.release.micros() + of_b / budget_b;
-    let rest_a = of_a % budget_a * budget_b;
-    let rest_b = of_b % budget_b * budget_a;
+    let of_a = a.release.paced(a.charge, a.period, a.granted);
+    let of_b = b.release.paced(b.charge, b.period, b.granted);
     let due = b.deadline.is_after(a.deadline);
-    (whole_a < whole_b) | ((whole_a == whole_b) & ((rest_a < rest_b) | ((rest_a == rest_b) & due)))
+    of_a.is_before(of_b) | (of_a.is(of_b) & due)
 }

@@ -82,8 +82,8 @@ impl Stream {
         requires { ⌜ Bounded worst (h .0) self ⌝ }
         ensures { λ r. ⌜ r ≡ slots worst (h .0) self ⌝ }
     {
-        let room = h.since(self.release) * self.granted.micros();
-        let used = self.charge.micros() * self.period as u64;
+        let room = self.granted.times(h.since(self.release));
+        let used = self.charge.times(self.period as u64);
         if room < used {
             return 0;
         }

@@ -2,6 +2,7 @@
 ghost use mathlib.Core.Path.{_≡_};
 ghost use Prim.Native.Nat.{_+_, _-_, _*_, _/_, _≤_, _<_, min, max};
 ghost use lib.Dec.{leb, ltb, eqb};
+ghost use Rattle.time.specs.Exact.{less, same, paced, fractionOf, Proper};
 ghost use Rattle.time.specs.Time.{moment, diskTime, session-end, duration-max, parts-max};
 
 // A moment of clock time.
@@ -11,6 +12,13 @@ pub struct Clock(u64);
 // An amount of disk time.
 #[repr(C)]
 pub struct Charge(u64);
+
+// An exact moment of clock time, which is not rounded: whole microseconds, and a rest over `below`.
+pub struct Exact {
+    whole: u64,
+    rest: u64,
+    below: u64,
+}
 
 impl Clock {
     // No clock and no deadline passes the session's end.
@@ -92,7 +100,7 @@ impl Clock {
         Clock(self.0 + length as u64)
     }
 
-    // The first of two crossings from disk time to clock time: the clock when a request has taken that long.
+    // The first of three crossings from disk time to clock time: the clock when a request has taken that long.
     pub fn after(self, duration: Charge) -> Clock
         requires { ⌜ (self .0 ≤ session-end) × (duration .0 ≤ session-end) ⌝ }
         ensures { λ r. ⌜ r ≡ moment (self .0 + duration .0) ⌝ }
@@ -107,6 +115,38 @@ impl Clock {
     {
         let up = (parts + (span as u64 - 1)) / span as u64;
         Clock(self.0 + charges.0 - up)
+    }
+
+    // The third: this release and a charge that was had at the pace of a budget in a period, r + c × p / g, never rounded.
+    pub fn paced(self, charge: Charge, period: u32, budget: Charge) -> Exact
+        requires { ⌜ (0 < budget .0) × (self .0 ≤ session-end) × (charge .0 * period ≤ parts-max) ⌝ }
+        ensures { λ r. ⌜ r ≡ paced (self .0) (charge .0) period (budget .0) ⌝ }
+    {
+        let due = charge.0 * period as u64;
+        Exact {
+            whole: self.0 + due / budget.0,
+            rest: due % budget.0,
+            below: budget.0,
+        }
+    }
+}
+
+impl Exact {
+    // Earlier than another: by whole parts, then by rests crosswise, so that 64 bits are enough.
+    pub fn is_before(self, other: Exact) -> bool
+        requires { ⌜ Proper self × Proper other ⌝ }
+        ensures { λ r. ⌜ r ≡ less (fractionOf self) (fractionOf other) ⌝ }
+    {
+        let rest = self.rest * other.below < other.rest * self.below;
+        (self.whole < other.whole) | ((self.whole == other.whole) & rest)
+    }
+
+    pub fn is(self, other: Exact) -> bool
+        requires { ⌜ Proper self × Proper other ⌝ }
+        ensures { λ r. ⌜ r ≡ same (fractionOf self) (fractionOf other) ⌝ }
+    {
+        let rest = self.rest * other.below == other.rest * self.below;
+        (self.whole == other.whole) & rest
     }
 }
 
@@ -130,6 +170,13 @@ impl Charge {
         ensures { λ r. ⌜ r ≡ eqb (self .0) (other .0) ⌝ }
     {
         self.0 == other.0
+    }
+
+    // Longer than the worst-case time.
+    pub fn is_over(self, worst: u32) -> bool
+        ensures { λ r. ⌜ r ≡ ltb worst (self .0) ⌝ }
+    {
+        (worst as u64) < self.0
     }
 
     // At most one completion of any length above a budget.
@@ -159,5 +206,13 @@ impl Charge {
         ensures { λ r. ⌜ r ≡ diskTime (self .0 + more .0) ⌝ }
     {
         Charge(self.0 + more.0)
+    }
+
+    // Taken so many times, or over a length of clock time: a product, and no time any more.
+    pub fn times(self, n: u64) -> u64
+        requires { ⌜ self .0 * n ≤ parts-max ⌝ }
+        ensures { λ r. ⌜ r ≡ self .0 * n ⌝ }
+    {
+        self.0 * n
     }
 }

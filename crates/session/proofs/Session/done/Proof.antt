@@ -67,8 +67,8 @@ returns-4 : tie.Need-returns-4
 returns-4 c = answers _ _ (c .refuse4 .ensures) (done-ends _ _ (ok (c .before .before .before .before .before .before .before .before)) (c .before .before .before .before .before .before .if2 .left) (in-range (c .before .before .before .before .before)) (sym (past (c .before .before)) ∙ c .before .if4 .taken))
 
 -- past 14 the stream is charged
-charges : (c : tie.Else4) → let a = c .before .before .before .before .before .before .before .before .before .before .args in verdict (a .self) (Call.Done (a .duration)) ≡ finish (a .self .served - 1) (a .duration)
-charges c = done-charges _ _ (ok (c .before .before .before .before .before .before .before)) (c .before .before .before .before .before .if2 .left) (in-range (c .before .before .before .before)) (sym (past (c .before)) ∙ c .if4 .left)
+charges : (c : tie.Else4) → let a = c .before .before .before .before .before .before .before .before .before .before .args in verdict (a .self) (Call.Done (a .duration)) ≡ finish (a .self .served - 1) (c .before .before .before .of .result .0)
+charges c = rw (c .before .before .before .of .ensures) (done-charges _ _ (ok (c .before .before .before .before .before .before .before)) (c .before .before .before .before .before .if2 .left) (in-range (c .before .before .before .before)) (sym (past (c .before)) ∙ c .if4 .left))
 
 sub-finish : tie.Need-sub-finish
 sub-finish c = served-in _ (sound-of _ (ok (c .before .before .before .before .before .before .before .before))) (c .before .before .before .before .before .before .if2 .left) .0

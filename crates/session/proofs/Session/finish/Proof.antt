@@ -1,20 +1,17 @@
 -- `Session::finish` charges the stream that was served, and frees the disk.
-use mathlib.Core.Path.{refl}
+use mathlib.Core.Path.{refl, sym, _∙_}
 use Rattle.session.proofs.Outcomes.{finishes-overlong, finishes}
 use Rattle.session.proofs.Dues.{can-finish}
-use Rattle.session.proofs.Offsets.{offset-fits, worst-fits}
+use Rattle.session.proofs.Offsets.{offset-fits}
 use Rattle.table.proofs.Loops.{next-fits}
 use Rattle.session.proofs.Session.finish.Statement.{statement}
 use Rattle.session.proofs.Session.finish.Tie as tie
 
-cast-overlong : tie.Need-cast-overlong
-cast-overlong c = worst-fits _ (c .pre .ok)
-
-of-requires : tie.Need-of-requires
-of-requires c κs = tt
+is-over-requires : tie.Need-is-over-requires
+is-over-requires c κs = tt
 
 after-requires : tie.Need-after-requires
-after-requires c κs = let x = can-finish (c .before .before .pre) in (x .2, rw (c .before .of .ensures) (x .3))
+after-requires c κs = let x = can-finish (c .before .before .pre) in (x .2, x .3)
 
 mul-x : tie.Need-mul-x
 mul-x c = offset-fits _ _ (can-finish (c .before .before .before .pre) .0) refl
@@ -23,7 +20,7 @@ element-copy-out-x : tie.Need-element-copy-out-x
 element-copy-out-x c = can-finish (c .before .before .before .pre) .0
 
 charged-requires : tie.Need-charged-requires
-charged-requires c κs = let x = can-finish (c .before .before .before .before .pre) in (x .1, rw (c .before .before .before .of .ensures) (x .3))
+charged-requires c κs = let x = can-finish (c .before .before .before .before .pre) in (x .1, x .3)
 
 mul-y : tie.Need-mul-y
 mul-y c = offset-fits _ _ (can-finish (c .before .before .before .before .before .before .pre) .0) refl
@@ -35,17 +32,16 @@ add-number : tie.Need-add-number
 add-number c = next-fits _ (can-finish (c .before .before .before .before .before .before .pre) .0)
 
 returns : tie.Need-returns
-returns c = finishes-overlong _ _ _ _ _ _ (c .before .before .before .before .before .before .of .ensures) (c .before .before .charged .ensures) (c .before .before .before .before .after .ensures) (c .if1 .taken)
+returns c = finishes-overlong _ _ _ _ _ (c .before .before .charged .ensures) (c .before .before .before .before .after .ensures) (sym (c .before .before .before .before .before .before .is-over .ensures) ∙ c .if1 .taken)
 
 returns-2 : tie.Need-returns-2
-returns-2 c = finishes _ _ _ _ _ _ (c .before .before .before .before .before .before .of .ensures) (c .before .before .charged .ensures) (c .before .before .before .before .after .ensures) (c .if1 .left)
+returns-2 c = finishes _ _ _ _ _ (c .before .before .charged .ensures) (c .before .before .before .before .after .ensures) (sym (c .before .before .before .before .before .before .is-over .ensures) ∙ c .if1 .left)
 
 pub finish-spec : {M : Type 1} → statement M
 finish-spec =
     tie.close
     (tie.spec
-    cast-overlong
-    of-requires
+    is-over-requires
     after-requires
     mul-x
     element-copy-out-x

@@ -1,8 +1,8 @@
 -- `Stream::slots` gives the number of slots: where the charge has passed the room there is none.
-use native.Mathlib.Nat.{mul-pos, sub-eq-zero-of-le, le-of-lt, zero-div}
+use native.Mathlib.Nat.{mul-comm, mul-pos, sub-eq-zero-of-le, le-of-lt, zero-div}
 use Prim.Native.Nat.{_*_, _-_, _<_}
 use Rattle.stream.specs.Stream.{slots}
-use Rattle.stream.proofs.Fits.{room-fits, used-fits, step-fits}
+use Rattle.stream.proofs.Fits.{room-high, used-high, step-fits}
 use native.Mathlib.Omega.{arith}
 use mathlib.Core.Path.{sym}
 use borrow.Author.Needs.{needs}
@@ -12,20 +12,14 @@ use Rattle.stream.proofs.Stream.slots.Tie as tie
 since-requires : tie.Need-since-requires
 since-requires c κs = search needs
 
-micros-requires : tie.Need-micros-requires
-micros-requires c κs = search needs
+times-requires : tie.Need-times-requires
+times-requires c κs = rw (c .since .ensures) (room-high (c .before .pre))
 
-mul-room : tie.Need-mul-room
-mul-room c = rw (c .before .since .ensures, c .micros .ensures) (room-fits (c .before .before .pre))
+cast-times : tie.Need-cast-times
+cast-times c = search needs
 
-micros-requires-2 : tie.Need-micros-requires-2
-micros-requires-2 c κs = search needs
-
-cast-used : tie.Need-cast-used
-cast-used c = search needs
-
-mul-used : tie.Need-mul-used
-mul-used c = rw (c .before .micros2 .ensures) (used-fits (c .before .before .before .before .pre))
+times-requires-2 : tie.Need-times-requires-2
+times-requires-2 c κs = used-high (c .before .before .before .pre)
 
 returns : tie.Need-returns
 unfolding slots
@@ -33,7 +27,7 @@ returns c =
     let s = c .before .before .before .before .before in
     let x = s .args .self in
     let over : (s .args .h .0 - x .release .0) * x .granted .0 < x .charge .0 * x .period =
-    rw (c .before .before .before .before .since .ensures, c .before .before .before .micros .ensures, c .before .before .micros2 .ensures) at (c .if1 .taken) in
+    rw (c .before .times2 .ensures, c .before .before .before .times .ensures, c .before .before .before .before .since .ensures, mul-comm (x .granted .0) (s .args .h .0 - x .release .0)) at (c .if1 .taken) in
     sym (rw (sub-eq-zero-of-le (le-of-lt over)) (zero-div (s .args .worst * x .period)))
 
 cast-result : tie.Need-cast-result
@@ -50,10 +44,13 @@ div-result c =
 returns-2 : tie.Need-returns-2
 unfolding slots
 returns-2 c =
+    let s = c .before .before .before .before .before .before in
+    let x = s .args .self in
     rw (
+      c .before .before .times2 .ensures,
+      c .before .before .before .before .times .ensures,
       c .before .before .before .before .before .since .ensures,
-      c .before .before .before .before .micros .ensures,
-      c .before .before .before .micros2 .ensures,
+      mul-comm (x .granted .0) (s .args .h .0 - x .release .0),
     )
 
 pub slots-spec : {M : Type 1} → statement M
@@ -61,11 +58,9 @@ slots-spec =
     tie.close
     (tie.spec
     since-requires
-    micros-requires
-    mul-room
-    micros-requires-2
-    cast-used
-    mul-used
+    times-requires
+    cast-times
+    times-requires-2
     returns
     cast-result
     mul-result

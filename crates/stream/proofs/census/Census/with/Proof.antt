@@ -48,21 +48,18 @@ earlier-requires c κs = search needs
 later-requires : tie.Need-later-requires
 later-requires c κs = search needs
 
-micros-requires : tie.Need-micros-requires
-micros-requires c κs = search needs
+div-times : tie.Need-div-times
+div-times c = let low = fits _ _ _ _ (good (c .before .before .before .before)) .period-low in omega arith
 
-div-share : tie.Need-div-share
-div-share c = let low = fits _ _ _ _ (good (c .before .before .before .before .before)) .period-low in omega arith
+cast-times : tie.Need-cast-times
+cast-times c = let a = c .before .before .before .before .before .before .args in omega (arith, div-le-self (a .self .span) (a .x .period))
 
-cast-share : tie.Need-cast-share
-cast-share c = let a = c .before .before .before .before .before .before .before .args in omega (arith, div-le-self (a .self .span) (a .x .period))
-
-mul-share : tie.Need-mul-share
-mul-share c = rw (c .before .before .micros .ensures) (omega (arith, share-small _ _ _ _ (good (c .before .before .before .before .before))))
+times-requires : tie.Need-times-requires
+times-requires c κs = omega (arith, share-small _ _ _ _ (good (c .before .before .before .before)))
 
 add-next : tie.Need-add-next
 add-next c =
-    rw (c .before .before .before .micros .ensures)
+    rw (c .before .times .ensures)
     (omega (arith, share-small _ _ _ _ (good (c .before .before .before .before .before .before)), c .before .before .before .before .before .before .before .before .pre .shares-high))
 
 smaller-requires : tie.Need-smaller-requires
@@ -74,7 +71,7 @@ returns-2 c =
     rw (
       good (c .before .before .before .before .before .before .before),
       c .smaller .ensures,
-      c .before .before .before .before .micros .ensures,
+      c .before .before .times .ensures,
       c .before .before .before .before .before .later .ensures,
       c .before .before .before .before .before .before .earlier .ensures,
     )
@@ -87,10 +84,9 @@ with-spec =
     returns
     earlier-requires
     later-requires
-    micros-requires
-    div-share
-    cast-share
-    mul-share
+    div-times
+    cast-times
+    times-requires
     add-next
     smaller-requires
     returns-2)

@@ -1,13 +1,24 @@
--- Two exact fractions are compared by their whole parts, and then by their remainders crosswise.
-use mathlib.Core.Bool.{Bool, true, false, _&&_, _||_}
-use mathlib.Core.Path.{_≡_, refl, sym, _∙_, ap}
-use mathlib.Core.Logic.{⊎-elim}
-use Prim.Native.Nat.{ℕ, suc, _+_, _*_, _/_, _%_, _≤_, _<_}
-use native.Mathlib.Nat.{mul-le-mul-right, mul-comm, mul-assoc, add-mul, div-add-mod', mod-lt, mul-lt-mul-of-pos-right, le-of-lt, mul-add-div-right, mul-add-mod-self-right}
+-- Two exact moments are compared by their whole parts, and then by their rests crosswise.
+use mathlib.Core.Bool.{true, false, _&&_, _||_}
+use mathlib.Core.Path.{_≡_, refl, ap}
+use mathlib.Core.Logic.{_⊎_, inl, inr, ⊎-elim}
+use Prim.Native.Nat.{ℕ, suc, _+_, _*_, _≤_, _<_}
+use native.Mathlib.Nat.{mul-le-mul, mul-le-mul-right, mul-comm, mul-lt-mul-of-pos-right, le-of-lt, lt-of-lt-of-le}
+use native.Mathlib.Decide.{decLe}
 use native.Mathlib.Omega.{arith}
 use lib.Dec.{ltb, eqb}
 use borrow.Author.Tests.{lt-ltb, le-ltb, ne-eqb, eq-eqb}
-use Rattle.table.proofs.Tests.{le-or-lt}
+use mir.Syntax.{w64}
+use mir.Val.{Fits}
+use Rattle.time.specs.Exact.{less, same, fractionOf, Proper}
+use Rattle.time.specs.declared.Exact.{Exact}
+
+le-or-lt : (a b : ℕ) → (a ≤ b) ⊎ (b < a)
+le-or-lt a b = go (decLe a b)
+  where
+    go : Dec (a ≤ b) → (a ≤ b) ⊎ (b < a)
+    go (yes h) = inl h
+    go (no h) = inr (omega arith)
 
 -- of two numbers one is less, or they are the same: what both tests then say
 three : (a b : ℕ) {P : Type 0} → (a < b → P) → (a ≡ b → P) → (b < a → P) → P
@@ -59,27 +70,40 @@ module _ (u x v y w : ℕ) (hv : v < u) (hw : w < u) where
   pub by-parts : Agree
   by-parts = three x y below level above
 
--- n / g, scaled by k: its whole part in units of g × k, and its remainder crosswise
-scaled : (n g k : ℕ) → n * k ≡ n / g * (g * k) + n % g * k
-scaled n g k =
-    ap (λ (z : ℕ). z * k) (sym (div-add-mod' n g)) ∙ add-mul (n / g * g) (n % g) k ∙ ap (λ (z : ℕ). z + n % g * k) (mul-assoc (n / g) g k)
+-- Of exact moments with less than a microsecond left over: earlier, and the same.
+module _ (a b : Exact) (pa : Proper a) (pb : Proper b) where
+  abbrev unit : ℕ
+  unit = a .below * b .below
 
-regroup : (l e l′ e′ d : Bool) → (l || (e && l′)) || ((e && e′) && d) ≡ l || (e && (l′ || (e′ && d)))
-regroup true e l′ e′ d = refl
-regroup false true l′ e′ d = refl
-regroup false false l′ e′ d = refl
+  abbrev rest-a : ℕ
+  rest-a = a .rest * b .below
 
--- r + n / g is less than r′ + n′ / g′, or equal and the test d passes
-pub fraction-before : (r n g r′ n′ g′ : ℕ) (d : Bool) → 0 < g → 0 < g′
-    → (ltb ((r * g + n) * g′) ((r′ * g′ + n′) * g) || (eqb ((r * g + n) * g′) ((r′ * g′ + n′) * g) && d))
-    ≡ (ltb (r + n / g) (r′ + n′ / g′)
-    || (eqb (r + n / g) (r′ + n′ / g′) && (ltb (n % g * g′) (n′ % g′ * g) || (eqb (n % g * g′) (n′ % g′ * g) && d))))
-fraction-before r n g r′ n′ g′ d hg hg′ =
-    let one : (r * g + n) * g′ ≡ (r + n / g) * (g * g′) + n % g * g′ =
-    rw (mul-add-div-right hg r n, mul-add-mod-self-right r g n) at (scaled (r * g + n) g g′) in
-    let other : (r′ * g′ + n′) * g ≡ (r′ + n′ / g′) * (g * g′) + n′ % g′ * g =
-    rw (mul-add-div-right hg′ r′ n′, mul-add-mod-self-right r′ g′ n′, mul-comm g′ g) at (scaled (r′ * g′ + n′) g′ g) in
-    let rest : n′ % g′ * g < g * g′ = rw (mul-comm g g′) (mul-lt-mul-of-pos-right (mod-lt n′ hg′) hg) in
-    let parts = by-parts (g * g′) (r + n / g) (n % g * g′) (r′ + n′ / g′) (n′ % g′ * g) (mul-lt-mul-of-pos-right (mod-lt n hg) hg′) rest in
-    rw (one, other, parts .0, parts .1)
-    (regroup (ltb (r + n / g) (r′ + n′ / g′)) (eqb (r + n / g) (r′ + n′ / g′)) (ltb (n % g * g′) (n′ % g′ * g)) (eqb (n % g * g′) (n′ % g′ * g)) d)
+  abbrev rest-b : ℕ
+  rest-b = b .rest * a .below
+
+  one : (a .whole * a .below + a .rest) * b .below ≡ a .whole * unit + rest-a
+  one = omega arith
+
+  other : (b .whole * b .below + b .rest) * a .below ≡ b .whole * unit + rest-b
+  other = omega arith
+
+  rest-a-low : rest-a < unit
+  rest-a-low = mul-lt-mul-of-pos-right (pa .rest-low) (omega (arith, pb .rest-low))
+
+  rest-b-low : rest-b < unit
+  rest-b-low = rw (mul-comm (a .below) (b .below)) (mul-lt-mul-of-pos-right (pb .rest-low) (omega (arith, pa .rest-low)))
+
+  pub exact-before : less (fractionOf a) (fractionOf b) ≡ (ltb (a .whole) (b .whole) || (eqb (a .whole) (b .whole) && ltb rest-a rest-b))
+  unfolding less
+  exact-before = rw (one, other) (by-parts unit (a .whole) rest-a (b .whole) rest-b rest-a-low rest-b-low .0)
+
+  pub exact-same : same (fractionOf a) (fractionOf b) ≡ (eqb (a .whole) (b .whole) && eqb rest-a rest-b)
+  unfolding same
+  exact-same = rw (one, other) (by-parts unit (a .whole) rest-a (b .whole) rest-b rest-a-low rest-b-low .1)
+
+-- a rest crosswise fits 64 bits
+pub rest-fits : (a b : Exact) → Proper a → Proper b → Fits w64 (a .rest * b .below)
+rest-fits a b pa pb =
+    record {
+      fits = lt-of-lt-of-le (mul-lt-mul-of-pos-right (pa .rest-low) (omega (arith, pb .rest-low))) (mul-le-mul (pa .below-high) (pb .below-high));
+    }

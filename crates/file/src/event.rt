@@ -5,7 +5,7 @@ ghost use mathlib.Core.Path.{_≡_};
 ghost use Prim.Native.Nat.{_+_, _≤_, _^_};
 ghost use lib.Seq.{sets};
 ghost use Rattle.table.specs.Fold.{allTo};
-ghost use Rattle.file.specs.File.{eventCells, bytesOf};
+ghost use Rattle.file.specs.File.{event-size, eventCells, bytesOf};
 ghost use Rattle.file.specs.Reading.{eventOf, eventAt, formed, isTrace};
 ghost use Rattle.file.specs.Writing.{isStorable, putRefusal, withEvent};
 
@@ -103,7 +103,7 @@ fn is_storable(event: Event) -> bool
 
 // Stores the bytes of an event from an index on; of a malformed one there are none.
 fn put_bytes_of(trace: &mut [u8], at: usize, event: Event)
-    requires { ⌜ at + 16 ≤ 2 ^ 63 ⌝ }
+    requires { ⌜ at + event-size ≤ 2 ^ 63 ⌝ }
     ensures { λ _. ⌜ now (trace .exit) ≡ sets (now (trace .entry)) at (bytesOf event) ⌝ }
 {
     match event {
@@ -118,7 +118,7 @@ fn put_bytes_of(trace: &mut [u8], at: usize, event: Event)
 
 // Stores the cells of an event from an index on.
 fn put_cells(trace: &mut [u8], at: usize, kind: u64, stream: u64, value: u64)
-    requires { ⌜ at + 16 ≤ 2 ^ 63 ⌝ }
+    requires { ⌜ at + event-size ≤ 2 ^ 63 ⌝ }
     ensures { λ _. ⌜ now (trace .exit) ≡ sets (now (trace .entry)) at (eventCells kind stream value) ⌝ }
 {
     put_number(trace, at, 1, kind);

@@ -120,8 +120,8 @@ impl Notes {
             span: 0,
             padding: 0,
             count: 0,
-            reserved: [0; 8],
-            period: [0; 8],
+            reserved: [0; Table::STREAMS_MAX],
+            period: [0; Table::STREAMS_MAX],
         };
         Notes {
             line: 1,

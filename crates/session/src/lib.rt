@@ -13,6 +13,7 @@ mod turns;
 ghost use mathlib.Core.Path.{_≡_};
 ghost use Prim.Native.Nat.{_<_};
 ghost use Rattle.table.specs.Fold.{listTo};
+ghost use Rattle.table.specs.Ranges.{streams-max};
 ghost use Rattle.session.specs.Opening.{openedStream, freshSession, zeroSession, openingOf};
 use calls::Reply;
 pub use searches::Outlook;
@@ -32,7 +33,7 @@ pub struct Session {
     pub head: u64,
     pub served: usize,
     pub place: u64,
-    pub streams: [Stream; 8],
+    pub streams: [Stream; Table::STREAMS_MAX],
 }
 
 pub struct Answer {
@@ -74,7 +75,7 @@ impl Session {
         ensures { λ r. ⌜ r ≡ zeroSession ⌝ }
     {
         let unused = Stream::fresh(0, 0, 0);
-        let streams = [unused; 8];
+        let streams = [unused; Table::STREAMS_MAX];
         let start = Clock::at(0);
         Session {
             worst: 0,
@@ -110,13 +111,13 @@ fn fresh(t: Table) -> Session
 }
 
 // The eight streams of a session that is opened with a table.
-fn opened_streams(t: Table) -> [Stream; 8]
-    ensures { λ r. ⌜ r ≡ listTo (openedStream t) 8 ⌝ }
+fn opened_streams(t: Table) -> [Stream; Table::STREAMS_MAX]
+    ensures { λ r. ⌜ r ≡ listTo (openedStream t) streams-max ⌝ }
 {
     let unused = Stream::fresh(0, 0, 0);
-    let mut streams = [unused; 8];
+    let mut streams = [unused; Table::STREAMS_MAX];
     let mut i: usize = 0;
-    while i < 8 {
+    while i < Table::STREAMS_MAX {
         let x = opened_stream(t, i);
         streams[i] = x;
         i += 1;
@@ -126,7 +127,7 @@ fn opened_streams(t: Table) -> [Stream; 8]
 
 // One of them: past the table's count a stream of zeros.
 fn opened_stream(t: Table, i: usize) -> Stream
-    requires { ⌜ i < 8 ⌝ }
+    requires { ⌜ i < streams-max ⌝ }
     ensures { λ r. ⌜ r ≡ openedStream t i ⌝ }
 {
     if i < t.count {

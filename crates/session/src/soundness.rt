@@ -5,6 +5,7 @@ ghost use Rattle.time.specs.Time.{moment};
 ghost use Rattle.session.specs.Inner.{judgedOf};
 use crate::Session;
 use stream::Census;
+use table::Table;
 use time::Clock;
 
 // Whether a session is sound, and its horizon, or 0 where it is not.
@@ -21,7 +22,7 @@ impl Session {
         let first = self.streams[0];
         let mut census = Census::begin(self.worst, self.span, self.padding, self.count, first);
         let mut i: usize = 0;
-        while census.sound & (i < 8) {
+        while census.sound & (i < Table::STREAMS_MAX) {
             if i < self.count {
                 let used = self.streams[i];
                 census = census.with(used);

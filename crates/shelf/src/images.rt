@@ -3,6 +3,7 @@ ghost use mathlib.Core.Path.{_≡_};
 ghost use Rattle.shelf.specs.Image.{sessionOf, imageOf};
 use session::Session;
 use stream::Stream;
+use table::Table;
 use time::Clock;
 
 // A session. The order of choice is 0, nearest first; another number stands for none.
@@ -17,7 +18,7 @@ pub struct Image {
     pub head: u64,
     pub served: usize,
     pub place: u64,
-    pub streams: [Stream; 8],
+    pub streams: [Stream; Table::STREAMS_MAX],
 }
 
 // A reply: its number, the stream that it is about, and its value.

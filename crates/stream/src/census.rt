@@ -29,8 +29,8 @@ impl Census {
             span: span,
             padding: padding,
             count: count,
-            reserved: [0u32; 8],
-            period: [0u32; 8],
+            reserved: [0u32; Table::STREAMS_MAX],
+            period: [0u32; Table::STREAMS_MAX],
         };
         let refusal = table::numbers_refusal(table);
         let start = Clock::at(0);

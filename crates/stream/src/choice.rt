@@ -3,6 +3,7 @@ ghost use mathlib.Core.Path.{_≡_};
 ghost use Prim.Native.Nat.{_≤_};
 ghost use Rattle.stream.specs.Bounds.{Bounded};
 ghost use Rattle.stream.specs.Choice.{distance};
+ghost use Rattle.stream.specs.Stream.{queue-max};
 ghost use Rattle.stream.specs.Search.{near, nearer, considered};
 use crate::Stream;
 use time::Clock;
@@ -49,8 +50,8 @@ pub fn consider(best: Pick, x: Stream, i: usize, worst: u32, h: Clock, head: u64
 }
 
 // Of the first m places the one nearest the head; of equals the first.
-fn nearest(head: u64, places: [u64; 16], m: usize) -> Near
-    requires { ⌜ m ≤ 16 ⌝ }
+fn nearest(head: u64, places: [u64; Stream::QUEUE_MAX], m: usize) -> Near
+    requires { ⌜ m ≤ queue-max ⌝ }
     ensures { λ r. ⌜ r ≡ near head places m ⌝ }
 {
     let first = distance(head, places[0]);

@@ -5,7 +5,7 @@ mod expiry;
 
 ghost use mathlib.Core.Path.{_≡_};
 ghost use Prim.Native.Nat.{_≤_, _<_};
-ghost use Rattle.stream.specs.Stream.{slots, filled, soundQueue, soundCells, zeroJob, unusedStream, arrived, closedUp, without, charged, lapsed, closed, moved, closesPastEnd, freshStream};
+ghost use Rattle.stream.specs.Stream.{queue-max, slots, filled, soundQueue, soundCells, zeroJob, unusedStream, arrived, closedUp, without, charged, lapsed, closed, moved, closesPastEnd, freshStream};
 ghost use Rattle.table.specs.Ranges.{worst-max, period-max};
 ghost use Rattle.table.specs.Admission.{grantedOf};
 ghost use Rattle.time.specs.Time.{session-end};
@@ -41,12 +41,15 @@ pub struct Stream {
     pub charge: Charge,
     pub expired: u64,
     pub queued: usize,
-    pub places: [u64; 16],
+    pub places: [u64; Stream::QUEUE_MAX],
     pub last: Job,
 }
 
 impl Stream {
     pub const QUEUE_MAX: usize = 16;
+
+    // The index of a queue's last cell.
+    const QUEUE_LAST: usize = Self::QUEUE_MAX - 1;
 
     // A stream at its first release: nothing queued, nothing charged, no job closed.
     pub fn fresh(reserved: u32, period: u32, granted: u64) -> Stream
@@ -62,7 +65,7 @@ impl Stream {
         };
         let budget = Charge::of(granted);
         let deadline = Clock::at(period as u64);
-        let places = [0u64; 16];
+        let places = [0u64; Stream::QUEUE_MAX];
         Stream {
             reserved: reserved,
             period: period,
@@ -154,7 +157,7 @@ impl Stream {
 
     // With a place at the queue's end.
     pub fn arrived(self, place: u64) -> Stream
-        requires { ⌜ self .queued < 16 ⌝ }
+        requires { ⌜ self .queued < queue-max ⌝ }
         ensures { λ r. ⌜ r ≡ arrived place self ⌝ }
     {
         let n = self.queued;
@@ -166,7 +169,7 @@ impl Stream {
 
     // Without the request at an index of its queue.
     pub fn without(self, j: usize) -> Stream
-        requires { ⌜ (j < 16) × (1 ≤ self .queued) ⌝ }
+        requires { ⌜ (j < queue-max) × (1 ≤ self .queued) ⌝ }
         ensures { λ r. ⌜ r ≡ without j self ⌝ }
     {
         let places = self.places;
@@ -261,12 +264,12 @@ impl Job {
 }
 
 // At most sixteen places are queued, and the cells past them are 0.
-fn queue_is_sound(places: [u64; 16], queued: usize) -> bool
+fn queue_is_sound(places: [u64; Stream::QUEUE_MAX], queued: usize) -> bool
     ensures { λ r. ⌜ r ≡ soundQueue places queued ⌝ }
 {
     let mut ok = true;
     let mut j = queued;
-    while j < 16 {
+    while j < Stream::QUEUE_MAX {
         ok = ok & (places[j] == 0);
         j += 1;
     }
@@ -274,16 +277,16 @@ fn queue_is_sound(places: [u64; 16], queued: usize) -> bool
 }
 
 // The queue without its place j: those behind it close up.
-fn closed_up(places: [u64; 16], j: usize) -> [u64; 16]
-    requires { ⌜ j < 16 ⌝ }
+fn closed_up(places: [u64; Stream::QUEUE_MAX], j: usize) -> [u64; Stream::QUEUE_MAX]
+    requires { ⌜ j < queue-max ⌝ }
     ensures { λ r. ⌜ r ≡ closedUp j places ⌝ }
 {
     let mut left = places;
     let mut i = j;
-    while i < 15 {
+    while i < Stream::QUEUE_LAST {
         left[i] = places[i + 1];
         i += 1;
     }
-    left[15] = 0;
+    left[Stream::QUEUE_LAST] = 0;
     left
 }

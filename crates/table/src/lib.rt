@@ -3,6 +3,7 @@ mod reservations;
 
 ghost use mathlib.Core.Path.{_≡_};
 ghost use Prim.Native.Nat.{_*_, _≤_};
+ghost use Rattle.table.specs.Ranges.{streams-max};
 ghost use Rattle.table.specs.Admission.{paddingOf, grantedOf, shareOf, sharesOf, smallestPeriod, loadOf, numbersRefusal, streamRefusal, streamsRefusal, admissionOf, answered};
 pub use reservations::Records;
 pub use reservations::Reservation;
@@ -16,8 +17,8 @@ pub struct Table {
     pub span: u32,
     pub padding: u32,
     pub count: usize,
-    pub reserved: [u32; 8],
-    pub period: [u32; 8],
+    pub reserved: [u32; Table::STREAMS_MAX],
+    pub period: [u32; Table::STREAMS_MAX],
 }
 
 // What is said of a table: it is admitted, or refused by number.
@@ -123,7 +124,7 @@ pub fn stream_refusal(worst: u32, span: u32, k: u32, reserved: u32, period: u32)
 
 // 5 and 6, stream by stream.
 fn streams_refusal(t: Table) -> u64
-    requires { ⌜ t .count ≤ 8 ⌝ }
+    requires { ⌜ t .count ≤ streams-max ⌝ }
     ensures { λ r. ⌜ r ≡ streamsRefusal t ⌝ }
 {
     let reserved = t.reserved;
@@ -151,7 +152,7 @@ fn load(t: Table) -> u64
 
 // The smallest of the periods.
 fn smallest_period(t: Table) -> u32
-    requires { ⌜ t .count ≤ 8 ⌝ }
+    requires { ⌜ t .count ≤ streams-max ⌝ }
     ensures { λ r. ⌜ r ≡ smallestPeriod t ⌝ }
 {
     let period = t.period;
@@ -169,8 +170,8 @@ fn smallest_period(t: Table) -> u32
 
 // The sum of the streams' shares.
 fn shares(t: Table) -> u64
-    requires { ⌜ (t .count ≤ 8) × (streamsRefusal t ≡ 0) ⌝ }
-    ensures { λ r. ⌜ (r ≡ sharesOf t) × (r ≤ 8 * t .span) ⌝ }
+    requires { ⌜ (t .count ≤ streams-max) × (streamsRefusal t ≡ 0) ⌝ }
+    ensures { λ r. ⌜ (r ≡ sharesOf t) × (r ≤ streams-max * t .span) ⌝ }
 {
     let reserved = t.reserved;
     let period = t.period;

@@ -12,7 +12,7 @@ pub struct Reservation {
 
 // What is taken of a lent slice: its first eight records, zeros past its end, and its true length.
 pub struct Records {
-    pub rows: [Reservation; 8],
+    pub rows: [Reservation; Table::STREAMS_MAX],
     pub count: usize,
 }
 
@@ -54,10 +54,10 @@ impl Table {
         ensures { λ r. ⌜ r ≡ tableOfRecords worst span padding (records .rows) (records .count) ⌝ }
     {
         let rows = records.rows;
-        let mut reserved = [0u32; 8];
-        let mut period = [0u32; 8];
+        let mut reserved = [0u32; Self::STREAMS_MAX];
+        let mut period = [0u32; Self::STREAMS_MAX];
         let mut i: usize = 0;
-        while i < 8 {
+        while i < Self::STREAMS_MAX {
             let row = rows[i];
             reserved[i] = row.reserved;
             period[i] = row.period;

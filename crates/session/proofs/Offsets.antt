@@ -1,4 +1,4 @@
--- Numbers of the code that fit 64 bits: an index of the eight streams or of a queue, times the size of what it stands for, and the worst-case time. A size is small by computing.
+-- Numbers of the code that fit 64 bits: an index of the eight streams or of a queue, times the size of what it stands for. A size is small by computing.
 use mathlib.Core.Bool.{true}
 use mathlib.Core.Path.{_≡_}
 use Prim.Native.Nat.{ℕ, _*_, _≤_, _<_}
@@ -8,9 +8,6 @@ use lib.Dec.{leb}
 use borrow.Author.Tests.{leb-true}
 use mir.Syntax.{w64}
 use mir.Val.{Fits}
-use Rattle.session.specs.Session.{sound}
-use Rattle.session.specs.declared.Session.{Session}
-use Rattle.session.proofs.Sound.{sound-of, admits}
 
 pub offset-fits : (i size : ℕ) → i < 8 → leb size 65_536 ≡ true → Fits w64 (i * size)
 offset-fits i size l small = let below : i ≤ 7 = omega (arith, l) in omega (arith, mul-le-mul below (leb-true size 65_536 small))
@@ -20,6 +17,3 @@ place-fits j l = omega (arith, l)
 
 pub first-in : 0 < 8
 first-in = omega arith
-
-pub worst-fits : (s : Session) → sound s ≡ true → Fits w64 (s .worst)
-worst-fits s ok = omega (arith, admits s (sound-of s ok) .numbers .worst-high)

@@ -4,7 +4,7 @@ mod choice;
 mod expiry;
 
 ghost use mathlib.Core.Path.{_≡_};
-ghost use Prim.Native.Nat.{_≤_, _<_};
+ghost use Prim.Native.Nat.{_-_, _≤_, _<_};
 ghost use Rattle.stream.specs.Stream.{queue-max, slots, filled, soundQueue, soundCells, zeroJob, unusedStream, arrived, closedUp, without, charged, lapsed, closed, moved, closesPastEnd, freshStream};
 ghost use Rattle.table.specs.Ranges.{worst-max, period-max};
 ghost use Rattle.table.specs.Admission.{grantedOf};
@@ -87,10 +87,7 @@ impl Stream {
     {
         let room = self.granted.times(h.since(self.release));
         let used = self.charge.times(self.period as u64);
-        if room < used {
-            return 0;
-        }
-        (room - used) / (worst as u64 * self.period as u64)
+        left(room, used) / (worst as u64 * self.period as u64)
     }
 
     // How many of them queued requests fill.
@@ -261,6 +258,16 @@ impl Job {
         let deadline = self.deadline.is(start);
         charge & closed & deadline & (self.expired == 0)
     }
+}
+
+// What is left of a room when what was used is taken off: nothing, where more was used.
+fn left(room: u64, used: u64) -> u64
+    ensures { λ r. ⌜ r ≡ room - used ⌝ }
+{
+    if room < used {
+        return 0;
+    }
+    room - used
 }
 
 // At most sixteen places are queued, and the cells past them are 0.

@@ -1,10 +1,9 @@
--- `Stream::slots` gives the number of slots: where the charge has passed the room there is none.
-use native.Mathlib.Nat.{mul-comm, mul-pos, sub-eq-zero-of-le, le-of-lt, zero-div}
-use Prim.Native.Nat.{_*_, _-_, _<_}
+-- `Stream::slots` gives the number of slots: what is left of the room, in worst-case times.
+use native.Mathlib.Nat.{mul-comm, mul-pos}
+use Prim.Native.Nat.{_-_}
 use Rattle.stream.specs.Stream.{slots}
 use Rattle.stream.proofs.Fits.{room-high, used-high, step-fits}
 use native.Mathlib.Omega.{arith}
-use mathlib.Core.Path.{sym}
 use borrow.Author.Needs.{needs}
 use Rattle.stream.proofs.Stream.slots.Statement.{statement}
 use Rattle.stream.proofs.Stream.slots.Tie as tie
@@ -21,14 +20,8 @@ cast-times c = search needs
 times-requires-2 : tie.Need-times-requires-2
 times-requires-2 c κs = used-high (c .before .before .before .pre)
 
-returns : tie.Need-returns
-unfolding slots
-returns c =
-    let s = c .before .before .before .before .before in
-    let x = s .args .self in
-    let over : (s .args .h .0 - x .release .0) * x .granted .0 < x .charge .0 * x .period =
-    rw (c .before .times2 .ensures, c .before .before .before .times .ensures, c .before .before .before .before .since .ensures, mul-comm (x .granted .0) (s .args .h .0 - x .release .0)) at (c .if1 .taken) in
-    sym (rw (sub-eq-zero-of-le (le-of-lt over)) (zero-div (s .args .worst * x .period)))
+left-requires : tie.Need-left-requires
+left-requires c κs = tt
 
 cast-result : tie.Need-cast-result
 cast-result c = search needs
@@ -41,12 +34,13 @@ div-result c =
     let q = c .before .before .before .before .before .before .pre in
     mul-pos (q .worst-low) (omega (arith, q .period-low))
 
-returns-2 : tie.Need-returns-2
+returns : tie.Need-returns
 unfolding slots
-returns-2 c =
+returns c =
     let s = c .before .before .before .before .before .before in
     let x = s .args .self in
     rw (
+      c .before .left .ensures,
       c .before .before .times2 .ensures,
       c .before .before .before .before .times .ensures,
       c .before .before .before .before .before .since .ensures,
@@ -61,8 +55,8 @@ slots-spec =
     times-requires
     cast-times
     times-requires-2
-    returns
+    left-requires
     cast-result
     mul-result
     div-result
-    returns-2)
+    returns)

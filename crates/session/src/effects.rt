@@ -22,7 +22,7 @@ impl Session {
         }
     }
 
-    // A request at the end of a stream's queue.
+    // A request is put at the end of a stream's queue.
     pub(crate) fn append(mut self, n: usize, place: u64) -> Answer
         requires { ⌜ Due self (append n place) ⌝ }
         ensures { λ r. ⌜ r ≡ outcome self (append n place) ⌝ }
@@ -41,7 +41,7 @@ impl Session {
         }
     }
 
-    // A queued request goes to the disk.
+    // A queued request goes to the disk: it leaves its queue, the others keep their order, and the head becomes its place.
     pub(crate) fn send(mut self, n: usize, index: usize) -> Answer
         requires { ⌜ Due self (send n index) ⌝ }
         ensures { λ r. ⌜ r ≡ outcome self (send n index) ⌝ }
@@ -65,7 +65,7 @@ impl Session {
         }
     }
 
-    // Nothing until the latest safe moment.
+    // Wait until the latest safe moment; nothing changes.
     pub(crate) fn wait(self, until: Clock) -> Answer
         requires { ⌜ until ≡ moment (latest self) ⌝ }
         ensures { λ r. ⌜ r ≡ outcome self wait ⌝ }
@@ -77,7 +77,7 @@ impl Session {
         }
     }
 
-    // A stream loses a slot.
+    // One slot of a stream expires: its charge grows by W, its expired count by 1.
     pub(crate) fn expire(mut self, n: usize) -> Answer
         requires { ⌜ Due self (expire n) ⌝ }
         ensures { λ r. ⌜ r ≡ outcome self (expire n) ⌝ }
@@ -97,7 +97,7 @@ impl Session {
         }
     }
 
-    // Every due stream closes its job.
+    // Every stream whose deadline is the horizon closes its job, and the others keep theirs. The reply has the new horizon.
     pub(crate) fn move_on(mut self, h: Clock) -> Answer
         requires { ⌜ Ahead self h ⌝ }
         ensures { λ r. ⌜ r ≡ outcome self move ⌝ }
@@ -121,7 +121,7 @@ impl Session {
         }
     }
 
-    // The request at the disk has ended, and its stream is charged.
+    // The request at the disk has ended: the clock and the charge of its stream both grow by what it took. That is overlong above W.
     pub(crate) fn finish(mut self, n: usize, taken: Charge) -> Answer
         requires { ⌜ Due self (finish n (taken .0)) ⌝ }
         ensures { λ r. ⌜ r ≡ outcome self (finish n (taken .0)) ⌝ }
@@ -152,7 +152,7 @@ impl Session {
         }
     }
 
-    // The clock is set; that is late past the latest safe moment and the clock.
+    // The clock becomes that time. It is late exactly if it is above the latest safe moment and above the clock.
     pub(crate) fn set_clock(mut self, now: Clock, until: Clock) -> Answer
         requires { ⌜ until ≡ moment (latest self) ⌝ }
         ensures { λ r. ⌜ r ≡ outcome self (set-clock (now .0)) ⌝ }

@@ -40,7 +40,8 @@ returns c =
     let e = c .before .stream-refusal .ensures in
     let t = c .before .before .before .before .before .before .before .args .t in
     let i = c .before .before .before .before .loop .i in
-    e ∙ sym (first-at (streamRefusalAt t) (t .count) i (omega arith) (c .before .before .before .before .loop .inv .1) (λ z. c .if2 .taken (e ∙ z)))
+    let some : c .before .stream-refusal .result ≡ 0 → ⊥ = λ none. omega (arith, c .if2 .taken, none) in
+    e ∙ sym (first-at (streamRefusalAt t) (t .count) i (omega arith) (c .before .before .before .before .loop .inv .1) (λ z. some (e ∙ z)))
 
 add-i : tie.Need-add-i Inv-loop μ-loop
 add-i c = omega arith

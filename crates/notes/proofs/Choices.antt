@@ -1,6 +1,6 @@
 -- What a definition by tests comes to, where its tests are known.
-use mathlib.Core.Bool.{Bool, true, false}
-use mathlib.Core.Path.{_≡_, refl, _∙_}
+use mathlib.Core.Bool.{Bool, true, false, not}
+use mathlib.Core.Path.{_≡_, refl, ap, _∙_}
 use mathlib.Core.List.{List}
 use Prim.Native.Nat.{ℕ, _≤_, _<_}
 use lib.Dec.{ltb, eqb}
@@ -53,8 +53,11 @@ module _ (n : Notes) (trace out : List ℕ) where
   abbrev fileWritten : Filed
   fileWritten = filed (told (writeOf (n .table) (traceOfNotes n trace) out)) (writtenOn (n .table) (traceOfNotes n trace) out)
 
+  abbrev stored : Filed
+  stored = if (ltb (eventsIn trace) (n .events)) (filed (Refused 17) out) fileWritten
+
   abbrev whole : Filed
-  whole = if (ltb (eventsIn trace) (n .events)) (filed (Refused 17) out) fileWritten
+  whole = if (not (eqb (n .refused) 0)) (filed (Refused (n .refused)) out) stored
 
   abbrev right : Filed
   right = if (ltb (n .numbers) 3) (filed (Unfinished (expectedBy n)) out) whole
@@ -77,11 +80,18 @@ module _ (n : Notes) (trace out : List ℕ) where
           passed (n .wrong) (filed (Wrong (n .line) (expectedBy n)) out) right ok
           ∙ passed (ltb (n .numbers) 3) (filed (Unfinished (expectedBy n)) out) whole (le-ltb (n .numbers) 3 three)
 
-      pub filed-short : eventsIn trace < n .events → filedBy n trace out ≡ filed (Refused 17) out
-      filed-short h = on ∙ chosen (ltb (eventsIn trace) (n .events)) (filed (Refused 17) out) fileWritten (lt-ltb (eventsIn trace) (n .events) h)
+      pub filed-refused : (n .refused ≡ 0 → ⊥) → filedBy n trace out ≡ filed (Refused (n .refused)) out
+      filed-refused h = on ∙ chosen (not (eqb (n .refused) 0)) (filed (Refused (n .refused)) out) stored (ap not (ne-eqb (n .refused) 0 h))
 
-      pub filed-whole : n .events ≤ eventsIn trace → filedBy n trace out ≡ fileWritten
-      filed-whole h = on ∙ passed (ltb (eventsIn trace) (n .events)) (filed (Refused 17) out) fileWritten (le-ltb (eventsIn trace) (n .events) h)
+      module _ (none : n .refused ≡ 0) where
+        on-stored : filedBy n trace out ≡ stored
+        on-stored = on ∙ passed (not (eqb (n .refused) 0)) (filed (Refused (n .refused)) out) stored (ap not (eq-eqb (n .refused) 0 none))
+
+        pub filed-short : eventsIn trace < n .events → filedBy n trace out ≡ filed (Refused 17) out
+        filed-short h = on-stored ∙ chosen (ltb (eventsIn trace) (n .events)) (filed (Refused 17) out) fileWritten (lt-ltb (eventsIn trace) (n .events) h)
+
+        pub filed-whole : n .events ≤ eventsIn trace → filedBy n trace out ≡ fileWritten
+        filed-whole h = on-stored ∙ passed (ltb (eventsIn trace) (n .events)) (filed (Refused 17) out) fileWritten (le-ltb (eventsIn trace) (n .events) h)
 
 -- a file that the writer refuses leaves the buffer as it was
 not-told : (reply : Writing) (table : Table) (trace out : List ℕ) → writeOf table trace out ≡ reply → ((len : ℕ) → told reply ≡ Written len → ⊥)
@@ -97,5 +107,7 @@ nothing-else-written n trace out =
     (λ _.
     by-if P (ltb (n .numbers) 3) (filed (Unfinished (expectedBy n)) out) (whole n trace out) (λ _ _. refl)
     (λ _.
+    by-if P (not (eqb (n .refused) 0)) (filed (Refused (n .refused)) out) (stored n trace out) (λ _ _. refl)
+    (λ _.
     by-if P (ltb (eventsIn trace) (n .events)) (filed (Refused 17) out) (fileWritten n trace out) (λ _ _. refl)
-    (λ _ none. not-told (writeOf (n .table) (traceOfNotes n trace) out) (n .table) (traceOfNotes n trace) out refl none)))
+    (λ _ none. not-told (writeOf (n .table) (traceOfNotes n trace) out) (n .table) (traceOfNotes n trace) out refl none))))

@@ -21,7 +21,7 @@ use Rattle.notes.specs.declared.draft.Place.the-variants.{Between, Withi
 use Rattle.notes.specs.declared.draft.Draft.{Draft}
 use Rattle.notes.specs.Draft.{drafted, blank, hash, lettered, longer, lengthens, firstLonger, secondLonger, inField, begun, afterGap, afterField, withByte}
 use Rattle.notes.specs.Line.{heldAfter, held, wordLine, tableLine, numberLine, streamLine, pairLine, fieldsLine, lineOf}
-use Rattle.notes.specs.Notes.{noted, stopped, afterNumber, afterStream, afterEvent, after, expectedBy, Read, read, traceAfter, lineEnded, byteRead, bytesRead}
+use Rattle.notes.specs.Notes.{noted, stopped, afterNumber, afterStream, afterEvent, after, expectedBy, Read, read, lineRefusal, refusedBy, traceAfter, lineEnded, byteRead, bytesRead}
 use Rattle.notes.specs.Laws.{LineReadsBack, drawn, LineIsJudged}
 use Rattle.notes.specs.Words.{wordsOf, lineOfWords}
 use Rattle.notes.proofs.Choices.{byte-lengthens}
@@ -65,7 +65,7 @@ module _ (w byte : ℕ) (d : Digit byte) (h : longer 0 byte < 2 ^ 64) where
 module _ (line numbers : ℕ) (table : Table) (events : ℕ) (trace : List ℕ) where
   -- the notes with a line so far
   abbrev so-far : Draft → Notes
-  so-far d = record { line = line; numbers = numbers; table = table; events = events; draft = d; wrong = false }
+  so-far d = record { line = line; numbers = numbers; table = table; events = events; draft = d; refused = 0; wrong = false }
 
   abbrev at-draft : Draft → Read
   at-draft d = read (so-far d) trace
@@ -161,15 +161,15 @@ module _ (line numbers : ℕ) (table : Table) (events : ℕ) (trace : List ℕ) 
   after-same d Wrong h = absurd (false≢true (sym h))
 
   abbrev ending : Line → Notes → Read
-  ending l next = read next (if (next .wrong) trace (traceAfter trace events l))
+  ending l next = if (next .wrong) (read next trace) (read (refusedBy next (lineRefusal trace events l)) (traceAfter trace events l))
 
   taken-as : (d : Draft) (l : Line) → lineOf d ≡ l → after before l .wrong ≡ false
-      → lineEnded (so-far d) trace ≡ read (after before l) (traceAfter trace events l)
+      → lineEnded (so-far d) trace ≡ read (refusedBy (after before l) (lineRefusal trace events l)) (traceAfter trace events l)
   unfolding lineEnded if
   taken-as d l is h =
       ap (λ (k : Line). ending k (after (so-far d) k)) is
       ∙ ap (λ (next : Notes). ending l next) (after-same d l h)
-      ∙ ap (λ (b : Bool). read (after before l) (if b trace (traceAfter trace events l))) h
+      ∙ ap (λ (b : Bool). if b (read (after before l) trace) (read (refusedBy (after before l) (lineRefusal trace events l)) (traceAfter trace events l))) h
 
   -- and a line that may not stand there stops the reading
   stops-choice : (b : Bool) (x y z : Notes) → if b x y .wrong ≡ true → x .wrong ≡ false → if b x z ≡ z

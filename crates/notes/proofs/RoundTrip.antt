@@ -15,7 +15,7 @@ use Rattle.table.specs.declared.Table.{Table}
 use Rattle.cells.specs.Cells.{Bytes}
 use Rattle.file.specs.File.{event-size, events-max, bytesOf}
 use Rattle.file.specs.Reading.{eventsIn, eventAt, formed, column, traceStart, traceEnd, traceIn, tableAt, tableIn}
-use Rattle.file.specs.Writing.{withEvent, writeOf, writtenOn}
+use Rattle.file.specs.Writing.{putRefusal, withEvent, writeOf, writtenOn}
 use Rattle.file.specs.Laws.{Words, trimmed}
 use Rattle.file.proofs.Accepted.{read-accepted}
 use Rattle.file.proofs.Events.{event-writes-back}
@@ -27,7 +27,7 @@ use Rattle.notes.specs.declared.Notes.{Notes}
 use Rattle.notes.specs.declared.line.Line.{Line}
 use Rattle.notes.specs.declared.line.Line.the-variants.{Worst, Span, Padding, Stream, Call}
 use Rattle.notes.specs.Line.{fieldsLine, lineShown, streamAt, afterNumbers, lineAt, shownTo}
-use Rattle.notes.specs.Notes.{noted, started, no-table, withWorst, withSpan, nextLine, afterNumber, afterStream, afterEvent, after, Read, read, traceAfter, lineEnded, byteRead, bytesRead, Filed, filed, told, filedBy, ended}
+use Rattle.notes.specs.Notes.{noted, started, no-table, withWorst, withSpan, nextLine, afterNumber, afterStream, afterEvent, after, Read, read, lineRefusal, refusedBy, traceAfter, lineEnded, byteRead, bytesRead, Filed, filed, told, filedBy, ended}
 use Rattle.notes.specs.Laws.{Fits, ShownComposes}
 use Rattle.notes.proofs.Bytes.{pieces-join}
 use Rattle.notes.proofs.Choices.{filed-whole}
@@ -100,22 +100,23 @@ unfolding nextLine if
 next-line n h = rw (lt-ltb n (2 ^ 64 - 1) h)
 
 module _ (t : Table) (w : Words t) (few : t .count ≤ streams-max) (trace : List ℕ) (b : Bytes trace)
-    (well : (i : ℕ) → i < eventsIn trace → formed (eventAt trace i) ≡ true) (short : eventsIn trace ≤ events-max) (buffer : List ℕ) where
+    (well : (i : ℕ) → i < eventsIn trace → formed (eventAt trace i) ≡ true) (short : eventsIn trace ≤ events-max) (buffer : List ℕ) (room : eventsIn trace ≤ eventsIn buffer) where
   -- what has been read of the first m lines
   abbrev read-of : ℕ → Read
   read-of m = bytesRead (read started buffer) (shownTo t trace m)
 
   -- a line more: it is read as the line that was shown
   line-more : (m line numbers : ℕ) (table : Table) (events : ℕ) (so-far : List ℕ) (l : Line) (next : Notes) → lineAt t trace m ≡ l → Fits l
-      → read-of m ≡ read (noted line numbers table events) so-far → after (noted line numbers table events) l ≡ next → next .wrong ≡ false
+      → read-of m ≡ read (noted line numbers table events) so-far → after (noted line numbers table events) l ≡ next → next .wrong ≡ false → lineRefusal so-far events l ≡ 0
       → read-of (suc m) ≡ read next (traceAfter so-far events l)
-  unfolding shownTo
-  line-more m line numbers table events so-far l next is fits before then right =
+  unfolding shownTo refusedBy if
+  line-more m line numbers table events so-far l next is fits before then right kept =
       pieces-join (read started buffer) (shownTo t trace m) (rendered (lineShown (lineAt t trace m)))
       ∙ ap (λ (r : Read). bytesRead r (rendered (lineShown (lineAt t trace m)))) before
       ∙ ap (λ (k : Line). bytesRead (read (noted line numbers table events) so-far) (rendered (lineShown k))) is
       ∙ line-reads-back line numbers table events so-far l fits (ap (λ (n : Notes). n .wrong) then ∙ right)
-      ∙ ap (λ (n : Notes). read n (traceAfter so-far events l)) then
+      ∙ ap (λ (n : Notes). read (refusedBy n (lineRefusal so-far events l)) (traceAfter so-far events l)) then
+      ∙ ap (λ (number : ℕ). read (refusedBy next number) (traceAfter so-far events l)) kept
 
   -- the table with its first j streams
   abbrev streams-of : ℕ → Table
@@ -127,9 +128,9 @@ module _ (t : Table) (w : Words t) (few : t .count ≤ streams-max) (trace : Lis
   numbers-read =
       line-more 2 3 2 (withSpan (withWorst no-table (t .worst)) (t .span)) 0 buffer (Padding (t .padding)) (noted 4 3 (streams-of 0) 0) refl (w .padding-fits)
       (line-more 1 2 1 (withWorst no-table (t .worst)) 0 buffer (Span (t .span)) (noted 3 2 (withSpan (withWorst no-table (t .worst)) (t .span)) 0) refl (w .span-fits)
-      (line-more 0 1 0 no-table 0 buffer (Worst (t .worst)) (noted 2 1 (withWorst no-table (t .worst)) 0) refl (w .worst-fits) refl refl refl)
-      refl refl)
-      refl refl
+      (line-more 0 1 0 no-table 0 buffer (Worst (t .worst)) (noted 2 1 (withWorst no-table (t .worst)) 0) refl (w .worst-fits) refl refl refl refl)
+      refl refl refl)
+      refl refl refl
 
   stream-there : (j : ℕ) → j < t .count → lineAt t trace (j + 3) ≡ Stream (reservedAt t j) (periodAt t j)
   unfolding lineAt afterNumbers streamAt if
@@ -162,6 +163,7 @@ module _ (t : Table) (w : Words t) (few : t .count ≤ streams-max) (trace : Lis
       (streams-read j (omega arith))
       (stream-taken j (omega arith))
       refl
+      refl
 
   abbrev lines : ℕ
   lines = t .count + 3
@@ -187,6 +189,14 @@ module _ (t : Table) (w : Words t) (few : t .count ≤ streams-max) (trace : Lis
       let k : e + (t .count + 4) + 1 ≡ suc e + (t .count + 4) = omega arith in
       rw (lt-ltb e events-max h, next-line (e + (t .count + 4)) (omega (arith, few)), k, add-one)
 
+  -- the trace has room for each event
+  event-kept : (e : ℕ) → e < eventsIn trace → putRefusal (stored buffer trace e) e (eventAt trace e) ≡ 0
+  event-kept e h =
+      let q = stored-are trace b well buffer room e (omega arith) in
+      let here : e < eventsIn (stored buffer trace e) = omega (arith, q .1, room, h) in
+      let w = event-writes-back trace e b (well e h) .0 in
+      sym (stored-there (stored buffer trace e) e (eventAt trace e) (coded-storable (eventAt trace e) w) here .0)
+
   events-read : (e : ℕ) → e ≤ eventsIn trace
       → read-of (e + lines) ≡ read (noted (e + (t .count + 4)) 3 (trimmed t) e) (stored buffer trace e)
   unfolding stored trimmed
@@ -203,6 +213,7 @@ module _ (t : Table) (w : Words t) (few : t .count ≤ streams-max) (trace : Lis
       (events-read e (omega arith))
       (event-taken e (omega (arith, short, h)))
       refl
+      (event-kept e h)
 
 -- ---- the end
 
@@ -214,8 +225,8 @@ written-of out r = filedBy (ended (r .notes) (r .trace) .notes) (ended (r .notes
 at-end : (line events : ℕ) (table : Table) (trace out : List ℕ) → events ≤ eventsIn trace
     → written-of out (read (noted line 3 table events) trace)
     ≡ filed (told (writeOf table (take (event-size * events) trace) out)) (writtenOn table (take (event-size * events) trace) out)
-unfolding byteRead lineEnded fieldsLine if
-at-end line events table trace out room = filed-whole (noted (nextLine line) 3 table events) trace out refl (omega arith) room
+unfolding byteRead lineEnded refusedBy fieldsLine if
+at-end line events table trace out room = filed-whole (noted (nextLine line) 3 table events) trace out refl (omega arith) refl room
 
 pub shown-composes : ShownComposes
 unfolding tableAt
@@ -232,6 +243,6 @@ shown-composes file buffer out b h room space =
     let stores = stored-are trace bytes (inside .all-formed) buffer room e (omega arith) in
     let back = accepted-writes-back file out _ _ _ _ b a space in
     ap (λ (m : ℕ). written-of out (bytesRead (read started buffer) (shownTo t trace m))) index
-    ∙ ap (written-of out) (events-read t (table .0) (inside .count-high) trace bytes (inside .all-formed) (inside .events-high) buffer e (omega arith))
+    ∙ ap (written-of out) (events-read t (table .0) (inside .count-high) trace bytes (inside .all-formed) (inside .events-high) buffer room e (omega arith))
     ∙ at-end (e + (t .count + 4)) e (trimmed t) (stored buffer trace e) out (omega (arith, stores .1, room))
     ∙ rw (table .1, stores .0, take-all (event-size * e) trace size, back .0, back .1)

@@ -21,7 +21,7 @@ use Rattle.notes.specs.declared.line.Line.the-variants.{Blank, Worst, Sp
 use Rattle.notes.specs.Draft.{blank, withByte}
 use Rattle.notes.specs.Line.{heldAfter, lineOf, lineShown, notesOf}
 use Rattle.notes.specs.Words.{wordsOf, lineOfWords}
-use Rattle.notes.specs.Notes.{noted, started, after, expectedBy, Read, read, traceAfter, bytesRead, ended, Filed, filed, filedBy}
+use Rattle.notes.specs.Notes.{noted, started, after, expectedBy, Read, read, lineRefusal, refusedBy, traceAfter, bytesRead, ended, Filed, filed, filedBy}
 use Rattle.notes.specs.Cases.{Case, cases}
 
 -- a line whose numbers have room in their fields
@@ -34,12 +34,12 @@ Fits (Stream reserved period) = (reserved < 2 ^ 32) × (period < 2 ^ 32)
 Fits (Call event) = Coded event
 Fits Wrong = ⊥
 
--- A line that is shown is read as that line, wherever it may stand.
+-- A line that is shown is read as that line, wherever it may stand; where the trace refuses its event, the notes have heard of it.
 abbrev pub LineReadsBack : Type 0
 LineReadsBack =
     (line numbers : ℕ) (table : Table) (events : ℕ) (trace : List ℕ) (l : Line) → Fits l
     → let n = noted line numbers table events in
-    after n l .wrong ≡ false → bytesRead (read n trace) (rendered (lineShown l)) ≡ read (after n l) (traceAfter trace events l)
+    after n l .wrong ≡ false → bytesRead (read n trace) (rendered (lineShown l)) ≡ read (refusedBy (after n l) (lineRefusal trace events l)) (traceAfter trace events l)
 
 -- A line that is read byte by byte is the line of its words, whatever bytes they are.
 unfoldable pub drawn : Draft → List ℕ → Draft
@@ -56,7 +56,7 @@ LineIsJudged =
     → let n = noted line numbers table events in
     let l = lineOfWords (wordsOf bytes) in
     let r = bytesRead (read n trace) (bytes ++ (newline ∷ [])) in
-    (after n l .wrong ≡ false → r ≡ read (after n l) (traceAfter trace events l))
+    (after n l .wrong ≡ false → r ≡ read (refusedBy (after n l) (lineRefusal trace events l)) (traceAfter trace events l))
     × (after n l .wrong ≡ true
     → (r .notes .wrong ≡ true) × (r .notes .line ≡ line) × (expectedBy (r .notes) ≡ expectedBy n) × (r .trace ≡ trace))
 

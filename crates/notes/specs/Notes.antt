@@ -1,5 +1,5 @@
 -- Notes, read line by line into a table and a trace: the three table numbers in order, then streams, then events.
-use mathlib.Core.Bool.{true, false, _&&_}
+use mathlib.Core.Bool.{true, false, not, _&&_}
 use mathlib.Core.List.{List, [], _∷_}
 use Prim.Native.Nat.{ℕ, _+_, _-_, _*_, _^_}
 use lib.Dec.{ltb, eqb}
@@ -9,7 +9,7 @@ use Rattle.table.specs.Ranges.{streams-max}
 use Rattle.table.specs.declared.Table.{Table}
 use Rattle.file.specs.File.{events-max, event-size}
 use Rattle.file.specs.Reading.{eventsIn}
-use Rattle.file.specs.Writing.{writeOf, writtenOn, withEvent}
+use Rattle.file.specs.Writing.{writeOf, writtenOn, putRefusal, withEvent}
 use Rattle.file.specs.declared.Writing.{Writing}
 use Rattle.listing.specs.Line.{newline}
 use Rattle.notes.specs.declared.Notes.{Notes}
@@ -21,10 +21,10 @@ use Rattle.notes.specs.declared.line.Line.{Line}
 use Rattle.notes.specs.Draft.{blank, withByte}
 use Rattle.notes.specs.Line.{lineOf}
 
--- notes at the start of a line: its number, how many table numbers have been read, the table so far, and how many events
+-- notes at the start of a line: its number, how many table numbers have been read, the table so far, and how many events, each of which is in the trace
 abbrev pub noted : ℕ → ℕ → Table → ℕ → Notes
 noted line numbers table events =
-    record { line = line; numbers = numbers; table = table; events = events; draft = blank; wrong = false }
+    record { line = line; numbers = numbers; table = table; events = events; draft = blank; refused = 0; wrong = false }
 
 abbrev pub no-table : Table
 no-table = record { worst = 0; span = 0; padding = 0; count = 0; reserved = replicate streams-max 0; period = replicate streams-max 0 }
@@ -35,7 +35,7 @@ started = noted 1 0 no-table 0
 -- the same notes, of which the line that is being read is wrong
 abbrev pub stopped : Notes → Notes
 stopped n =
-    record { line = n .line; numbers = n .numbers; table = n .table; events = n .events; draft = n .draft; wrong = true }
+    record { line = n .line; numbers = n .numbers; table = n .table; events = n .events; draft = n .draft; refused = n .refused; wrong = true }
 
 -- the number of the line after this one; a machine's number stays at its highest
 unfoldable pub nextLine : ℕ → ℕ
@@ -43,7 +43,8 @@ nextLine line = if (ltb line (2 ^ 64 - 1)) (line + 1) line
 
 -- the notes after a right line, which has given them this many table numbers, this table and this many events
 abbrev pub advanced : Notes → ℕ → Table → ℕ → Notes
-advanced n numbers table events = noted (nextLine (n .line)) numbers table events
+advanced n numbers table events =
+    record { line = nextLine (n .line); numbers = numbers; table = table; events = events; draft = blank; refused = n .refused; wrong = false }
 
 -- a table with one number set, and with a stream more
 abbrev pub withWorst : Table → ℕ → Table
@@ -119,17 +120,33 @@ traceAfter trace i (Line.Stream e p) = trace
 traceAfter trace i (Line.Call event) = withEvent trace i event
 traceAfter trace i Line.Wrong = trace
 
+-- the number by which it is refused, or 0
+abbrev pub lineRefusal : List ℕ → ℕ → Line → ℕ
+lineRefusal trace i Line.Blank = 0
+lineRefusal trace i (Line.Worst x) = 0
+lineRefusal trace i (Line.Span x) = 0
+lineRefusal trace i (Line.Padding x) = 0
+lineRefusal trace i (Line.Stream e p) = 0
+lineRefusal trace i (Line.Call event) = putRefusal trace i event
+lineRefusal trace i Line.Wrong = 0
+
+-- and the notes that have heard of it
+unfoldable pub refusedBy : Notes → ℕ → Notes
+refusedBy n number =
+    if (eqb number 0) n
+    (record { line = n .line; numbers = n .numbers; table = n .table; events = n .events; draft = n .draft; refused = number; wrong = n .wrong })
+
 -- a line has ended: a wrong one leaves the trace as it was
 unfoldable pub lineEnded : Notes → List ℕ → Read
 lineEnded n trace =
     let line = lineOf (n .draft) in
     let next = after n line in
-    read next (if (next .wrong) trace (traceAfter trace (n .events) line))
+    if (next .wrong) (read next trace) (read (refusedBy next (lineRefusal trace (n .events) line)) (traceAfter trace (n .events) line))
 
 -- the line that is being read has a byte more
 abbrev pub lengthened : Notes → ℕ → Notes
 lengthened n byte =
-    record { line = n .line; numbers = n .numbers; table = n .table; events = n .events; draft = withByte (n .draft) byte; wrong = n .wrong }
+    record { line = n .line; numbers = n .numbers; table = n .table; events = n .events; draft = withByte (n .draft) byte; refused = n .refused; wrong = n .wrong }
 
 -- a byte more, and any number of them. After a wrong line nothing changes.
 unfoldable pub byteRead : Read → ℕ → Read
@@ -158,13 +175,14 @@ told (Writing.Refused number) = Refused number
 abbrev pub traceOfNotes : Notes → List ℕ → List ℕ
 traceOfNotes n trace = take (event-size * n .events) trace
 
--- Notes that are right and whole are written as a session file; of others nothing is. 17 is for a trace that has no room for all events that were read.
+-- Notes that are right and whole are written as a session file; of others nothing is. Where the trace refused an event, that is told; 17 is for another trace, which is shorter.
 unfoldable pub filedBy : Notes → List ℕ → List ℕ → Filed
 filedBy n trace out =
     if (n .wrong) (filed (Wrong (n .line) (expectedBy n)) out)
     (if (ltb (n .numbers) 3) (filed (Unfinished (expectedBy n)) out)
+    (if (not (eqb (n .refused) 0)) (filed (Refused (n .refused)) out)
     (if (ltb (eventsIn trace) (n .events)) (filed (Refused 17) out)
-    (filed (told (writeOf (n .table) (traceOfNotes n trace) out)) (writtenOn (n .table) (traceOfNotes n trace) out))))
+    (filed (told (writeOf (n .table) (traceOfNotes n trace) out)) (writtenOn (n .table) (traceOfNotes n trace) out)))))
 
 -- the end of the notes ends their last line
 abbrev pub ended : Notes → List ℕ → Read

@@ -14,16 +14,17 @@ pub use line::shown;
 use table::Table;
 ghost use mathlib.Core.Path.{_≡_};
 ghost use Prim.Native.Nat.{_<_};
-ghost use Rattle.notes.specs.Notes.{started, stopped, nextLine, advanced, withWorst, withSpan, withPadding, afterNumber, afterStream, afterEvent, after, expectedBy, lengthened, told, read, traceAfter, lineEnded, byteRead, bytesRead, filedBy, ended};
+ghost use Rattle.notes.specs.Notes.{started, stopped, nextLine, advanced, withWorst, withSpan, withPadding, afterNumber, afterStream, afterEvent, after, expectedBy, lengthened, told, read, lineRefusal, refusedBy, traceAfter, lineEnded, byteRead, bytesRead, filedBy, ended};
 
 // What has been read of some notes: the number of the line that is being read, how many of the three table numbers there are, the table so far,
-// how many events there are, the line so far, and whether it is wrong. Then nothing more is read.
+// how many events there are, the line so far, the number by which an event was refused its place in the trace, or 0, and whether the line is wrong. Then nothing more is read.
 pub struct Notes {
     pub line: u64,
     pub numbers: u64,
     pub table: Table,
     pub events: usize,
     pub draft: Draft,
+    pub refused: u64,
     pub wrong: bool,
 }
 
@@ -94,17 +95,19 @@ fn end_line(notes: Notes, trace: &mut [u8]) -> Notes
     if next.wrong {
         return next;
     }
-    put_line(trace, notes.events, line);
-    next
+    let number = put_line(trace, notes.events, line);
+    next.refused_by(number)
 }
 
-// Stores the event of a line at i of a trace; of another line nothing. An event that the trace has no room for is counted all the same, and `filed` answers 17.
-fn put_line(trace: &mut [u8], i: usize, line: Line)
+// Stores the event of a line at i of a trace, or says by which number it is refused; of another line nothing is stored.
+fn put_line(trace: &mut [u8], i: usize, line: Line) -> u64
+    ensures { λ r. ⌜ r ≡ lineRefusal (now (trace .entry)) i line ⌝ }
     ensures { λ _. ⌜ now (trace .exit) ≡ traceAfter (now (trace .entry)) i line ⌝ }
 {
     if let Line::Call(event) = line {
-        file::put_event(trace, i, event);
+        return file::put_event(trace, i, event);
     }
+    0
 }
 
 impl Notes {
@@ -129,6 +132,7 @@ impl Notes {
             table,
             events: 0,
             draft: Draft::blank(),
+            refused: 0,
             wrong: false,
         }
     }
@@ -235,8 +239,20 @@ impl Notes {
             table,
             events,
             draft: Draft::blank(),
+            refused: self.refused,
             wrong: false,
         }
+    }
+
+    // The notes, whose event was refused by a number, unless that is 0.
+    fn refused_by(self, number: u64) -> Notes
+        ensures { λ r. ⌜ r ≡ refusedBy self number ⌝ }
+    {
+        let mut next = self;
+        if number != 0 {
+            next.refused = number;
+        }
+        next
     }
 
     // The notes, of which the line that is being read is wrong.
@@ -295,6 +311,9 @@ impl Notes {
         if self.numbers < Notes::TABLE_NUMBERS {
             let expected = self.expected();
             return Composed::Unfinished(expected);
+        }
+        if self.refused != 0 {
+            return Composed::Refused(self.refused);
         }
         let events = self.events;
         if trace.len() / Event::SIZE < events {

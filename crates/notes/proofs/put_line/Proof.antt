@@ -1,4 +1,4 @@
--- `put_line` stores the event of a line that has one.
+-- `put_line` stores the event of a line that has one, and answers what storing it answers.
 use borrow.Author.Needs.{needs}
 use denote.Enum.Declared.{tagOf}
 use mathlib.Core.List.{List, [], _∷_}
@@ -6,20 +6,20 @@ use mathlib.Core.Path.{_≡_, refl, sym, ap, _∙_}
 use Prim.Native.Nat.{ℕ}
 use types.Run.{OneOf, miss}
 use Rattle.notes.specs.declared.line.Line.{Line}
-use Rattle.notes.specs.Notes.{traceAfter}
+use Rattle.notes.specs.Notes.{lineRefusal, traceAfter}
 use Rattle.notes.proofs.line.Line.{the-type}
 use Rattle.notes.proofs.put_line.Statement.{statement}
 use Rattle.notes.proofs.put_line.Tie as tie
 
--- a line without an event leaves the trace as it is
-kept : (trace : List ℕ) (i : ℕ) (line : Line) → OneOf (0 ∷ 1 ∷ 2 ∷ 3 ∷ 4 ∷ 6 ∷ []) (tagOf the-type line) → trace ≡ traceAfter trace i line
-kept trace i Line.Blank is = refl
-kept trace i (Line.Worst n) is = refl
-kept trace i (Line.Span n) is = refl
-kept trace i (Line.Padding n) is = refl
-kept trace i (Line.Stream reserved period) is = refl
+-- a line without an event leaves the trace as it is, and nothing is refused
+kept : (trace : List ℕ) (i : ℕ) (line : Line) → OneOf (0 ∷ 1 ∷ 2 ∷ 3 ∷ 4 ∷ 6 ∷ []) (tagOf the-type line) → (0 ≡ lineRefusal trace i line) × (trace ≡ traceAfter trace i line)
+kept trace i Line.Blank is = (refl, refl)
+kept trace i (Line.Worst n) is = (refl, refl)
+kept trace i (Line.Span n) is = (refl, refl)
+kept trace i (Line.Padding n) is = (refl, refl)
+kept trace i (Line.Stream reserved period) is = (refl, refl)
 kept trace i (Line.Call event) is = absurd (miss (0 ∷ 1 ∷ 2 ∷ 3 ∷ 4 ∷ 6 ∷ []) 5 tt is)
-kept trace i Line.Wrong is = refl
+kept trace i Line.Wrong is = (refl, refl)
 
 enum-known-line : tie.Need-enum-known-line
 enum-known-line c = c .match .keys1
@@ -34,7 +34,10 @@ returns : tie.Need-returns
 returns c =
     let called = c .before .before in
     let a = called .before .before .before .before .before .before .args in
-    called .put-event .ensures .1 ∙ ap (λ (line : Line). traceAfter (a .trace .now) (a .i) line) (sym (called .before .before .before .line .given .1))
+    let is = sym (called .before .before .before .line .given .1) in (
+      called .put-event .ensures .0 ∙ ap (λ (line : Line). lineRefusal (a .trace .now) (a .i) line) is,
+      called .put-event .ensures .1 ∙ ap (λ (line : Line). traceAfter (a .trace .now) (a .i) line) is,
+    )
 
 returns-2 : tie.Need-returns-2
 returns-2 c = let a = c .before .before .args in kept (a .trace .now) (a .i) (a .line) (c .match .keys2)

@@ -36,11 +36,15 @@ unfoldable pub writtenOn : Table → List ℕ → List ℕ → List ℕ
 writtenOn t trace out =
     if (eqb (writeRefusal t trace (length out)) 0) (fileOf t trace ++ drop (length (fileOf t trace)) out) out
 
+-- "Event: kind, stream, six zero bytes, eight bytes of value": a stream has one byte
+abbrev pub stream-byte-max : ℕ
+stream-byte-max = 255
+
 -- an event that has bytes: it is not malformed, and its stream has room in one byte
 unfoldable pub isStorable : Event → Bool
-isStorable (Arrival stream place) = leb stream 255
+isStorable (Arrival stream place) = leb stream stream-byte-max
 isStorable Turn = true
-isStorable (OwnTurn stream index) = leb stream 255
+isStorable (OwnTurn stream index) = leb stream stream-byte-max
 isStorable (Done duration) = true
 isStorable (Clock time) = true
 isStorable Malformed = false

@@ -1,4 +1,4 @@
--- What the inner functions answer, and what they ask of their callers. No rule stands here.
+-- What the judge, the outlook and the inner functions answer, and what the inner ones ask of their callers. No rule stands here.
 use mathlib.Core.Bool.{true, not}
 use mathlib.Core.Path.{_≡_}
 use Rattle.table.specs.Fold.{if}

@@ -143,7 +143,7 @@ Promise =
     let past = historyOf t calls in
     Always t now past × (withinBounds past ≡ true → OnTime t now past)
 
--- What the card can print of requests, within the bounds: the completions and the expired slots of a closed job come to at least ⌊g / W⌋. A channel that always has a request waiting loses no slot, and so has at least that many requests served in every period. The proof is `requests-served` of proofs/Served.antt.
+-- What the card can print of requests, within the bounds: the completions and the expired slots of a closed job come to at least ⌊g / W⌋. A channel that always has a request waiting loses no slot, and so has at least that many requests served for each of its periods, by the end of it. The proof is `requests-served` of proofs/Served.antt.
 abbrev pub completion : ℕ → Moment → ℕ
 completion i m = if (completes i m) 1 0
 

@@ -22,8 +22,8 @@ impl Session {
             return self.refuse(12);
         }
         let taken = Charge::of(duration);
-        let now = self.clock.after(taken);
-        if now.is_past_end() {
+        let end = self.clock.after(taken);
+        if end.is_past_end() {
             return self.refuse(14);
         }
         self.finish(self.served - 1, taken)

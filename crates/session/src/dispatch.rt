@@ -1,4 +1,4 @@
-// The calls of a session: each judges the session, refuses in the document's order, and hands the session back.
+// Any of the five calls, taken as a value.
 ghost use mathlib.Core.Path.{_≡_};
 ghost use Rattle.session.specs.Calls.{answerTo};
 use crate::Answer;
@@ -6,7 +6,7 @@ use crate::Session;
 use calls::Call;
 
 impl Session {
-    // Any of these calls; each returns, so that its answer is not copied.
+    // Makes the call. Each branch returns, so that its answer is not copied.
     pub fn call(self, call: Call) -> Answer
         ensures { λ r. ⌜ r ≡ answerTo self call ⌝ }
     {

@@ -65,6 +65,30 @@ impl Session {
         }
     }
 
+    // Every stream whose deadline is the horizon closes its job, and the others keep theirs. The reply has the new horizon.
+    pub(crate) fn move_on(mut self, h: Clock) -> Answer
+        requires { ⌜ Ahead self h ⌝ }
+        ensures { λ r. ⌜ r ≡ outcome self move ⌝ }
+    {
+        let now = self.clock;
+        let first = self.streams[0];
+        let moved = first.moved(now, h);
+        let mut next = moved.deadline;
+        let mut i: usize = 0;
+        while i < self.count {
+            let x = self.streams[i];
+            let y = x.moved(now, h);
+            self.streams[i] = y;
+            next = next.earlier(y.deadline);
+            i += 1;
+        }
+        let reply = Reply::Moved { horizon: next };
+        Answer {
+            session: self,
+            reply: reply,
+        }
+    }
+
     // Wait until the latest safe moment; nothing changes.
     pub(crate) fn wait(self, until: Clock) -> Answer
         requires { ⌜ until ≡ moment (latest self) ⌝ }
@@ -91,30 +115,6 @@ impl Session {
             stream: number,
             charge: charge,
         };
-        Answer {
-            session: self,
-            reply: reply,
-        }
-    }
-
-    // Every stream whose deadline is the horizon closes its job, and the others keep theirs. The reply has the new horizon.
-    pub(crate) fn move_on(mut self, h: Clock) -> Answer
-        requires { ⌜ Ahead self h ⌝ }
-        ensures { λ r. ⌜ r ≡ outcome self move ⌝ }
-    {
-        let now = self.clock;
-        let lowest = self.streams[0];
-        let closed = lowest.moved(now, h);
-        let mut next = closed.deadline;
-        let mut i: usize = 0;
-        while i < self.count {
-            let x = self.streams[i];
-            let y = x.moved(now, h);
-            self.streams[i] = y;
-            next = next.earlier(y.deadline);
-            i += 1;
-        }
-        let reply = Reply::Moved { horizon: next };
         Answer {
             session: self,
             reply: reply,

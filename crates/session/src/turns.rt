@@ -25,19 +25,19 @@ impl Session {
             return self.send(pick.stream, pick.index);
         }
         // b. no stream has a slot: move, or 14
-        let empty = self.survey(h);
-        if !empty.found {
-            if empty.beyond {
+        let seen = self.survey(h);
+        if !seen.found {
+            if seen.beyond {
                 return self.refuse(14);
             }
             return self.move_on(h);
         }
         // c. only empty slots and t < L: wait until L
-        let until = empty.latest;
+        let until = seen.latest;
         if until.is_after(self.clock) {
             return self.wait(until);
         }
         // d. only empty slots and t ≥ L: expire one slot
-        self.expire(empty.expiring)
+        self.expire(seen.expiring)
     }
 }

@@ -140,7 +140,7 @@ pub(crate) fn clock(image: Image, time: u64) -> Answered
     in_numbers(answer, call)
 }
 
-// The session to be shown: one that stands for none is shown as the all-zero session, which is not sound.
+// The session to be shown: an image that stands for none is shown as the all-zero session, which is not sound.
 fn shown(image: Image) -> Session
     ensures { λ r. ⌜ r ≡ shownOf image ⌝ }
 {

@@ -70,7 +70,7 @@ pub record Countable (c : Census) : Type 0 where
   pub worst-high : c .worst ≤ worst-max
   pub shares-high : c .shares ≤ shares-max
 
--- what it says of the used streams once they are passed
+-- what it says of the streams once all are passed
 abbrev pub loadSo : Census → ℕ
 loadSo c = c .shares + c .worst * (c .span / c .least)
 

@@ -12,7 +12,6 @@ ghost use Rattle.time.specs.Time.{session-end};
 ghost use Rattle.stream.specs.Bounds.{Bounded};
 ghost use Rattle.stream.specs.Search.{inOrder};
 pub use census::Census;
-pub use choice::Near;
 pub use choice::Pick;
 pub use choice::consider;
 pub use expiry::Lapse;
@@ -87,7 +86,7 @@ impl Stream {
     {
         let room = self.granted.times(h.since(self.release));
         let used = self.charge.times(self.period as u64);
-        left(room, used) / (worst as u64 * self.period as u64)
+        room_left(room, used) / (worst as u64 * self.period as u64)
     }
 
     // How many of them queued requests fill.
@@ -261,7 +260,7 @@ impl Job {
 }
 
 // What is left of a room when what was used is taken off: nothing, where more was used.
-fn left(room: u64, used: u64) -> u64
+fn room_left(room: u64, used: u64) -> u64
     ensures { λ r. ⌜ r ≡ room - used ⌝ }
 {
     if room < used {

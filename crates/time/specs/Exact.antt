@@ -15,6 +15,8 @@ less a b = ltb (a .above * b .below) (b .above * a .below)
 unfoldable pub same : Fraction → Fraction → Bool
 same a b = eqb (a .above * b .below) (b .above * a .below)
 
+-- What the code keeps of such a fraction follows; no rule stands below.
+
 -- "r + c × p / g": whole microseconds, and what is left over g
 abbrev pub paced : ℕ → ℕ → ℕ → ℕ → Exact
 paced r c p g = record { whole = r + c * p / g; rest = c * p % g; below = g }

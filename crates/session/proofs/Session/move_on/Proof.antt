@@ -15,8 +15,8 @@ Inv-loop h s₀ now next₀ i₀ s next i = (i ≤ s .count) × (now ≡ s₀ .c
 abbrev μ-loop : tie.MeasureT-loop
 μ-loop h s₀ now next₀ i₀ s next i = s .count - i
 
-element-copy-out-lowest : tie.Need-element-copy-out-lowest Inv-loop μ-loop
-element-copy-out-lowest c = first-in
+element-copy-out-first : tie.Need-element-copy-out-first Inv-loop μ-loop
+element-copy-out-first c = first-in
 
 moved-requires : tie.Need-moved-requires Inv-loop μ-loop
 moved-requires c κs = deadline-high _ (sound-of _ (c .before .before .pre .ok)) 0 first-in
@@ -78,7 +78,7 @@ move-on-spec =
     (tie.spec
     Inv-loop
     μ-loop
-    element-copy-out-lowest
+    element-copy-out-first
     moved-requires
     loop-holds
     mul-x

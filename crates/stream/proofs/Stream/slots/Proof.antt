@@ -20,8 +20,8 @@ cast-times c = search needs
 times-requires-2 : tie.Need-times-requires-2
 times-requires-2 c κs = used-high (c .before .before .before .pre)
 
-left-requires : tie.Need-left-requires
-left-requires c κs = tt
+room-left-requires : tie.Need-room-left-requires
+room-left-requires c κs = tt
 
 cast-result : tie.Need-cast-result
 cast-result c = search needs
@@ -40,7 +40,7 @@ returns c =
     let s = c .before .before .before .before .before .before in
     let x = s .args .self in
     rw (
-      c .before .left .ensures,
+      c .before .room-left .ensures,
       c .before .before .times2 .ensures,
       c .before .before .before .before .times .ensures,
       c .before .before .before .before .before .since .ensures,
@@ -55,7 +55,7 @@ slots-spec =
     times-requires
     cast-times
     times-requires-2
-    left-requires
+    room-left-requires
     cast-result
     mul-result
     div-result

@@ -62,7 +62,7 @@ impl Table {
 }
 
 // How many worst-case requests a granted budget holds beside the reserved time.
-pub struct Padding(u32);
+pub struct Padding(pub u32);
 
 impl Padding {
     pub const DEFAULT: u32 = 1;
@@ -141,7 +141,7 @@ fn streams_refusal(t: Table) -> u64
 }
 
 // The load of a table whose streams are in order.
-fn load(t: Table) -> u64
+pub fn load(t: Table) -> u64
     requires { ⌜ (numbersRefusal t ≡ 0) × (streamsRefusal t ≡ 0) ⌝ }
     ensures { λ r. ⌜ r ≡ loadOf t ⌝ }
 {

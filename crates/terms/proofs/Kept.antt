@@ -1,0 +1,21 @@
+-- The terms are those that the promise keeps.
+use mathlib.Core.Path.{_≡_, sym}
+use native.Mathlib.Omega.{arith}
+use Rattle.table.specs.Admission.{reservedAt}
+use Rattle.session.proofs.Promise.{promise}
+use Rattle.session.proofs.Served.{requests-served}
+use Rattle.terms.specs.Terms.{termsOf}
+use Rattle.terms.specs.Laws.{TermsAreKept}
+use Rattle.terms.proofs.Laws.{nothing-cut}
+
+pub terms-are-kept : TermsAreKept
+unfolding termsOf
+terms-are-kept t calls admitted within later m earlier e i l closes =
+    let p = promise t calls admitted in
+    let truly = p .0 .closed-jobs later m earlier e i l closes in
+    let on-time = p .1 within .closed-jobs later m earlier e i l closes in
+    record {
+      in-time = omega (arith, on-time .in-time, truly .due);
+      more = omega (arith, on-time .more-than, truly .made-of, nothing-cut (t .worst) (t .padding) (reservedAt t i));
+      served = requests-served t calls admitted within later m earlier e i l closes;
+    }

@@ -1,0 +1,2 @@
+pub mod Terms
+pub mod Laws

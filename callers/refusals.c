@@ -3,15 +3,8 @@
 #include <string.h>
 
 #include "engine.h"
+#include "hold.h"
 #include "yerbagunt.h"
-
-static unsigned long wrong;
-
-static void hold(int fact, const char *what, unsigned long at)
-{
-    if (!fact && wrong++ < 20)
-        printf("wrong at %lu: %s\n", at, what);
-}
 
 static int is_refusal(uint64_t number) { return number < YERBAGUNT_ARRIVED || number == YERBAGUNT_UNSOUND; }
 

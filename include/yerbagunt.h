@@ -1,7 +1,20 @@
 /* Yerbagunt: one disk shared among up to eight channels.
  *
- * Link libshelf.a (x86-64). Times are whole microseconds, streams are counted from 1, places of a queue from 0.
- * No function has a precondition but that its pointers are valid: any numbers get a reply. A refusal changes no byte. */
+ * Link libshelf.a (x86-64), from C11 or C++11 on. Times are whole microseconds, streams are counted from 1, places of a queue from 0.
+ * Any numbers get a reply. A refusal changes no byte.
+ *
+ * This is asked of a caller, and nothing else:
+ *
+ * - Pointers. A pointer is valid for the length beside it, and a session's for a session.
+ *   Where the length is 0 nothing is read or written, and the pointer may be null. Nowhere else may it be.
+ * - No overlap. What one call is lent shares no byte. Only yerbagunt_write is lent two things, a trace and a buffer:
+ *   with the trace inside the buffer it may answer 0 and leave there what no reader accepts.
+ * - Alignment. A session and the records of a table stand where C puts them, at a multiple of 8 bytes and of 4. Bytes stand anywhere.
+ * - One thread at a time. Until a call returns, no other thread uses its session or its buffer, nor writes what else it was lent.
+ *   Different sessions are used by different threads as you like: the library keeps nothing from one call to the next.
+ * - Stack. A call takes up to 16 KB of it. It takes no other memory.
+ *
+ * A session is a struct like any other: it may be moved and copied, and a copy goes on from where it was taken. */
 #ifndef YERBAGUNT_H
 #define YERBAGUNT_H
 
@@ -95,7 +108,7 @@ struct yerbagunt_reservation {
     uint32_t reserved, period;
 };
 
-/* Slices that are lent for the time of a call. The pointer is not null, also where the length is 0. */
+/* Slices that are lent for the time of a call. */
 struct yerbagunt_reservations {
     const struct yerbagunt_reservation *records;
     size_t length;

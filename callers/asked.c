@@ -1,0 +1,197 @@
+/* Goes up to the edge of what yerbagunt.h asks of a caller: where it asks nothing more, every call answers as it always does. */
+#include <pthread.h>
+#include <stdio.h>
+#include <string.h>
+
+#include "hold.h"
+#include "yerbagunt.h"
+
+#define STACK 16384 /* what the header says that a call takes */
+
+static const struct yerbagunt_table table = {25000, 1000000, 1, 2, {25000, 175000}, {250000, 500000}};
+static const uint8_t trace[32] = {1, 1, 0, 0, 0, 0, 0, 0, 100, 0, 0, 0, 0, 0, 0, 0, 2};
+#define FILE_LENGTH 90
+
+static struct yerbagunt_written written(const uint8_t *from, size_t length, uint8_t *out, size_t room)
+{
+    return yerbagunt_write(table, (struct yerbagunt_bytes){from, length}, (struct yerbagunt_buffer){out, room});
+}
+
+static struct yerbagunt_session opened(void)
+{
+    const struct yerbagunt_reservation records[2] = {{25000, 250000}, {175000, 500000}};
+    struct yerbagunt_opening o = yerbagunt_open(25000, 1000000, 1, (struct yerbagunt_reservations){records, 2});
+    hold(o.number == YERBAGUNT_OK, "the table is admitted", 0);
+    return o.session;
+}
+
+/* Makes calls on a session, and answers a number that every reply goes into. Another seed makes other calls. */
+static uint64_t worked(struct yerbagunt_session *session, uint64_t seed)
+{
+    uint64_t sum = 0;
+    for (uint64_t n = 0; n < 2000; n++) {
+        uint64_t pick = (seed + n) * 2654435761 >> 7;
+        struct yerbagunt_reply r = pick % 4 == 0 ? yerbagunt_arrival(session, pick % 3, pick % 1000) : yerbagunt_turn(session);
+        if (r.number == YERBAGUNT_SENT)
+            r = yerbagunt_done(session, 1 + pick % 30000);
+        else if (r.number == YERBAGUNT_WAIT)
+            r = yerbagunt_clock(session, r.value);
+        sum = sum * 31 + r.number * 7 + r.stream * 5 + r.value;
+    }
+    return sum;
+}
+
+/* Pointers: with length 0 a null pointer will do, and one to where nothing is. */
+static void nothing_lent(void)
+{
+    static uint8_t file[FILE_LENGTH], other[FILE_LENGTH];
+    const struct yerbagunt_opening none = {.number = YERBAGUNT_COUNT};
+    const struct yerbagunt_table empty = {0};
+    uint8_t *const pointers[] = {NULL, (uint8_t *)4, (uint8_t *)-1, other};
+    for (size_t i = 0; i < sizeof pointers / sizeof pointers[0]; i++) {
+        uint8_t *p = pointers[i];
+        struct yerbagunt_opening o = yerbagunt_open(25000, 1000000, 1, (struct yerbagunt_reservations){(const void *)p, 0});
+        hold(memcmp(&o, &none, sizeof o) == 0, "a table of no records is refused", i);
+        hold(yerbagunt_read((struct yerbagunt_bytes){p, 0}).number == YERBAGUNT_LAYOUT, "no bytes are no file", i);
+        struct yerbagunt_table t = yerbagunt_table((struct yerbagunt_bytes){p, 0});
+        hold(t.worst == 0 && t.span == 0 && t.padding == 0 && t.count == 0 && memcmp(t.reserved, empty.reserved, 64) == 0, "the table of no bytes is all zero", i);
+        hold(written(trace, sizeof trace, p, 0).number == YERBAGUNT_ROOM, "no file fits in no room", i);
+        hold(written(p, 0, p, 0).number == YERBAGUNT_ROOM, "no file fits in no room, without a trace too", i);
+        hold(written(p, 0, file, sizeof file).length == 58 && yerbagunt_read((struct yerbagunt_bytes){file, 58}).number == YERBAGUNT_OK, "a file without events is written", i);
+    }
+}
+
+/* No overlap: a trace right before its buffer, and right behind it. */
+static void side_by_side(void)
+{
+    static uint8_t row[32 + FILE_LENGTH + 32], apart[FILE_LENGTH];
+    memcpy(row, trace, sizeof trace);
+    memcpy(row + 32 + FILE_LENGTH, trace, sizeof trace);
+    written(trace, sizeof trace, apart, FILE_LENGTH);
+    for (unsigned long behind = 0; behind < 2; behind++) {
+        memset(row + 32, 0xa5, FILE_LENGTH);
+        struct yerbagunt_written w = written(behind ? row + 32 + FILE_LENGTH : row, sizeof trace, row + 32, FILE_LENGTH);
+        hold(w.number == YERBAGUNT_OK && memcmp(row + 32, apart, FILE_LENGTH) == 0, "the file is written beside its trace", behind);
+        hold(memcmp(row, trace, 32) == 0 && memcmp(row + 32 + FILE_LENGTH, trace, 32) == 0, "the trace is as it was", behind);
+    }
+}
+
+/* Alignment: a session at a multiple of 8 and no more, records at one of 4, bytes anywhere. */
+static void alignment(void)
+{
+    static _Alignas(64) struct {
+        uint64_t before;
+        struct yerbagunt_session session;
+    } eight;
+    static _Alignas(64) struct {
+        uint32_t before;
+        struct yerbagunt_reservation records[2];
+    } four = {0, {{25000, 250000}, {175000, 500000}}};
+    static _Alignas(64) struct yerbagunt_session usual;
+    usual = opened();
+    eight.session = yerbagunt_open(25000, 1000000, 1, (struct yerbagunt_reservations){four.records, 2}).session;
+    hold(memcmp(&eight.session, &usual, sizeof usual) == 0, "records at a multiple of 4 are taken", 0);
+    hold(worked(&eight.session, 1) == worked(&usual, 1), "a session at a multiple of 8 is called", 0);
+
+    static _Alignas(64) uint8_t from[64 + sizeof trace], file[64 + FILE_LENGTH], even[FILE_LENGTH];
+    written(trace, sizeof trace, even, FILE_LENGTH);
+    for (size_t at = 0; at < 64; at++) {
+        memcpy(from + at, trace, sizeof trace);
+        hold(written(from + at, sizeof trace, file + 64 - at, FILE_LENGTH).number == YERBAGUNT_OK, "a trace and a buffer stand anywhere", at);
+        hold(memcmp(file + 64 - at, even, FILE_LENGTH) == 0, "the file is the same anywhere", at);
+        struct yerbagunt_bytes bytes = {file + 64 - at, FILE_LENGTH};
+        hold(yerbagunt_read(bytes).events == 2 && yerbagunt_table(bytes).period[1] == 500000, "a file is read anywhere", at);
+    }
+}
+
+/* A session with what its thread makes of it. */
+struct work {
+    struct yerbagunt_session session;
+    uint64_t seed, sum;
+};
+
+static void *work(void *given)
+{
+    struct work *w = given;
+    w->sum = worked(&w->session, w->seed);
+    return NULL;
+}
+
+/* One thread at a time: sessions of two threads go on at once, and a session goes from one thread to another. */
+static void threads(void)
+{
+    static struct work alone[2], together[2];
+    for (uint64_t round = 0; round < 3; round++) {
+        pthread_t thread[2];
+        for (int i = 0; i < 2; i++) {
+            if (round == 0)
+                alone[i].session = together[i].session = opened();
+            alone[i].seed = together[i].seed = 100 * round + i;
+            work(&alone[i]);
+        }
+        for (int i = 0; i < 2; i++)
+            hold(pthread_create(&thread[i], NULL, work, &together[i]) == 0, "a thread is made", round);
+        for (int i = 0; i < 2; i++)
+            hold(pthread_join(thread[i], NULL) == 0, "a thread ends", round);
+        hold(memcmp(alone, together, sizeof alone) == 0, "two threads make of their sessions what one makes of them", round);
+    }
+    hold(alone[0].sum != alone[1].sum, "two seeds make other calls", 0);
+}
+
+/* A copy goes on from where it was taken, and its original is none of its concern. */
+static void copied(void)
+{
+    struct yerbagunt_session original = opened(), before;
+    static uint64_t place[sizeof original / 8];
+    worked(&original, 5);
+    memcpy(&before, &original, sizeof before);
+    memcpy(place, &original, sizeof original);
+    uint64_t sum = worked((void *)place, 6);
+    hold(memcmp(&original, &before, sizeof before) == 0, "calls on a copy leave the original as it was", 0);
+    hold(worked(&original, 6) == sum && memcmp(place, &original, sizeof original) == 0, "a copy goes on as the original does", 0);
+}
+
+static uint8_t *edge; /* the end of the stack that `every_call` takes for itself */
+
+static void *every_call(void *file)
+{
+    struct yerbagunt_session s = opened();
+    edge = __builtin_alloca(16);
+    worked(&s, 7);
+    yerbagunt_own_turn(&s, 1, 0);
+    hold(yerbagunt_view(s).number + yerbagunt_stream(s, 1).number + yerbagunt_last_job(s, 1).number == 0, "a session is shown", 0);
+    hold(written(trace, sizeof trace, file, FILE_LENGTH).number == YERBAGUNT_OK, "a file is written", 0);
+    hold(yerbagunt_read((struct yerbagunt_bytes){file, FILE_LENGTH}).number == YERBAGUNT_OK, "a file is read", 0);
+    hold(yerbagunt_table((struct yerbagunt_bytes){file, FILE_LENGTH}).count == 2, "its table is read", 0);
+    return NULL;
+}
+
+/* Stack: every call on a stack that was filled with one number, of which a part is left below. */
+static void stack(void)
+{
+    static _Alignas(4096) uint8_t room[16 * STACK];
+    static uint8_t file[FILE_LENGTH];
+    pthread_t thread;
+    pthread_attr_t own;
+    size_t left = 0;
+    memset(room, 0xa5, sizeof room);
+    pthread_attr_init(&own);
+    pthread_attr_setstack(&own, room, sizeof room);
+    hold(pthread_create(&thread, &own, every_call, file) == 0 && pthread_join(thread, NULL) == 0, "a thread runs on its own stack", 0);
+    while (left < sizeof room && room[left] == 0xa5)
+        left++;
+    hold(edge - (room + left) > (long)sizeof(struct yerbagunt_session), "a call takes some of the stack", left);
+    hold(edge - (room + left) <= STACK, "a call takes no more of the stack than is said", left);
+}
+
+int main(void)
+{
+    nothing_lent();
+    side_by_side();
+    alignment();
+    threads();
+    copied();
+    stack();
+    printf("%lu facts, %lu wrong\n", held, wrong);
+    return wrong != 0;
+}

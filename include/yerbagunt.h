@@ -24,6 +24,16 @@
 #ifdef __cplusplus
 extern "C" {
 #define YERBAGUNT_ASSERT static_assert
+
+/* Three functions share their name with a struct. C tells them apart by the word `struct`. In C++ the name is the struct, and before a
+ * bracket the function: `yerbagunt_view v = yerbagunt_view(session);`. A pointer to the function is `&yerbagunt_view_of` there, and where
+ * the struct stands before a bracket it takes another name, as by `using view = yerbagunt_view;`. What is linked is the same. */
+#define yerbagunt_view(...) yerbagunt_view_of(__VA_ARGS__)
+#define yerbagunt_stream(...) yerbagunt_stream_of(__VA_ARGS__)
+#define yerbagunt_table(...) yerbagunt_table_of(__VA_ARGS__)
+#pragma redefine_extname yerbagunt_view_of yerbagunt_view
+#pragma redefine_extname yerbagunt_stream_of yerbagunt_stream
+#pragma redefine_extname yerbagunt_table_of yerbagunt_table
 #else
 #define YERBAGUNT_ASSERT _Static_assert
 #endif

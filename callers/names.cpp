@@ -1,0 +1,64 @@
+/* Uses each struct by its bare name and each function in C++, where three structs share their name with a function; and both as C writes them. */
+#include "hold.h"
+#include "yerbagunt.h"
+
+static yerbagunt_session session;
+
+static void calls()
+{
+    const yerbagunt_reservation records[2] = {{25000, 250000}, {175000, 500000}};
+    yerbagunt_reservations reservations = {records, 2};
+    yerbagunt_opening opening = yerbagunt_open(25000, 1000000, 1, reservations);
+    hold(opening.number == YERBAGUNT_OK, "the table is admitted", 0);
+    session = opening.session;
+    hold(yerbagunt_arrival(&session, 1, 100).number == YERBAGUNT_ARRIVED, "a request arrives", 0);
+    hold(yerbagunt_arrival(&session, 2, 900).number == YERBAGUNT_ARRIVED, "another arrives", 0);
+    yerbagunt_reply reply = yerbagunt_own_turn(&session, 2, 0);
+    hold(reply.number == YERBAGUNT_SENT && reply.value == 900, "it is sent first", 0);
+    hold(yerbagunt_done(&session, 5000).number == YERBAGUNT_DONE, "it is done", 0);
+    hold(yerbagunt_turn(&session).value == 100, "the house sends the other", 0);
+    hold(yerbagunt_done(&session, 5000).number == YERBAGUNT_DONE, "that is done", 0);
+    hold(yerbagunt_clock(&session, 20000).number == YERBAGUNT_CLOCK, "the time is reported", 0);
+}
+
+static void shown()
+{
+    yerbagunt_view view = yerbagunt_view(session);
+    struct yerbagunt_view as_in_c = yerbagunt_view(session);
+    hold(view.clock == 20000 && as_in_c.horizon == 250000, "a session is shown", 0);
+    yerbagunt_state state = yerbagunt_stream(session, 2);
+    yerbagunt_stream stream = state.stream;
+    struct yerbagunt_state state_as_in_c = yerbagunt_stream(session, 1);
+    hold(stream.charge == 5000 && state_as_in_c.stream.period == 250000, "a stream is shown", 0);
+    yerbagunt_closing closing = yerbagunt_last_job(session, 1);
+    yerbagunt_job job = closing.job;
+    hold(closing.number == YERBAGUNT_OK && job.deadline == 0, "no job was closed", 0);
+    auto named = &yerbagunt_view_of;
+    hold(named(session).latest == view.latest, "a function that shares its name is pointed at by its other name", 0);
+}
+
+static void files()
+{
+    static uint8_t file[58];
+    yerbagunt_table table = {25000, 1000000, 1, 2, {25000, 175000}, {250000, 500000}};
+    yerbagunt_buffer buffer = {file, sizeof file};
+    yerbagunt_written written = yerbagunt_write(table, yerbagunt_bytes{nullptr, 0}, buffer);
+    hold(written.number == YERBAGUNT_OK && written.length == 58, "a file is written", 0);
+    yerbagunt_bytes bytes = {file, sizeof file};
+    yerbagunt_file parts = yerbagunt_read(bytes);
+    hold(parts.number == YERBAGUNT_OK && parts.count == 2, "a file is read", 0);
+    struct yerbagunt_table as_in_c = yerbagunt_table(bytes);
+    hold(as_in_c.span == 1000000 && as_in_c.period[1] == 500000, "its table is read", 0);
+    yerbagunt_number number = YERBAGUNT_ROOM;
+    buffer.length = 57;
+    hold(yerbagunt_write(table, yerbagunt_bytes{nullptr, 0}, buffer).number == number, "a number has a type", 0);
+}
+
+int main()
+{
+    calls();
+    shown();
+    files();
+    printf("%lu facts, %lu wrong\n", held, wrong);
+    return wrong != 0;
+}

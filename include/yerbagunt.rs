@@ -2,6 +2,9 @@
 //!
 //! Every function answers any input; a refusal changes nothing.
 
+// Few programs use all of it.
+#![allow(dead_code)]
+
 pub const STREAMS_MAX: usize = 8;
 pub const QUEUE_MAX: usize = 16;
 
@@ -149,7 +152,7 @@ struct Written {
     length: u64,
 }
 
-// A slice as it crosses: its pointer, which is never null, and its length.
+// A slice as it crosses: its pointer and its length.
 #[repr(C)]
 struct Lent<T> {
     start: *const T,
@@ -182,7 +185,8 @@ unsafe extern "C" {
     fn yerbagunt_write(table: Table, trace: Lent<u8>, out: LentMut<u8>) -> Written;
 }
 
-// Each call is safe: the library has no precondition but valid pointers, and Rust's references are valid.
+// Each call is safe. What `yerbagunt.h` asks of a caller holds of Rust's references: they are valid and aligned, what one may change overlaps
+// with no other, and one thread at a time has it.
 impl Session {
     /// Opens a session with W, H, k and a table of any length; or the number of the refusal, 1 to 7.
     pub fn open(worst: u32, span: u32, padding: u32, table: &[Reservation]) -> Result<Session, u64> {

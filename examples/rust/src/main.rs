@@ -1,6 +1,6 @@
 //! A recorder of two channels: opens a table, queues requests, runs turns and reports what the disk took.
-#[allow(dead_code)]
-#[path = "../../include/yerbagunt.rs"]
+// In a product the wrapper is copied beside this file, and the path left out.
+#[path = "../../../include/yerbagunt.rs"]
 mod yerbagunt;
 
 use yerbagunt::{Reply, Reservation, Session, number};

@@ -184,6 +184,9 @@ static void stack(void)
     hold(edge - (room + left) <= STACK, "a call takes no more of the stack than is said", left);
 }
 
+#define TEXT(number) #number
+#define JOINED(major, minor, patch) TEXT(major) "." TEXT(minor) "." TEXT(patch)
+
 int main(void)
 {
     nothing_lent();
@@ -192,6 +195,7 @@ int main(void)
     threads();
     copied();
     stack();
+    hold(strcmp(YERBAGUNT_VERSION, JOINED(YERBAGUNT_VERSION_MAJOR, YERBAGUNT_VERSION_MINOR, YERBAGUNT_VERSION_PATCH)) == 0, "the version is its three numbers", 0);
     printf("%lu facts, %lu wrong\n", held, wrong);
     return wrong != 0;
 }

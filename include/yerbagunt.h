@@ -21,6 +21,14 @@
 #include <stddef.h>
 #include <stdint.h>
 
+/* The version of this header and of its library. Another major number: the layout of a struct or an answer changed; read what changed, and
+ * compile anew. Another minor number: something was added, and programs go on as they are. Another patch: neither.
+ * The numbers of replies keep their meaning through all of them. */
+#define YERBAGUNT_VERSION "1.0.0"
+#define YERBAGUNT_VERSION_MAJOR 1
+#define YERBAGUNT_VERSION_MINOR 0
+#define YERBAGUNT_VERSION_PATCH 0
+
 #ifdef __cplusplus
 extern "C" {
 #define YERBAGUNT_ASSERT static_assert

@@ -5,6 +5,9 @@
 // Few programs use all of it.
 #![allow(dead_code)]
 
+/// The version of this wrapper and its library, that of `yerbagunt.h`.
+pub const VERSION: &str = "1.0.0";
+
 pub const STREAMS_MAX: usize = 8;
 pub const QUEUE_MAX: usize = 16;
 

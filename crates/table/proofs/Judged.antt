@@ -9,8 +9,9 @@ use lib.ListN.{getD}
 use lib.Dec.{ltb, eqb}
 use borrow.Author.Tests.{ltb-false, eqb-true, eqb-false, not-false}
 use Rattle.table.specs.Ranges.{streams-max, worst-min, worst-max, span-min, span-max, padding-max, period-min, period-max}
-use Rattle.table.specs.Refusal.{outside}
-use Rattle.table.specs.Admission.{reservedAt, periodAt, grantedOf, shareOf, shareAt, sharesOf, smallestPeriod, numbersRefusal, streamRefusal, streamRefusalAt, streamsRefusal, loadOf, admissionOf}
+use Rattle.table.specs.Fold.{if}
+use Rattle.table.specs.Refusal.{outside, _or-next_}
+use Rattle.table.specs.Admission.{reservedAt, periodAt, grantedOf, shareOf, shareAt, sharesOf, smallestPeriod, numbersRefusal, streamRefusal, streamRefusalAt, streamsRefusal, loadOf, admissionOf, partsRefusal, judgedLoad}
 use Rattle.table.specs.Laws.{LoadIsExact}
 use Rattle.table.specs.declared.Table.{Table}
 use Rattle.table.proofs.Tests.{within, neither, given-none, or-next-none}
@@ -79,6 +80,15 @@ streams-of t h i l = stream-of (t .worst) (t .span) (t .padding) (reservedAt t i
 pub share-high : (worst span k e p : ℕ) → Fits-in worst span k e p → shareOf worst span k e p ≤ span
 unfolding shareOf
 share-high worst span k e p q = le-trans (mul-le-mul-right (span / p) (q .budget)) (mul-div-le span p)
+
+-- where 1 to 6 refuse nothing, neither the numbers nor a stream do
+pub parts-none : (t : Table) → partsRefusal t ≡ 0 → (numbersRefusal t ≡ 0) × (streamsRefusal t ≡ 0)
+unfolding partsRefusal
+parts-none t = or-next-none (numbersRefusal t) (streamsRefusal t)
+
+pub judged-load : (t : Table) → numbersRefusal t ≡ 0 → streamsRefusal t ≡ 0 → judgedLoad t ≡ loadOf t
+unfolding judgedLoad partsRefusal _or-next_ if
+judged-load t n s = rw (n, s)
 
 -- a table that is admitted passes each judgement
 pub record Admits (t : Table) : Type 0 where

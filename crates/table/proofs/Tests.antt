@@ -75,6 +75,12 @@ unfolding _or-next_
 or-next-first zero m h = absurd (h refl)
 or-next-first (suc n) m h = refl
 
+-- the first of three is that of the first two, and the third
+pub or-next-assoc : (n m o : ℕ) → n or-next m or-next o ≡ (n or-next m) or-next o
+unfolding _or-next_
+or-next-assoc zero m o = refl
+or-next-assoc (suc n) m o = refl
+
 -- a number other than 0 is the answer's refusal
 pub answered-refused : (n : ℕ) → (n ≡ 0 → ⊥) → answered n ≡ Refused n
 unfolding answered

@@ -69,6 +69,13 @@ streamsRefusal t = firstTo (streamRefusalAt t) (t .count)
 unfoldable pub admissionOf : Table → ℕ
 admissionOf t = numbersRefusal t or-next streamsRefusal t or-next given (ltb (t .span) (loadOf t)) 7
 
+-- 1 to 6 of these, and the load where it is judged: 0 where one of them applies
+unfoldable pub partsRefusal : Table → ℕ
+partsRefusal t = numbersRefusal t or-next streamsRefusal t
+
+unfoldable pub judgedLoad : Table → ℕ
+judgedLoad t = if (eqb (partsRefusal t) 0) (loadOf t) 0
+
 -- the answer for a number of admission
 unfoldable pub answered : ℕ → Admission
 answered zero = Admitted

@@ -4,7 +4,7 @@ mod reservations;
 ghost use mathlib.Core.Path.{_≡_};
 ghost use Prim.Native.Nat.{_*_, _≤_};
 ghost use Rattle.table.specs.Ranges.{streams-max};
-ghost use Rattle.table.specs.Admission.{paddingOf, grantedOf, shareOf, sharesOf, smallestPeriod, loadOf, numbersRefusal, streamRefusal, streamsRefusal, admissionOf, answered};
+ghost use Rattle.table.specs.Admission.{paddingOf, grantedOf, shareOf, sharesOf, smallestPeriod, loadOf, judgedLoad, numbersRefusal, streamRefusal, streamsRefusal, partsRefusal, admissionOf, answered};
 pub use reservations::Records;
 pub use reservations::Reservation;
 pub use reservations::record_at;
@@ -46,18 +46,25 @@ impl Table {
     pub fn admission(self) -> Admission
         ensures { λ r. ⌜ r ≡ answered (admissionOf self) ⌝ }
     {
-        let numbers = numbers_refusal(self);
-        if numbers != 0 {
-            return Admission::Refused(numbers);
-        }
-        let streams = streams_refusal(self);
-        if streams != 0 {
-            return Admission::Refused(streams);
+        let first = parts_refusal(self);
+        if first != 0 {
+            return Admission::Refused(first);
         }
         if (self.span as u64) < load(self) {
             return Admission::Refused(7);
         }
         Admission::Admitted
+    }
+
+    // The load of a table that 1 to 6 do not refuse; 0 of another.
+    pub fn load(self) -> u64
+        ensures { λ r. ⌜ r ≡ judgedLoad self ⌝ }
+    {
+        let first = parts_refusal(self);
+        if first != 0 {
+            return 0;
+        }
+        load(self)
     }
 }
 
@@ -87,6 +94,17 @@ pub fn granted(worst: u32, k: u32, reserved: u32) -> u64
 {
     let padding = Padding::of(k);
     reserved as u64 + padding.0 as u64 * worst as u64
+}
+
+// 1 to 6: the numbers of the whole table, then its streams.
+fn parts_refusal(t: Table) -> u64
+    ensures { λ r. ⌜ r ≡ partsRefusal t ⌝ }
+{
+    let numbers = numbers_refusal(t);
+    if numbers != 0 {
+        return numbers;
+    }
+    streams_refusal(t)
 }
 
 // 1 to 4: the numbers of the whole table.
@@ -141,7 +159,7 @@ fn streams_refusal(t: Table) -> u64
 }
 
 // The load of a table whose streams are in order.
-pub fn load(t: Table) -> u64
+fn load(t: Table) -> u64
     requires { ⌜ (numbersRefusal t ≡ 0) × (streamsRefusal t ≡ 0) ⌝ }
     ensures { λ r. ⌜ r ≡ loadOf t ⌝ }
 {

@@ -196,7 +196,7 @@ fn load_verdict(t: Table) -> Verdict
     requires { ⌜ (numbersRefusal t ≡ 0) × (streamsRefusal t ≡ 0) ⌝ }
     ensures { λ r. ⌜ r ≡ loadVerdict t ⌝ }
 {
-    let load = table::load(t);
+    let load = t.load();
     let span = t.span as u64;
     Verdict {
         number: if span < load { 7 } else { 0 },

@@ -1,0 +1,146 @@
+"""What a listing tells of a session: each thing that happened, with its times, and every job with its charge.
+
+Answers, values and clocks are the listing's; the table and the calls are the file's. No rule of the dispatcher is worked out again,
+but that a move closes every job whose deadline is the horizon.
+"""
+import struct
+
+from session_file import parts
+
+ARRIVAL, TURN, OWN_TURN, DONE, CLOCK = range(1, 6)
+CALLS = {ARRIVAL: "arrival", TURN: "turn", OWN_TURN: "own turn", DONE: "done", CLOCK: "clock"}
+ARRIVED, SENT, EXPIRED, MOVED, WAIT, FINISHED, OVERLONG, TOLD, LATE = range(20, 29)
+HEADER = "event answer stream value clock"
+# So many times the clock is far away.
+FAR = 20
+
+
+class Line:
+    """An event with its answer, and the clock before and after."""
+
+    def __init__(self, event, numbers, before):
+        self.kind, self.named, self.given = event
+        self.number, self.answer, self.stream, self.value, self.after = numbers
+        self.before = before
+
+    def refused(self):
+        return self.answer < ARRIVED or self.answer > LATE
+
+
+class Job:
+    """A job of a stream: it is charged from the closing of the one before it until its own."""
+
+    def __init__(self, stream, number, granted, period, opened):
+        self.stream, self.number, self.granted, self.period = stream, number, granted, period
+        self.deadline = number * period
+        self.opened, self.closed = opened, None
+        self.charge = self.requests = self.expired = 0
+        self.curve = [(opened, 0)]
+
+    def charged(self, start, end, charge):
+        """The charge grew to this one between two clocks."""
+        self.curve += [(start, self.charge), (end, charge)]
+        self.charge = charge
+
+    def close(self, clock):
+        """Closes the job, and gives the one that follows it."""
+        self.closed = clock
+        self.curve.append((clock, self.charge))
+        return Job(self.stream, self.number + 1, self.granted, self.period, clock)
+
+    def late(self):
+        """By how much it was closed after its deadline."""
+        return max(0, self.closed - self.deadline)
+
+
+class Session:
+    """What a listing tells: each thing that is drawn, with its times."""
+
+    def __init__(self, table, streams, lines):
+        self.worst, self.span, self.padding = table
+        self.streams, self.lines = streams, lines
+        self.arrivals, self.requests, self.expired, self.refusals, self.reports, self.moves = [], [], [], [], [], []
+        self.waits, self.waiting = [], []
+        self.sent, self.closed = None, []
+        self.jobs = [Job(i + 1, 1, reserved + (self.padding or 1) * self.worst, period, 0) for i, (reserved, period) in enumerate(streams)]
+        takers = {ARRIVED: self.arrivals.append, SENT: self.send, EXPIRED: self.expire, MOVED: self.move, WAIT: self.waiting.append,
+                  FINISHED: self.finish, OVERLONG: self.finish, TOLD: self.reports.append, LATE: self.reports.append}
+        for line in lines:
+            if line.after > line.before:
+                self.end_waits(line.after)
+            takers.get(line.answer, self.refusals.append)(line)
+        self.clock = lines[-1].after if lines else 0
+        self.end_waits(None)
+        if self.sent:
+            self.requests.append((self.sent, None))
+
+    def end_waits(self, clock):
+        """A wait lasts until the clock moves on or the latest safe moment comes; one that nothing followed, until then."""
+        self.waits += [(wait, wait.value if clock is None else min(clock, wait.value)) for wait in self.waiting]
+        self.waiting.clear()
+
+    def send(self, line):
+        self.sent = line
+
+    def finish(self, line):
+        job = self.jobs[line.stream - 1]
+        job.charged(self.sent.before, line.after, line.value)
+        job.requests += 1
+        self.requests.append((self.sent, line))
+        self.sent = None
+
+    def expire(self, line):
+        job = self.jobs[line.stream - 1]
+        job.charged(line.before, line.before, line.value)
+        job.expired += 1
+        self.expired.append(line)
+
+    def move(self, line):
+        """The job of every stream whose deadline is the horizon is closed."""
+        horizon = min(job.deadline for job in self.jobs)
+        for i, job in enumerate(self.jobs):
+            if job.deadline == horizon:
+                self.jobs[i] = job.close(line.before)
+                self.closed.append(job)
+        self.moves.append(line)
+
+    def end(self):
+        """The last moment worth drawing: the first deadline that is not past, or what reaches beyond it, unless that is far away."""
+        deadline = min(-(-max(self.clock, 1) // period) * period for _, period in self.streams)
+        running = (sent.before + self.worst for sent, finished in self.requests if finished is None)
+        reach = max([deadline, *running, *(until for _, until in self.waits)])
+        return min(reach, FAR * self.clock) if self.clock else reach
+
+
+def story(data, listing):
+    """The session of a file's bytes and its listing's lines; a ValueError says where the two do not fit."""
+    if listing[:1] != [HEADER]:
+        raise ValueError(listing[0] if listing and listing[0].startswith("refused ") else "it has no header")
+    try:
+        table, streams, events = parts(data)
+    except struct.error:
+        streams = []
+    if not streams or not all(period for _, period in streams):
+        raise ValueError("the file has no table that it could be of")
+    if len(listing) - 1 != len(events):
+        raise ValueError(f"it has {len(listing) - 1} lines for {len(events)} events")
+    lines, busy = [], False
+    for event, printed in zip(events, listing[1:]):
+        words = printed.split(" ")
+        before = lines[-1].after if lines else 0
+        if len(words) != 5 or not all(word.isascii() and word.isdigit() for word in words):
+            raise ValueError(f"line {len(lines) + 2} is not five numbers")
+        line = Line(event, tuple(map(int, words)), before)
+        if not fits(line, len(lines) + 1, len(streams), busy):
+            raise ValueError(f"line {len(lines) + 2} cannot follow the one before it")
+        busy = line.answer == SENT or busy and line.answer not in (FINISHED, OVERLONG)
+        lines.append(line)
+    return Session(table, streams, lines)
+
+
+def fits(line, number, count, busy):
+    """Whether a line may stand here: its number, its clock, its stream, and what is at the disk."""
+    of_a_stream = line.answer in (ARRIVED, SENT, EXPIRED, FINISHED, OVERLONG)
+    needs_disk, needs_none = line.answer in (FINISHED, OVERLONG), line.answer in (SENT, EXPIRED, MOVED, WAIT, TOLD, LATE)
+    return (line.number == number and line.after >= line.before and (1 <= line.stream <= count or not of_a_stream)
+            and (busy or not needs_disk) and not (busy and needs_none))

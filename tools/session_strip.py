@@ -1,0 +1,281 @@
+"""A stretch of a session's time, drawn: a row for the house and one for each stream, with a lane for each kind of mark."""
+from session_story import CALLS, LATE, OVERLONG, OWN_TURN
+from svg import MARK, colour, cross, diamond, dot, flag, merged, millis, several, step_for, tag, text, tick, upright, warning, wide
+
+# Places of the page, in pixels.
+WIDTH, LEFT, RIGHT = 1200, 132, 38
+PLOT = WIDTH - LEFT - RIGHT
+BEFORE, AXIS = 24, 26
+HOUSE_ROW, ROW, GAP = 36, 92, 10
+# Lanes of a stream's row: where marks have their middle, where words stand, and where boxes start and how high they are.
+REFUSED_LANE, ARRIVAL_LANE, EXPIRED_LANE, JOB_LANE = 7, 18, 46, 63
+REQUEST_LANE, CHARGE_LANE = (24, 15), (66, 24)
+# What is narrower is drawn as one with its neighbours; the least room from deadline to deadline.
+NARROW, FOR_A_DEADLINE = 3, 20
+
+
+class Strip:
+    """A stretch of a session's time on the page."""
+
+    def __init__(self, session, start, end, y):
+        self.session, self.start, self.end, self.top = session, start, end, y + BEFORE
+        self.rows = self.top + HOUSE_ROW + GAP
+        self.bottom = self.rows + len(session.streams) * (ROW + GAP)
+        self.out = []
+
+    def x(self, micros):
+        """Where a moment stands; one that is not in this strip stands at its edge."""
+        return float(LEFT + PLOT * (min(max(micros, self.start), self.end) - self.start) / (self.end - self.start))
+
+    def holds(self, micros):
+        return self.start <= micros < self.end
+
+    def meets(self, start, end):
+        return self.holds(start) or start < self.start < end
+
+    def row(self, stream):
+        """The top of a stream's row; of no stream that the table has, the house's."""
+        return self.rows + (stream - 1) * (ROW + GAP) if 1 <= stream <= len(self.session.streams) else self.top
+
+    def draw(self, *elements):
+        self.out.extend(elements)
+
+    def svg(self):
+        for drawer in (self.names, self.axis, self.waits, self.deadlines, self.moves, self.jobs, self.requests, self.points):
+            drawer()
+        return tag("g", inside="\n" + "\n".join(self.out) + "\n", class_="strip", data_from=self.start, data_to=self.end)
+
+    def names(self):
+        """The rows, and in each stream's the lane of its charge, as high as its granted budget."""
+        session = self.session
+        self.draw(text(16, self.top + 22, "the house", class_="name"), tag("rect", x=LEFT, y=self.top, width=PLOT, height=HOUSE_ROW, class_="band"))
+        for job, (reserved, period) in zip(session.jobs, session.streams):
+            y, (lane, high) = self.row(job.stream), CHARGE_LANE
+            least = y + lane + high * session.worst / job.granted
+            self.draw(tag("rect", x=LEFT, y=y, width=PLOT, height=ROW, class_="band"),
+                      tag("rect", x=16, y=y + 7, width=10, height=10, rx=2, fill=colour(job.stream)),
+                      text(32, y + 16, f"stream {job.stream}", class_="name"),
+                      text(32, y + 31, f"e {millis(reserved)} ms", class_="faint"), text(32, y + 45, f"p {millis(period)} ms", class_="faint"),
+                      tag("rect", x=LEFT, y=y + lane, width=PLOT, height=high, class_="lane"),
+                      tag("line", x1=LEFT, x2=LEFT + PLOT, y1=least, y2=least, class_="least"),
+                      text(LEFT - 5, y + lane + 8, f"g {millis(job.granted)} ms", class_="faint end"),
+                      text(LEFT - 5, y + lane + high, "0", class_="faint end"))
+
+    def axis(self):
+        step = step_for((self.end - self.start) / PLOT * 95)
+        self.draw(tag("line", x1=LEFT, x2=LEFT + PLOT, y1=self.bottom, y2=self.bottom, class_="axis"))
+        for micros in range(-(-self.start // step) * step, self.end + 1, step):
+            x = self.x(micros)
+            last = x + wide(millis(micros)) / 2 > WIDTH
+            self.draw(upright(x, self.top, self.bottom + 5, class_="grid"),
+                      text(WIDTH - 4 if last else x, self.bottom + 18, millis(micros), class_="faint end" if last else "faint middle"))
+        self.draw(text(16, self.bottom + 18, "milliseconds", class_="faint"))
+
+    def waits(self):
+        """A box for each wait, and the latest safe moment that it may last until."""
+        def edges(wait):
+            return self.x(wait[0].before), self.x(wait[1])
+        waits = [wait for wait in self.session.waits if self.meets(wait[0].before, wait[1])]
+        for group in merged(waits, lambda wait: edges(wait)[0], lambda wait: edges(wait)[1], lambda _: NARROW):
+            x, end = edges(group[0])[0], max(edges(wait)[1] for wait in group)
+            titles = [f"event {line.number}: wait from {millis(line.before)} until {millis(line.value)} ms" for line, _ in group]
+            self.draw(tag("rect", several(titles), x=x, y=self.top, width=max(1.5, end - x), height=HOUSE_ROW, class_="wait",
+                          data_wait=sum(self.holds(line.before) for line, _ in group)))
+        for safe in sorted({line.value for line, _ in waits if self.holds(line.value)}):
+            self.draw(upright(self.x(safe), self.top + 12, self.top + HOUSE_ROW - 10, f"latest safe moment {millis(safe)} ms", class_="until"))
+
+    def deadlines(self):
+        """A line with a flag at each deadline of a stream, with a break for the words of its jobs; none where they would be too close."""
+        words = JOB_LANE - 10
+        for stream, (_, period) in enumerate(self.session.streams, 1):
+            y, first = self.row(stream), max(1, -(-self.start // period))
+            if PLOT * period < FOR_A_DEADLINE * (self.end - self.start):
+                self.draw(text(16, y + 58, "deadlines too close", class_="small"))
+                continue
+            places = [self.x(number * period) for number in range(first, -(-self.end // period))]
+            lines = "".join(f"M{x:.1f} {y}v{words}m0 {CHARGE_LANE[0] - words}v{CHARGE_LANE[1]}" for x in places)
+            self.draw(tag("path", f"stream {stream}: a deadline every {millis(period)} ms", d=lines, class_="deadline"),
+                      tag("path", d="".join(flag(x, y - 8) for x in places), class_="flag"))
+
+    def moves(self):
+        """A line for each moment at which the horizon moves, and the horizon that it moves to where there is room."""
+        def x(line):
+            return self.x(line.before)
+        free = 0
+        for group in merged([line for line in self.session.moves if self.holds(line.before)], x, x, lambda _: NARROW):
+            titles = [f"event {line.number}: at {millis(line.before)} ms the horizon moves to {millis(line.value)} ms" for line in group]
+            at, words = x(group[0]), f"h {millis(group[-1].value)}" + times(group)
+            self.draw(upright(at, self.top - 6, self.top + HOUSE_ROW, several(titles), class_="move", data_move=len(group)),
+                      upright(at, self.top + HOUSE_ROW, self.bottom, class_="move below"))
+            if at - wide(words) / 2 > free:
+                free = at + wide(words) / 2 + MARK
+                self.draw(text(at, self.top - 10, words, class_="moved"))
+
+    def requests(self):
+        """A box for each request, from its send to its completion; one that is still at the disk is open."""
+        def edges(request):
+            sent, finished = request
+            return self.x(sent.before), self.x(finished.after if finished else sent.before + self.session.worst)
+        for stream in range(1, len(self.session.streams) + 1):
+            drawn = [(sent, finished) for sent, finished in self.session.requests
+                     if sent.stream == stream and self.meets(sent.before, finished.after if finished else sent.before + self.session.worst)]
+            for group in merged(drawn, lambda request: edges(request)[0], lambda request: edges(request)[1], lambda _: NARROW):
+                self.request(group, edges(group[0])[0], edges(group[-1])[1])
+
+    def request(self, group, x, end):
+        (sent, finished), width = group[0], max(2.5, end - x)
+        y, height = self.row(sent.stream) + REQUEST_LANE[0], REQUEST_LANE[1]
+        overlong = sum(finished is not None and finished.answer == OVERLONG for _, finished in group)
+        here = [request for request in group if self.holds(request[0].before)]
+        classes = "request" + (" unfinished" if not finished else " overlong" if overlong else "")
+        self.draw(tag("rect", several([request_title(*request) for request in group]), x=x, y=y, width=width, height=height, rx=2,
+                      fill=colour(sent.stream), class_=classes, data_request=len(here), data_overlong=overlong if here else 0))
+        if len(group) == 1 and width > wide(str(sent.value)) + 2:
+            self.draw(text(x + width / 2, y + 11, str(sent.value), class_="place"))
+        if any(sent.kind == OWN_TURN for sent, _ in here):
+            self.draw(tag("circle", "the caller's own choice", cx=x, cy=y, r=2.4, class_="own"))
+
+    def points(self):
+        """What takes no time: arrivals, expired slots, clock reports and refusals."""
+        session = self.session
+        for stream in range(1, len(session.streams) + 1):
+            y = self.row(stream)
+            self.marks([line for line in session.expired if line.stream == stream], y + EXPIRED_LANE, diamond, expired_title, "expired")
+            self.marks([line for line in session.arrivals if line.stream == stream], y + ARRIVAL_LANE, dot, arrival_title, "arrival")
+        for y in (self.top, *(self.row(job.stream) for job in session.jobs)):
+            self.marks([line for line in session.refusals if self.row(line.stream) == y], y + REFUSED_LANE, cross, refusal_title, "refused")
+        self.reports([line for line in session.reports if line.answer != LATE], "report", self.top + HOUSE_ROW - 8)
+        self.reports([line for line in session.reports if line.answer == LATE], "late", self.top + 14)
+
+    def marks(self, lines, y, shape, words, kind):
+        """A mark for each line; where several would stand on each other, one with ×N."""
+        def x(line):
+            return self.x(line.before)
+        for group in merged([line for line in lines if self.holds(line.before)], x, x):
+            at = x(group[0])
+            self.draw(shape(at, y, group[0].stream, several([words(line) for line in group]), **{f"data_{kind}": len(group)}))
+            if len(group) > 1:
+                self.draw(text(at + MARK - 2, y + 3.5, times(group).strip(), class_="times"))
+
+    def reports(self, lines, kind, y):
+        def x(line):
+            return self.x(line.after)
+        for group in merged([line for line in lines if self.holds(line.after)], x, x, lambda _: 1):
+            titles = [f"event {line.number}: the clock is {millis(line.after)} ms" + (", late" if kind == "late" else "") for line in group]
+            self.draw(upright(x(group[0]), y, self.top + HOUSE_ROW, several(titles), class_=kind, **{f"data_{kind}": len(group)}))
+
+    def jobs(self):
+        """The jobs of every stream, each from the closing of the one before it to its own."""
+        for stream, last in enumerate(self.session.jobs, 1):
+            closed = [job for job in self.session.closed if job.stream == stream and self.holds(job.closed)]
+            free = LEFT
+            for group in merged(closed, lambda job: self.x(job.closed), lambda job: self.x(job.closed), lambda n: 2 * MARK + (wide(f"×{n}") if n > 1 else 0)):
+                self.closing(group, free)
+                free = self.x(group[-1].closed) + (wide(times(group)) if len(group) > 1 else 0) + 4
+            on = [job for job in self.session.closed if job.stream == stream and job.opened < self.end <= job.closed]
+            self.going_on((on or [last])[0], free)
+
+    def closing(self, group, free):
+        """The charge of a job that is closed, with a tick if it was closed in time; of several, as one mark."""
+        first, last, late = group[0], group[-1], [job for job in group if job.late()]
+        x, y, (lane, high) = self.x(last.closed), self.row(first.stream), CHARGE_LANE
+        kind = "toolate" if late else "closed"
+        inside = tag("path", d="".join(self.curve(job) for job in group), fill=colour(first.stream), stroke=colour(first.stream), class_="charge")
+        inside += "".join(self.overrun(job, job.closed) for job in group)
+        if late:
+            inside += self.overdue(late[0], last.closed)
+        inside += upright(x, y + JOB_LANE - 9, y + lane + high, class_=kind) + tag("path", d=(warning if late else tick)(x, y + JOB_LANE - 8), class_=kind)
+        if len(group) > 1:
+            inside += text(x + 3, y + JOB_LANE, times(group).strip(), class_="times bad" if late else "times")
+        else:
+            inside += label(job_words(first, first.charge), free, x - 14, y + JOB_LANE, late or first.charge > first.granted)
+        self.draw(tag("g", several([job_title(job) for job in group]), inside, data_closed=len(group), data_toolate=len(late)))
+
+    def going_on(self, job, free):
+        """The charge so far of a job that is not closed in this strip."""
+        y, (lane, high) = self.row(job.stream), CHARGE_LANE
+        x, until = max(self.x(job.opened), LEFT), min(self.end, self.session.clock)
+        inside = tag("path", d=self.curve(job), fill=colour(job.stream), stroke=colour(job.stream), class_="charge") + self.overrun(job, until)
+        if job.closed is None:
+            inside += tag("rect", x=x, y=y + lane, width=LEFT + PLOT - x, height=high, class_="open")
+        if until > job.deadline:
+            inside += self.overdue(job, until)
+        charge = level(job.curve, until)
+        inside += label(job_words(job, charge, " so far, late" if until > job.deadline else " so far"), free, LEFT + PLOT - 4, y + JOB_LANE, until > job.deadline or charge > job.granted)
+        self.draw(tag("g", job_title(job), inside, data_open=int(job.closed is None and self.holds(self.session.clock))))
+
+    def overrun(self, job, until):
+        """Where a charge is above the granted budget."""
+        over = next((at for at, charge in job.curve if charge > job.granted), until)
+        x, y = self.x(over), self.row(job.stream) + CHARGE_LANE[0]
+        return tag("rect", x=x, y=y, width=self.x(until) - x, height=4, class_="overrun") if over < until else ""
+
+    def overdue(self, job, until):
+        """From a job's deadline to when it was closed after it."""
+        x, y = self.x(job.deadline), self.row(job.stream) + sum(CHARGE_LANE)
+        return tag("rect", x=x, y=y - 4, width=max(1.5, self.x(until) - x), height=4, class_="overdue")
+
+    def curve(self, job):
+        """The path of a charge in this strip, as high as its part of the granted budget."""
+        bottom, high = self.row(job.stream) + sum(CHARGE_LANE), CHARGE_LANE[1]
+        start, end = max(job.opened, self.start), min(self.session.clock if job.closed is None else job.closed, self.end)
+        points = [(start, level(job.curve, start)), *((at, charge) for at, charge in job.curve if start <= at <= end), (end, level(job.curve, end))]
+        drawn = [f"{self.x(at):.1f} {bottom - high * min(1, charge / job.granted):.1f}" for at, charge in points]
+        return f"M{self.x(start):.1f} {bottom}L" + " ".join(dict.fromkeys(drawn)) + f" {self.x(end):.1f} {bottom}z"
+
+
+def label(choices, free, end, y, bad):
+    """The longest text that there is room for, or none."""
+    words = next((words for words in choices if wide(words) <= end - free), "")
+    return text(end, y, words, class_="small end bad" if bad else "small end") if words else ""
+
+
+def level(curve, clock):
+    """The charge at a clock: it grows evenly while a request is at the disk."""
+    before = [point for point in curve if point[0] <= clock]
+    after = [point for point in curve if point[0] > clock]
+    (start, low), (end, high) = before[-1] if before else (clock, 0), after[0] if after else (clock + 1, before[-1][1])
+    return low + (high - low) * (clock - start) // (end - start)
+
+
+def times(group):
+    return f" ×{len(group)}" if len(group) > 1 else ""
+
+
+def job_words(job, charge, more=""):
+    of = f"{millis(charge)} of {millis(job.granted)}"
+    late = job.late() if job.closed is not None and not more else 0
+    if late:
+        return f"job {job.number}: {of} ms, {millis(late)} ms late", f"{of}, {millis(late)} late", f"{millis(late)} late"
+    return f"job {job.number}: {of} ms{more}", f"{of} ms{more}", of
+
+
+def job_title(job):
+    title = f"stream {job.stream}, job {job.number}: charged {millis(job.charge)} of {millis(job.granted)} ms, "
+    if job.closed is None:
+        title += f"open at the end, with the deadline {millis(job.deadline)} ms"
+    else:
+        title += f"closed at {millis(job.closed)} ms, " + (
+            f"{millis(job.late())} ms after its deadline {millis(job.deadline)} ms" if job.late() else f"in time for its deadline {millis(job.deadline)} ms")
+    return title + f"; requests done {job.requests}, slots expired {job.expired}"
+
+
+def request_title(sent, finished):
+    title = f"event {sent.number}: stream {sent.stream}, place {sent.value}, sent at {millis(sent.before)} ms"
+    title += ", the caller's own choice" if sent.kind == OWN_TURN else ""
+    if finished is None:
+        return title + ", still at the disk"
+    return title + f", took {millis(finished.after - sent.before)} ms" + (", overlong" if finished.answer == OVERLONG else "")
+
+
+def expired_title(line):
+    return f"event {line.number}: a slot of stream {line.stream} expired at {millis(line.before)} ms, charge {millis(line.value)} ms"
+
+
+def arrival_title(line):
+    return f"event {line.number}: place {line.given} queued at {millis(line.before)} ms, queue {line.value}"
+
+
+def refusal_title(line):
+    words = " ".join(str(word) for word in (CALLS[line.kind], line.named or "", line.given) if word != "")
+    return f"event {line.number}: {words} refused, {line.answer}"

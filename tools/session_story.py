@@ -42,6 +42,19 @@ class Job:
         self.curve += [(start, self.charge), (end, charge)]
         self.charge = charge
 
+    def charge_at(self, clock):
+        """The charge at a clock: it grows evenly while a request is at the disk."""
+        for (start, low), (end, high) in zip(self.curve, self.curve[1:]):
+            if start <= clock < end:
+                return low + (high - low) * (clock - start) // (end - start)
+        return self.charge
+
+    def curve_between(self, start, end):
+        """The clocks and charges between two clocks, with those at both."""
+        points = [point for point in self.curve if start < point[0] <= end or point[0] == start == self.opened]
+        first = [] if start == self.opened else [(start, self.charge_at(start))]
+        return [*first, *points, (end, self.charge_at(end))]
+
     def close(self, clock):
         """Closes the job, and gives the one that follows it."""
         self.closed = clock
@@ -54,7 +67,10 @@ class Job:
 
 
 class Session:
-    """What a listing tells: each thing that is drawn, with its times."""
+    """What a listing tells: each thing that is drawn, with its times.
+
+    Most are lines; a request is its send, its completion or None, and its end; a wait is its line and its end.
+    """
 
     def __init__(self, table, streams, lines):
         self.worst, self.span, self.padding = table
@@ -72,7 +88,7 @@ class Session:
         self.clock = lines[-1].after if lines else 0
         self.end_waits(None)
         if self.sent:
-            self.requests.append((self.sent, None))
+            self.requests.append((self.sent, None, self.sent.before + self.worst))
 
     def end_waits(self, clock):
         """A wait lasts until the clock moves on or the latest safe moment comes; one that nothing followed, until then."""
@@ -86,7 +102,7 @@ class Session:
         job = self.jobs[line.stream - 1]
         job.charged(self.sent.before, line.after, line.value)
         job.requests += 1
-        self.requests.append((self.sent, line))
+        self.requests.append((self.sent, line, line.after))
         self.sent = None
 
     def expire(self, line):
@@ -107,8 +123,7 @@ class Session:
     def end(self):
         """The last moment worth drawing: the first deadline that is not past, or what reaches beyond it, unless that is far away."""
         deadline = min(-(-max(self.clock, 1) // period) * period for _, period in self.streams)
-        running = (sent.before + self.worst for sent, finished in self.requests if finished is None)
-        reach = max([deadline, *running, *(until for _, until in self.waits)])
+        reach = max([deadline, *(end for _, _, end in self.requests), *(until for _, until in self.waits)])
         return min(reach, FAR * self.clock) if self.clock else reach
 
 

@@ -1,6 +1,6 @@
 """A stretch of a session's time, drawn: a row for the house and one for each stream, with a lane for each kind of mark."""
 from session_story import CALLS, LATE, OVERLONG, OWN_TURN
-from svg import MARK, colour, cross, diamond, dot, flag, merged, millis, several, step_for, tag, text, tick, upright, warning, wide
+from svg import MARK, colour, cross, diamond, dot, flag, merged, millis, room, several, step_for, tag, text, tick, upright, warning, wide
 
 # Places of the page, in pixels.
 WIDTH, LEFT, RIGHT = 1200, 132, 38
@@ -8,7 +8,7 @@ PLOT = WIDTH - LEFT - RIGHT
 BEFORE, AXIS = 24, 26
 HOUSE_ROW, ROW, GAP = 36, 92, 10
 # Lanes of a stream's row: where marks have their middle, where words stand, and where boxes start and how high they are.
-REFUSED_LANE, ARRIVAL_LANE, EXPIRED_LANE, JOB_LANE = 7, 18, 46, 63
+REFUSED_LANE, ARRIVAL_LANE, EXPIRED_LANE, JOB_LANE = 7, 18, 46, 62
 REQUEST_LANE, CHARGE_LANE = (24, 15), (66, 24)
 # What is narrower is drawn as one with its neighbours; the least room from deadline to deadline.
 NARROW, FOR_A_DEADLINE = 3, 20
@@ -75,13 +75,12 @@ class Strip:
         """A box for each wait, and the latest safe moment that it may last until."""
         def edges(wait):
             return self.x(wait[0].before), self.x(wait[1])
-        waits = [wait for wait in self.session.waits if self.meets(wait[0].before, wait[1])]
-        for group in merged(waits, lambda wait: edges(wait)[0], lambda wait: edges(wait)[1], lambda _: NARROW):
+        for group in merged([wait for wait in self.session.waits if self.meets(wait[0].before, wait[1])], edges, narrow):
             x, end = edges(group[0])[0], max(edges(wait)[1] for wait in group)
             titles = [f"event {line.number}: wait from {millis(line.before)} until {millis(line.value)} ms" for line, _ in group]
             self.draw(tag("rect", several(titles), x=x, y=self.top, width=max(1.5, end - x), height=HOUSE_ROW, class_="wait",
                           data_wait=sum(self.holds(line.before) for line, _ in group)))
-        for safe in sorted({line.value for line, _ in waits if self.holds(line.value)}):
+        for safe in sorted({line.value for line, _ in self.session.waits if self.holds(line.value)}):
             self.draw(upright(self.x(safe), self.top + 12, self.top + HOUSE_ROW - 10, f"latest safe moment {millis(safe)} ms", class_="until"))
 
     def deadlines(self):
@@ -99,40 +98,36 @@ class Strip:
 
     def moves(self):
         """A line for each moment at which the horizon moves, and the horizon that it moves to where there is room."""
-        def x(line):
-            return self.x(line.before)
         free = 0
-        for group in merged([line for line in self.session.moves if self.holds(line.before)], x, x, lambda _: NARROW):
+        for x, group in self.together(self.session.moves, narrow):
             titles = [f"event {line.number}: at {millis(line.before)} ms the horizon moves to {millis(line.value)} ms" for line in group]
-            at, words = x(group[0]), f"h {millis(group[-1].value)}" + times(group)
-            self.draw(upright(at, self.top - 6, self.top + HOUSE_ROW, several(titles), class_="move", data_move=len(group)),
-                      upright(at, self.top + HOUSE_ROW, self.bottom, class_="move below"))
-            if at - wide(words) / 2 > free:
-                free = at + wide(words) / 2 + MARK
-                self.draw(text(at, self.top - 10, words, class_="moved"))
+            words = f"h {millis(group[-1].value)} {times(group)}".strip()
+            self.draw(upright(x, self.top - 6, self.top + HOUSE_ROW, several(titles), class_="move", data_move=len(group)),
+                      upright(x, self.top + HOUSE_ROW, self.bottom, class_="move below"))
+            if x - wide(words) / 2 > free:
+                free = x + wide(words) / 2 + MARK
+                self.draw(text(x, self.top - 10, words, class_="moved"))
 
     def requests(self):
         """A box for each request, from its send to its completion; one that is still at the disk is open."""
         def edges(request):
-            sent, finished = request
-            return self.x(sent.before), self.x(finished.after if finished else sent.before + self.session.worst)
+            return self.x(request[0].before), self.x(request[2])
+        requests = [request for request in self.session.requests if self.meets(request[0].before, request[2])]
         for stream in range(1, len(self.session.streams) + 1):
-            drawn = [(sent, finished) for sent, finished in self.session.requests
-                     if sent.stream == stream and self.meets(sent.before, finished.after if finished else sent.before + self.session.worst)]
-            for group in merged(drawn, lambda request: edges(request)[0], lambda request: edges(request)[1], lambda _: NARROW):
+            for group in merged([request for request in requests if request[0].stream == stream], edges, narrow):
                 self.request(group, edges(group[0])[0], edges(group[-1])[1])
 
     def request(self, group, x, end):
-        (sent, finished), width = group[0], max(2.5, end - x)
+        """The box of a request, or of several that are too narrow for a box each. It counts in the strip in which it was sent."""
+        sent, width = group[0][0], max(2.5, end - x)
         y, height = self.row(sent.stream) + REQUEST_LANE[0], REQUEST_LANE[1]
-        overlong = sum(finished is not None and finished.answer == OVERLONG for _, finished in group)
         here = [request for request in group if self.holds(request[0].before)]
-        classes = "request" + (" unfinished" if not finished else " overlong" if overlong else "")
+        classes = "request" + (" unfinished" if group[-1][1] is None else " overlong" if any(map(overlong, group)) else "")
         self.draw(tag("rect", several([request_title(*request) for request in group]), x=x, y=y, width=width, height=height, rx=2,
-                      fill=colour(sent.stream), class_=classes, data_request=len(here), data_overlong=overlong if here else 0))
+                      fill=colour(sent.stream), class_=classes, data_request=len(here), data_overlong=sum(map(overlong, here))))
         if len(group) == 1 and width > wide(str(sent.value)) + 2:
             self.draw(text(x + width / 2, y + 11, str(sent.value), class_="place"))
-        if any(sent.kind == OWN_TURN for sent, _ in here):
+        if any(sent.kind == OWN_TURN for sent, _, _ in here):
             self.draw(tag("circle", "the caller's own choice", cx=x, cy=y, r=2.4, class_="own"))
 
     def points(self):
@@ -149,79 +144,80 @@ class Strip:
 
     def marks(self, lines, y, shape, words, kind):
         """A mark for each line; where several would stand on each other, one with ×N."""
-        def x(line):
-            return self.x(line.before)
-        for group in merged([line for line in lines if self.holds(line.before)], x, x):
-            at = x(group[0])
-            self.draw(shape(at, y, group[0].stream, several([words(line) for line in group]), **{f"data_{kind}": len(group)}))
+        for x, group in self.together(lines):
+            self.draw(shape(x, y, group[0].stream, several([words(line) for line in group]), **{f"data_{kind}": len(group)}))
             if len(group) > 1:
-                self.draw(text(at + MARK - 2, y + 3.5, times(group).strip(), class_="times"))
+                self.draw(text(x + MARK - 2, y + 3.5, times(group), class_="times"))
+
+    def together(self, lines, space=room, at=lambda line: line.before):
+        """The lines of this strip, in lists that one mark stands for, each with its place."""
+        def edges(line):
+            return self.x(at(line)), self.x(at(line))
+        return [(edges(group[0])[0], group) for group in merged([line for line in lines if self.holds(at(line))], edges, space)]
 
     def reports(self, lines, kind, y):
-        def x(line):
-            return self.x(line.after)
-        for group in merged([line for line in lines if self.holds(line.after)], x, x, lambda _: 1):
+        for x, group in self.together(lines, narrow, lambda line: line.after):
             titles = [f"event {line.number}: the clock is {millis(line.after)} ms" + (", late" if kind == "late" else "") for line in group]
-            self.draw(upright(x(group[0]), y, self.top + HOUSE_ROW, several(titles), class_=kind, **{f"data_{kind}": len(group)}))
+            self.draw(upright(x, y, self.top + HOUSE_ROW, several(titles), class_=kind, **{f"data_{kind}": len(group)}))
 
     def jobs(self):
         """The jobs of every stream, each from the closing of the one before it to its own."""
         for stream, last in enumerate(self.session.jobs, 1):
-            closed = [job for job in self.session.closed if job.stream == stream and self.holds(job.closed)]
+            jobs = [job for job in self.session.closed if job.stream == stream]
             free = LEFT
-            for group in merged(closed, lambda job: self.x(job.closed), lambda job: self.x(job.closed), lambda n: 2 * MARK + (wide(f"×{n}") if n > 1 else 0)):
+            for _, group in self.together(jobs, lambda number: MARK + room(number), lambda job: job.closed):
                 self.closing(group, free)
-                free = self.x(group[-1].closed) + (wide(times(group)) if len(group) > 1 else 0) + 4
-            on = [job for job in self.session.closed if job.stream == stream and job.opened < self.end <= job.closed]
-            self.going_on((on or [last])[0], free)
+                free = self.x(group[-1].closed) + wide(times(group)) + 4
+            self.going_on(next((job for job in jobs if job.opened < self.end <= job.closed), last), free)
 
     def closing(self, group, free):
-        """The charge of a job that is closed, with a tick if it was closed in time; of several, as one mark."""
-        first, last, late = group[0], group[-1], [job for job in group if job.late()]
-        x, y, (lane, high) = self.x(last.closed), self.row(first.stream), CHARGE_LANE
-        kind = "toolate" if late else "closed"
-        inside = tag("path", d="".join(self.curve(job) for job in group), fill=colour(first.stream), stroke=colour(first.stream), class_="charge")
-        inside += "".join(self.overrun(job, job.closed) for job in group)
-        if late:
-            inside += self.overdue(late[0], last.closed)
-        inside += upright(x, y + JOB_LANE - 9, y + lane + high, class_=kind) + tag("path", d=(warning if late else tick)(x, y + JOB_LANE - 8), class_=kind)
+        """The charge of a job that is closed here, with a tick if it was closed in time; of several too close for that, with one mark."""
+        last, late = group[-1], [job for job in group if job.late()]
+        x, y, kind = self.x(last.closed), self.row(last.stream), "toolate" if late else "closed"
+        inside = self.charge(group, last.closed) + (self.overdue(late[0], last.closed) if late else "")
+        inside += upright(x, y + JOB_LANE - 9, y + sum(CHARGE_LANE), class_=kind)
+        inside += tag("path", d=(warning if late else tick)(x, y + JOB_LANE - 8), class_=kind)
         if len(group) > 1:
-            inside += text(x + 3, y + JOB_LANE, times(group).strip(), class_="times bad" if late else "times")
+            inside += text(x + 3, y + JOB_LANE, times(group), class_="times bad" if late else "times")
         else:
-            inside += label(job_words(first, first.charge), free, x - 14, y + JOB_LANE, late or first.charge > first.granted)
+            inside += label(closed_words(last), free, x - 14, y + JOB_LANE, late or last.charge > last.granted)
         self.draw(tag("g", several([job_title(job) for job in group]), inside, data_closed=len(group), data_toolate=len(late)))
 
     def going_on(self, job, free):
-        """The charge so far of a job that is not closed in this strip."""
-        y, (lane, high) = self.row(job.stream), CHARGE_LANE
-        x, until = max(self.x(job.opened), LEFT), min(self.end, self.session.clock)
-        inside = tag("path", d=self.curve(job), fill=colour(job.stream), stroke=colour(job.stream), class_="charge") + self.overrun(job, until)
+        """The charge so far of a job that is not closed here."""
+        y, x, until = self.row(job.stream), self.x(job.opened), min(self.end, self.session.clock)
+        charge, late = job.charge_at(until), until > job.deadline
+        inside = self.charge([job], until) + (self.overdue(job, until) if late else "")
         if job.closed is None:
-            inside += tag("rect", x=x, y=y + lane, width=LEFT + PLOT - x, height=high, class_="open")
-        if until > job.deadline:
-            inside += self.overdue(job, until)
-        charge = level(job.curve, until)
-        inside += label(job_words(job, charge, " so far, late" if until > job.deadline else " so far"), free, LEFT + PLOT - 4, y + JOB_LANE, until > job.deadline or charge > job.granted)
+            inside += tag("rect", x=x, y=y + CHARGE_LANE[0], width=LEFT + PLOT - x, height=CHARGE_LANE[1], class_="open")
+        inside += label(open_words(job, charge, late), free, LEFT + PLOT - 4, y + JOB_LANE, late or charge > job.granted)
         self.draw(tag("g", job_title(job), inside, data_open=int(job.closed is None and self.holds(self.session.clock))))
 
-    def overrun(self, job, until):
-        """Where a charge is above the granted budget."""
-        over = next((at for at, charge in job.curve if charge > job.granted), until)
-        x, y = self.x(over), self.row(job.stream) + CHARGE_LANE[0]
-        return tag("rect", x=x, y=y, width=self.x(until) - x, height=4, class_="overrun") if over < until else ""
+    def charge(self, jobs, until):
+        """The charges of jobs until a clock, each as high as its part of the granted budget, with a red line where it is above."""
+        stream, y = jobs[0].stream, self.row(jobs[0].stream) + CHARGE_LANE[0]
+        out = tag("path", d="".join(self.curve(job, until) for job in jobs), fill=colour(stream), stroke=colour(stream), class_="charge")
+        for job in jobs:
+            end = until if job.closed is None else min(until, job.closed)
+            over = next((at for at, charge in job.curve if charge > job.granted), end)
+            if over < end:
+                out += tag("rect", x=self.x(over), y=y, width=self.x(end) - self.x(over), height=4, class_="overrun")
+        return out
+
+    def curve(self, job, until):
+        bottom, high = self.row(job.stream) + sum(CHARGE_LANE), CHARGE_LANE[1]
+        start, end = max(job.opened, self.start), until if job.closed is None else min(until, job.closed)
+        points = [f"{self.x(at):.1f} {bottom - high * min(1, charge / job.granted):.1f}" for at, charge in job.curve_between(start, end)]
+        return f"M{self.x(start):.1f} {bottom}L" + " ".join(dict.fromkeys(points)) + f" {self.x(end):.1f} {bottom}z"
 
     def overdue(self, job, until):
         """From a job's deadline to when it was closed after it."""
         x, y = self.x(job.deadline), self.row(job.stream) + sum(CHARGE_LANE)
         return tag("rect", x=x, y=y - 4, width=max(1.5, self.x(until) - x), height=4, class_="overdue")
 
-    def curve(self, job):
-        """The path of a charge in this strip, as high as its part of the granted budget."""
-        bottom, high = self.row(job.stream) + sum(CHARGE_LANE), CHARGE_LANE[1]
-        start, end = max(job.opened, self.start), min(self.session.clock if job.closed is None else job.closed, self.end)
-        points = [(start, level(job.curve, start)), *((at, charge) for at, charge in job.curve if start <= at <= end), (end, level(job.curve, end))]
-        drawn = [f"{self.x(at):.1f} {bottom - high * min(1, charge / job.granted):.1f}" for at, charge in points]
-        return f"M{self.x(start):.1f} {bottom}L" + " ".join(dict.fromkeys(drawn)) + f" {self.x(end):.1f} {bottom}z"
+
+def narrow(_):
+    return NARROW
 
 
 def label(choices, free, end, y, bad):
@@ -230,24 +226,24 @@ def label(choices, free, end, y, bad):
     return text(end, y, words, class_="small end bad" if bad else "small end") if words else ""
 
 
-def level(curve, clock):
-    """The charge at a clock: it grows evenly while a request is at the disk."""
-    before = [point for point in curve if point[0] <= clock]
-    after = [point for point in curve if point[0] > clock]
-    (start, low), (end, high) = before[-1] if before else (clock, 0), after[0] if after else (clock + 1, before[-1][1])
-    return low + (high - low) * (clock - start) // (end - start)
-
-
 def times(group):
-    return f" ×{len(group)}" if len(group) > 1 else ""
+    return f"×{len(group)}" if len(group) > 1 else ""
 
 
-def job_words(job, charge, more=""):
-    of = f"{millis(charge)} of {millis(job.granted)}"
-    late = job.late() if job.closed is not None and not more else 0
-    if late:
-        return f"job {job.number}: {of} ms, {millis(late)} ms late", f"{of}, {millis(late)} late", f"{millis(late)} late"
-    return f"job {job.number}: {of} ms{more}", f"{of} ms{more}", of
+def overlong(request):
+    return request[1] is not None and request[1].answer == OVERLONG
+
+
+def closed_words(job):
+    of, late = f"{millis(job.charge)} of {millis(job.granted)}", millis(job.late())
+    if job.late():
+        return f"job {job.number}: {of} ms, {late} ms late", f"{of}, {late} late", f"{late} late"
+    return f"job {job.number}: {of} ms", f"{of} ms", of
+
+
+def open_words(job, charge, late):
+    of, so_far = f"{millis(charge)} of {millis(job.granted)}", "so far, late" if late else "so far"
+    return f"job {job.number}: {of} ms {so_far}", f"{of} ms {so_far}", of
 
 
 def job_title(job):
@@ -260,7 +256,7 @@ def job_title(job):
     return title + f"; requests done {job.requests}, slots expired {job.expired}"
 
 
-def request_title(sent, finished):
+def request_title(sent, finished, _):
     title = f"event {sent.number}: stream {sent.stream}, place {sent.value}, sent at {millis(sent.before)} ms"
     title += ", the caller's own choice" if sent.kind == OWN_TURN else ""
     if finished is None:

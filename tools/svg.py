@@ -116,11 +116,11 @@ def room(times):
     return MARK + (MARK + wide(f"×{times}") if times > 1 else 0)
 
 
-def merged(marks, start, end, space=room):
-    """Marks in order of time, as lists: in one list where one would stand on another, or within the space that the list takes already."""
+def merged(marks, edges, space=room):
+    """Marks in order of time, as lists: a mark joins the list before it where it ends within the space that this takes already."""
     groups = []
     for mark in marks:
-        if groups and end(mark) < start(groups[-1][0]) + space(len(groups[-1])):
+        if groups and edges(mark)[1] < edges(groups[-1][0])[0] + space(len(groups[-1])):
             groups[-1].append(mark)
         else:
             groups.append([mark])

@@ -33,13 +33,17 @@ class Job:
     def __init__(self, stream, number, granted, period, opened):
         self.stream, self.number, self.granted, self.period = stream, number, granted, period
         self.deadline = number * period
-        self.opened, self.closed = opened, None
+        self.opened, self.closed, self.above = opened, None, None
         self.charge = self.requests = self.expired = 0
         self.curve = [(opened, 0)]
 
     def charged(self, start, end, charge):
-        """The charge grew to this one between two clocks."""
-        self.curve += [(start, self.charge), (end, charge)]
+        """The charge grew to this one between two clocks, and perhaps passed the granted budget."""
+        self.curve.append((start, self.charge))
+        if self.charge <= self.granted < charge:
+            self.above = start + (self.granted - self.charge) * (end - start) // (charge - self.charge)
+            self.curve.append((self.above, self.granted))
+        self.curve.append((end, charge))
         self.charge = charge
 
     def charge_at(self, clock):

@@ -199,9 +199,8 @@ class Strip:
         out = tag("path", d="".join(self.curve(job, until) for job in jobs), fill=colour(stream), stroke=colour(stream), class_="charge")
         for job in jobs:
             end = until if job.closed is None else min(until, job.closed)
-            over = next((at for at, charge in job.curve if charge > job.granted), end)
-            if over < end:
-                out += tag("rect", x=self.x(over), y=y, width=self.x(end) - self.x(over), height=4, class_="overrun")
+            if job.above is not None and job.above < end:
+                out += tag("rect", x=self.x(job.above), y=y, width=max(1.5, self.x(end) - self.x(job.above)), height=4, class_="overrun")
         return out
 
     def curve(self, job, until):

@@ -128,7 +128,7 @@ class Strip:
         if len(group) == 1 and width > wide(str(sent.value)) + 2:
             self.draw(text(x + width / 2, y + 11, str(sent.value), class_="place"))
         if any(sent.kind == OWN_TURN for sent, _, _ in here):
-            self.draw(tag("circle", "the caller's own choice", cx=x, cy=y, r=2.4, class_="own"))
+            self.draw(tag("circle", "the caller's own choice", cx=x, cy=y + height, r=2.4, class_="own"))
 
     def points(self):
         """What takes no time: arrivals, expired slots, clock reports and refusals."""

@@ -1,5 +1,5 @@
 -- Reading a line byte by byte is reading its words: word by word, each against its kind.
-use mathlib.Core.Bool.{Bool, true, false, _&&_, false≢true}
+use mathlib.Core.Bool.{Bool, true, false, _&&_, _||_, false≢true}
 use mathlib.Core.Path.{_≡_, refl, sym, ap, _∙_}
 use mathlib.Core.List.{List, [], _∷_, _++_, append-assoc, append-nil}
 use mathlib.Core.Logic.{_⊎_, inl, inr}
@@ -15,17 +15,17 @@ use Rattle.listing.proofs.Decimal.{spelt-append, spelt-grows}
 use Rattle.notes.specs.declared.line.Line.{Line}
 use Rattle.notes.specs.declared.line.Line.the-variants.{Wrong}
 use Rattle.notes.specs.declared.draft.Place.{Place}
-use Rattle.notes.specs.declared.draft.Place.the-variants.{Between, Within, Comment}
+use Rattle.notes.specs.declared.draft.Place.the-variants.{Between, Within, Comment, Returned, Stray, Amiss}
 use Rattle.notes.specs.declared.draft.Draft.{Draft}
-use Rattle.notes.specs.Draft.{drafted, amiss, placed, hash, isLetter, lettered, isDigit, longer, lengthens, firstLonger, secondLonger, inField, begun, afterGap, afterField, withByte}
+use Rattle.notes.specs.Draft.{drafted, placed, amiss, tab, isGap, hash, carriage-return, isLetter, lettered, isDigit, longer, lengthens, firstLonger, secondLonger, inField, begun, afterGap, afterField, withByte}
 use Rattle.notes.specs.Line.{heldAfter, fieldsLine, lineOf}
-use Rattle.notes.specs.Words.{uncommented, ended-word, wordsAfter, allOf, isName, isNumber, lineOfWords}
+use Rattle.notes.specs.Words.{unreturned, uncommented, ended-word, wordsAfter, allOf, isName, isNumber, lineOfWords}
 use Rattle.notes.specs.Laws.{drawn, LineByWords}
 use Rattle.notes.proofs.Words.{held-append, held-grows}
 
 -- ---- tests
 
-test : (b : Bool) → (b ≡ true) ⊎ (b ≡ false)
+pub test : (b : Bool) → (b ≡ true) ⊎ (b ≡ false)
 test true = inl refl
 test false = inr refl
 
@@ -103,36 +103,65 @@ digit-more a byte h = fine-more isDigit (speltAfter 0) spelt-onward a byte h ∙
 
 -- ---- what does not depend on the word that is being read
 
-amiss-stays : (rest : List ℕ) → drawn amiss rest ≡ amiss
+amiss-stays : (d : Draft) (rest : List ℕ) → drawn (amiss d) rest ≡ amiss d
 unfolding drawn
-amiss-stays [] = refl
-amiss-stays (byte ∷ rest) = amiss-stays rest
+amiss-stays d [] = refl
+amiss-stays d (byte ∷ rest) = amiss-stays d rest
+
+stray-stays : (d : Draft) (rest : List ℕ) → drawn (placed d Stray) rest ≡ placed d Stray
+unfolding drawn
+stray-stays d [] = refl
+stray-stays d (byte ∷ rest) = stray-stays d rest
 
 comment-stays : (d : Draft) (rest : List ℕ) → drawn (placed d Comment) rest ≡ placed d Comment
 unfolding drawn
 comment-stays d [] = refl
 comment-stays d (byte ∷ rest) = comment-stays d rest
 
+-- a gap begins no comment and is no carriage return
+gap-is-no : (other byte : ℕ) → eqb space other ≡ false → eqb tab other ≡ false → isGap byte ≡ true → eqb byte other ≡ false
+gap-is-no other byte no-space no-tab h = go (test (eqb byte space)) (test (eqb byte tab))
+  where
+    go : (eqb byte space ≡ true) ⊎ (eqb byte space ≡ false) → (eqb byte tab ≡ true) ⊎ (eqb byte tab ≡ false) → eqb byte other ≡ false
+    go (inl is) t = ap (λ (k : ℕ). eqb k other) (eqb-true byte space is) ∙ no-space
+    go (inr is) (inl t) = ap (λ (k : ℕ). eqb k other) (eqb-true byte tab t) ∙ no-tab
+    go (inr is) (inr t) = absurd (false≢true (sym (ap (λ (k : Bool). k || eqb byte tab) is ∙ t) ∙ h))
+
+-- what counts of a line: it ends at its comment, or at a carriage return that is its last byte
+abbrev plain : List ℕ → List ℕ
+plain line = uncommented (unreturned line)
+
+module _ (byte : ℕ) where
+  comment-starts : (rest : List ℕ) → eqb byte hash ≡ true → plain (byte ∷ rest) ≡ []
+  unfolding unreturned uncommented if
+  comment-starts [] h = ap (λ (k : ℕ). plain (k ∷ [])) (eqb-true byte hash h)
+  comment-starts (next ∷ rest) h = rw h
+
+  line-ends : eqb byte carriage-return ≡ true → plain (byte ∷ []) ≡ []
+  unfolding unreturned uncommented if
+  line-ends h = rw h
+
+  module _ (c : eqb byte hash ≡ false) where
+    goes-on : (next : ℕ) (rest : List ℕ) → plain (byte ∷ next ∷ rest) ≡ byte ∷ plain (next ∷ rest)
+    unfolding unreturned uncommented if
+    goes-on next rest = rw c
+
+    no-comment : (rest : List ℕ) → eqb byte carriage-return ≡ false → plain (byte ∷ rest) ≡ byte ∷ plain rest
+    unfolding unreturned uncommented if
+    no-comment [] h = rw (h, c)
+    no-comment (next ∷ rest) h = goes-on next rest
+
 module _ (byte : ℕ) (rest : List ℕ) where
-  comment-starts : eqb byte hash ≡ true → uncommented (byte ∷ rest) ≡ []
-  unfolding uncommented if
-  comment-starts h = rw h
-
-  no-comment : eqb byte hash ≡ false → uncommented (byte ∷ rest) ≡ byte ∷ uncommented rest
-  unfolding uncommented if
-  no-comment h = rw h
-
-  word-ends : (word : List ℕ) → eqb byte space ≡ true → wordsAfter word (byte ∷ rest) ≡ ended-word word (wordsAfter [] rest)
+  word-ends : (word : List ℕ) → isGap byte ≡ true → wordsAfter word (byte ∷ rest) ≡ ended-word word (wordsAfter [] rest)
   unfolding wordsAfter if
   word-ends word h = rw h
 
-  word-goes-on : (word : List ℕ) → eqb byte space ≡ false → wordsAfter word (byte ∷ rest) ≡ wordsAfter (word ++ (byte ∷ [])) rest
+  word-goes-on : (word : List ℕ) → isGap byte ≡ false → wordsAfter word (byte ∷ rest) ≡ wordsAfter (word ++ (byte ∷ [])) rest
   unfolding wordsAfter if
   word-goes-on word h = rw h
 
--- a space begins no comment
-space-no-hash : (byte : ℕ) → eqb byte space ≡ true → eqb byte hash ≡ false
-space-no-hash byte h = rw (eqb-true byte space h)
+gap-goes-on : (byte : ℕ) (rest : List ℕ) → isGap byte ≡ true → plain (byte ∷ rest) ≡ byte ∷ plain rest
+gap-goes-on byte rest s = no-comment byte (gap-is-no hash byte refl refl s) rest (gap-is-no carriage-return byte refl refl s)
 
 -- the words after the start of one: the first begins so
 record Started (word : List ℕ) (words : List (List ℕ)) : Type 0 where
@@ -143,9 +172,9 @@ record Started (word : List ℕ) (words : List (List ℕ)) : Type 0 where
 word-started : (x : ℕ) (w rest : List ℕ) → Started (x ∷ w) (wordsAfter (x ∷ w) rest)
 unfolding wordsAfter
 word-started x w [] = record { more = []; others = []; are = rw (append-nil (x ∷ w)) }
-word-started x w (byte ∷ rest) = go (word-started x (w ++ (byte ∷ [])) rest) (test (eqb byte space))
+word-started x w (byte ∷ rest) = go (word-started x (w ++ (byte ∷ [])) rest) (test (isGap byte))
   where
-    go : Started (x ∷ (w ++ (byte ∷ []))) (wordsAfter (x ∷ (w ++ (byte ∷ []))) rest) → (eqb byte space ≡ true) ⊎ (eqb byte space ≡ false)
+    go : Started (x ∷ (w ++ (byte ∷ []))) (wordsAfter (x ∷ (w ++ (byte ∷ []))) rest) → (isGap byte ≡ true) ⊎ (isGap byte ≡ false)
         → Started (x ∷ w) (wordsAfter (x ∷ w) (byte ∷ rest))
     go q (inl h) = record { more = []; others = wordsAfter [] rest; are = word-ends byte rest (x ∷ w) h ∙ rw (append-nil (x ∷ w)) }
     go q (inr h) =
@@ -157,29 +186,42 @@ word-started x w (byte ∷ rest) = go (word-started x (w ++ (byte ∷ [])) rest)
 
 -- a byte behind one of a field, and a byte after a gap
 module _ (k h a b byte : ℕ) where
-  field-space : eqb byte space ≡ true → withByte (drafted Within k h a b) byte ≡ drafted Between k h a b
+  abbrev field-at : Place → Draft
+  field-at place = drafted place k h a b
+
+  field-gap : isGap byte ≡ true → withByte (field-at Within) byte ≡ field-at Between
   unfolding afterField if
-  field-space s = rw s
+  field-gap s = rw s
 
-  field-hash : eqb byte space ≡ false → eqb byte hash ≡ true → withByte (drafted Within k h a b) byte ≡ drafted Comment k h a b
-  unfolding afterField if
-  field-hash s c = rw (s, c)
-
-  field-on : eqb byte space ≡ false → eqb byte hash ≡ false → withByte (drafted Within k h a b) byte ≡ inField (drafted Within k h a b) byte
-  unfolding afterField if
-  field-on s c = rw (s, c)
-
-  gap-space : eqb byte space ≡ true → withByte (drafted Between k h a b) byte ≡ drafted Between k h a b
+  gap-gap : isGap byte ≡ true → withByte (field-at Between) byte ≡ field-at Between
   unfolding afterGap if
-  gap-space s = rw s
+  gap-gap s = rw s
 
-  gap-hash : eqb byte space ≡ false → eqb byte hash ≡ true → withByte (drafted Between k h a b) byte ≡ drafted Comment k h a b
-  unfolding afterGap if
-  gap-hash s c = rw (s, c)
+  module _ (s : isGap byte ≡ false) where
+    field-hash : eqb byte hash ≡ true → withByte (field-at Within) byte ≡ field-at Comment
+    unfolding afterField if
+    field-hash c = rw (s, c)
 
-  gap-on : eqb byte space ≡ false → eqb byte hash ≡ false → withByte (drafted Between k h a b) byte ≡ begun (drafted Between k h a b) byte
-  unfolding afterGap if
-  gap-on s c = rw (s, c)
+    gap-hash : eqb byte hash ≡ true → withByte (field-at Between) byte ≡ field-at Comment
+    unfolding afterGap if
+    gap-hash c = rw (s, c)
+
+    module _ (c : eqb byte hash ≡ false) where
+      field-return : eqb byte carriage-return ≡ true → withByte (field-at Within) byte ≡ field-at Returned
+      unfolding afterField if
+      field-return r = rw (s, c, r)
+
+      gap-return : eqb byte carriage-return ≡ true → withByte (field-at Between) byte ≡ field-at Returned
+      unfolding afterGap if
+      gap-return r = rw (s, c, r)
+
+      field-on : eqb byte carriage-return ≡ false → withByte (field-at Within) byte ≡ inField (field-at Within) byte
+      unfolding afterField if
+      field-on r = rw (s, c, r)
+
+      gap-on : eqb byte carriage-return ≡ false → withByte (field-at Between) byte ≡ begun (field-at Between) byte
+      unfolding afterGap if
+      gap-on r = rw (s, c, r)
 
 -- ---- a word: `done` are those before it, `ok` is what it has to be, and the line holds it as `h`, `a`, `b` say
 
@@ -193,80 +235,118 @@ module _ (done : List (List ℕ)) (k h a b : ℕ) (h2 a2 b2 : List ℕ → ℕ) 
   abbrev words-and : List (List ℕ) → Line
   words-and others = lineOfWords (done ++ others)
 
+  -- `bad` is the line that a byte has spoilt
   record Kind : Type 0 where
-    from : (byte : ℕ) → begun gap byte ≡ if (ok (byte ∷ [])) (in-word (byte ∷ [])) amiss
-    on : (w : List ℕ) (byte : ℕ) → ok w ≡ true → inField (in-word w) byte ≡ if (ok (w ++ (byte ∷ []))) (in-word (w ++ (byte ∷ []))) amiss
+    bad : List ℕ → Draft
+    from : (byte : ℕ) → begun gap byte ≡ if (ok (byte ∷ [])) (in-word (byte ∷ [])) (amiss (bad []))
+    on : (w : List ℕ) (byte : ℕ) → ok w ≡ true → inField (in-word w) byte ≡ if (ok (w ++ (byte ∷ []))) (in-word (w ++ (byte ∷ []))) (amiss (bad w))
     none : fieldsLine gap ≡ words-and []
     one : (w : List ℕ) → ok w ≡ true → fieldsLine (in-word w) ≡ words-and (w ∷ [])
+    no-return : (w : List ℕ) → ok (w ++ (carriage-return ∷ [])) ≡ false
     hopeless : (w more : List ℕ) (others : List (List ℕ)) → ok w ≡ false → words-and ((w ++ more) ∷ others) ≡ Wrong
     next : (w rest : List ℕ) → ok w ≡ true
-        → lineOf (drawn (placed (in-word w) Between) rest) ≡ lineOfWords ((done ++ (w ∷ [])) ++ wordsAfter [] (uncommented rest))
+        → lineOf (drawn (placed (in-word w) Between) rest) ≡ lineOfWords ((done ++ (w ∷ [])) ++ wordsAfter [] (plain rest))
 
   module _ (kind : Kind) where
-    -- a byte that does not fit leaves no hope
-    lost : (x : ℕ) (w rest : List ℕ) → ok (x ∷ w) ≡ false → lineOf (drawn amiss rest) ≡ words-and (wordsAfter (x ∷ w) (uncommented rest))
-    lost x w rest bad =
-        let q = word-started x w (uncommented rest) in
-        ap (λ (d : Draft). lineOf d) (amiss-stays rest)
-        ∙ sym (ap words-and (q .are) ∙ kind .hopeless (x ∷ w) (q .more) (q .others) bad)
+    -- a word that starts wrong leaves no hope
+    lost : (x : ℕ) (w text : List ℕ) → ok (x ∷ w) ≡ false → words-and (wordsAfter (x ∷ w) text) ≡ Wrong
+    lost x w text bad =
+        let q = word-started x w text in
+        ap words-and (q .are) ∙ kind .hopeless (x ∷ w) (q .more) (q .others) bad
 
     -- the word so far, with a byte more
     abbrev Reads : List ℕ → List ℕ → Type 0
-    Reads w rest = lineOf (drawn (in-word w) rest) ≡ words-and (wordsAfter w (uncommented rest))
+    Reads w rest = lineOf (drawn (in-word w) rest) ≡ words-and (wordsAfter w (plain rest))
 
     -- where the byte belongs to the word, the longer word decides
-    longer-reads : (x : ℕ) (w rest : List ℕ) → (ok (x ∷ w) ≡ true → Reads (x ∷ w) rest)
-        → lineOf (drawn (if (ok (x ∷ w)) (in-word (x ∷ w)) amiss) rest) ≡ words-and (wordsAfter (x ∷ w) (uncommented rest))
-    longer-reads x w rest onward =
-        by-if (λ (d : Draft). lineOf (drawn d rest) ≡ words-and (wordsAfter (x ∷ w) (uncommented rest))) (ok (x ∷ w)) (in-word (x ∷ w)) amiss onward (lost x w rest)
+    longer-reads : (d : Draft) (x : ℕ) (w rest : List ℕ) → (ok (x ∷ w) ≡ true → Reads (x ∷ w) rest)
+        → lineOf (drawn (if (ok (x ∷ w)) (in-word (x ∷ w)) (amiss d)) rest) ≡ words-and (wordsAfter (x ∷ w) (plain rest))
+    longer-reads d x w rest onward =
+        by-if (λ (e : Draft). lineOf (drawn e rest) ≡ words-and (wordsAfter (x ∷ w) (plain rest))) (ok (x ∷ w)) (in-word (x ∷ w)) (amiss d) onward
+        (λ bad. ap (λ (e : Draft). lineOf e) (amiss-stays d rest) ∙ sym (lost x w (plain rest) bad))
+
+    -- a carriage return before another byte leaves no hope either, in a word or in place of one
+    returned : (d : Draft) (x : ℕ) (w : List ℕ) (next : ℕ) (rest text : List ℕ) → ok (x ∷ w) ≡ false
+        → lineOf (drawn (placed d Returned) (next ∷ rest)) ≡ words-and (wordsAfter (x ∷ w) text)
+    unfolding drawn
+    returned d x w next rest text bad = ap (λ (e : Draft). lineOf e) (stray-stays d rest) ∙ sym (lost x w text bad)
+
+    word-return : (x : ℕ) (w : List ℕ) (byte : ℕ) (rest : List ℕ) → ok (x ∷ w) ≡ true → isGap byte ≡ false → eqb byte hash ≡ false → eqb byte carriage-return ≡ true
+        → Reads (x ∷ w) (byte ∷ rest)
+    unfolding drawn wordsAfter fieldsLine
+    word-return x w byte [] fine s c r =
+        ap (λ (d : Draft). lineOf d) (field-return (suc k) (h2 (x ∷ w)) (a2 (x ∷ w)) (b2 (x ∷ w)) byte s c r)
+        ∙ kind .one (x ∷ w) fine
+        ∙ sym (ap (λ (u : List ℕ). words-and (wordsAfter (x ∷ w) u)) (line-ends byte r))
+    word-return x w byte (next ∷ rest) fine s c r =
+        ap (λ (d : Draft). lineOf (drawn d (next ∷ rest))) (field-return (suc k) (h2 (x ∷ w)) (a2 (x ∷ w)) (b2 (x ∷ w)) byte s c r)
+        ∙ returned (in-word (x ∷ w)) x (w ++ (byte ∷ [])) next rest (plain (next ∷ rest))
+        (ap (λ (b : ℕ). ok (x ∷ (w ++ (b ∷ [])))) (eqb-true byte carriage-return r) ∙ kind .no-return (x ∷ w))
+        ∙ sym (ap (λ (u : List ℕ). words-and (wordsAfter (x ∷ w) u)) (goes-on byte c next rest) ∙ ap words-and (word-goes-on byte (plain (next ∷ rest)) (x ∷ w) s))
 
     word-byte : (x : ℕ) (w : List ℕ) (byte : ℕ) (rest : List ℕ) → ok (x ∷ w) ≡ true
         → (ok (x ∷ (w ++ (byte ∷ []))) ≡ true → Reads (x ∷ (w ++ (byte ∷ []))) rest)
-        → (eqb byte space ≡ true) ⊎ (eqb byte space ≡ false) → (eqb byte hash ≡ true) ⊎ (eqb byte hash ≡ false) → Reads (x ∷ w) (byte ∷ rest)
+        → (isGap byte ≡ true) ⊎ (isGap byte ≡ false) → (eqb byte hash ≡ true) ⊎ (eqb byte hash ≡ false)
+        → (eqb byte carriage-return ≡ true) ⊎ (eqb byte carriage-return ≡ false) → Reads (x ∷ w) (byte ∷ rest)
     unfolding drawn wordsAfter fieldsLine
-    word-byte x w byte rest fine onward (inl s) c =
-        ap (λ (d : Draft). lineOf (drawn d rest)) (field-space (suc k) (h2 (x ∷ w)) (a2 (x ∷ w)) (b2 (x ∷ w)) byte s)
+    word-byte x w byte rest fine onward (inl s) c r =
+        ap (λ (d : Draft). lineOf (drawn d rest)) (field-gap (suc k) (h2 (x ∷ w)) (a2 (x ∷ w)) (b2 (x ∷ w)) byte s)
         ∙ kind .next (x ∷ w) rest fine
-        ∙ ap lineOfWords (append-assoc done ((x ∷ w) ∷ []) (wordsAfter [] (uncommented rest)))
-        ∙ sym (ap (λ (u : List ℕ). words-and (wordsAfter (x ∷ w) u)) (no-comment byte rest (space-no-hash byte s)) ∙ ap words-and (word-ends byte (uncommented rest) (x ∷ w) s))
-    word-byte x w byte rest fine onward (inr s) (inl c) =
+        ∙ ap lineOfWords (append-assoc done ((x ∷ w) ∷ []) (wordsAfter [] (plain rest)))
+        ∙ sym (ap (λ (u : List ℕ). words-and (wordsAfter (x ∷ w) u)) (gap-goes-on byte rest s) ∙ ap words-and (word-ends byte (plain rest) (x ∷ w) s))
+    word-byte x w byte rest fine onward (inr s) (inl c) r =
         ap (λ (d : Draft). lineOf (drawn d rest)) (field-hash (suc k) (h2 (x ∷ w)) (a2 (x ∷ w)) (b2 (x ∷ w)) byte s c)
         ∙ ap (λ (d : Draft). lineOf d) (comment-stays (in-word (x ∷ w)) rest)
         ∙ kind .one (x ∷ w) fine
         ∙ sym (ap (λ (u : List ℕ). words-and (wordsAfter (x ∷ w) u)) (comment-starts byte rest c))
-    word-byte x w byte rest fine onward (inr s) (inr c) =
-        ap (λ (d : Draft). lineOf (drawn d rest)) (field-on (suc k) (h2 (x ∷ w)) (a2 (x ∷ w)) (b2 (x ∷ w)) byte s c ∙ kind .on (x ∷ w) byte fine)
-        ∙ longer-reads x (w ++ (byte ∷ [])) rest onward
-        ∙ sym (ap (λ (u : List ℕ). words-and (wordsAfter (x ∷ w) u)) (no-comment byte rest c) ∙ ap words-and (word-goes-on byte (uncommented rest) (x ∷ w) s))
+    word-byte x w byte rest fine onward (inr s) (inr c) (inl r) = word-return x w byte rest fine s c r
+    word-byte x w byte rest fine onward (inr s) (inr c) (inr r) =
+        ap (λ (d : Draft). lineOf (drawn d rest)) (field-on (suc k) (h2 (x ∷ w)) (a2 (x ∷ w)) (b2 (x ∷ w)) byte s c r ∙ kind .on (x ∷ w) byte fine)
+        ∙ longer-reads (kind .bad (x ∷ w)) x (w ++ (byte ∷ [])) rest onward
+        ∙ sym (ap (λ (u : List ℕ). words-and (wordsAfter (x ∷ w) u)) (no-comment byte c rest r) ∙ ap words-and (word-goes-on byte (plain rest) (x ∷ w) s))
 
     word-reads : (x : ℕ) (w rest : List ℕ) → ok (x ∷ w) ≡ true → Reads (x ∷ w) rest
-    unfolding drawn uncommented wordsAfter
+    unfolding drawn unreturned uncommented wordsAfter
     word-reads x w [] fine = kind .one (x ∷ w) fine
     word-reads x w (byte ∷ rest) fine =
-        word-byte x w byte rest fine (λ longer. word-reads x (w ++ (byte ∷ [])) rest longer) (test (eqb byte space)) (test (eqb byte hash))
+        word-byte x w byte rest fine (λ longer. word-reads x (w ++ (byte ∷ [])) rest longer) (test (isGap byte)) (test (eqb byte hash)) (test (eqb byte carriage-return))
 
-    gap-byte : (byte : ℕ) (rest : List ℕ) → lineOf (drawn gap rest) ≡ words-and (wordsAfter [] (uncommented rest))
-        → (eqb byte space ≡ true) ⊎ (eqb byte space ≡ false) → (eqb byte hash ≡ true) ⊎ (eqb byte hash ≡ false)
-        → lineOf (drawn gap (byte ∷ rest)) ≡ words-and (wordsAfter [] (uncommented (byte ∷ rest)))
+    gap-carriage : (byte : ℕ) (rest : List ℕ) → isGap byte ≡ false → eqb byte hash ≡ false → eqb byte carriage-return ≡ true
+        → lineOf (drawn gap (byte ∷ rest)) ≡ words-and (wordsAfter [] (plain (byte ∷ rest)))
     unfolding drawn wordsAfter fieldsLine
-    gap-byte byte rest later (inl s) c =
-        ap (λ (d : Draft). lineOf (drawn d rest)) (gap-space k h a b byte s)
+    gap-carriage byte [] s c r =
+        ap (λ (d : Draft). lineOf d) (gap-return k h a b byte s c r)
+        ∙ kind .none
+        ∙ sym (ap (λ (u : List ℕ). words-and (wordsAfter [] u)) (line-ends byte r))
+    gap-carriage byte (next ∷ rest) s c r =
+        ap (λ (d : Draft). lineOf (drawn d (next ∷ rest))) (gap-return k h a b byte s c r)
+        ∙ returned gap byte [] next rest (plain (next ∷ rest)) (ap (λ (b : ℕ). ok (b ∷ [])) (eqb-true byte carriage-return r) ∙ kind .no-return [])
+        ∙ sym (ap (λ (u : List ℕ). words-and (wordsAfter [] u)) (goes-on byte c next rest) ∙ ap words-and (word-goes-on byte (plain (next ∷ rest)) [] s))
+
+    gap-byte : (byte : ℕ) (rest : List ℕ) → lineOf (drawn gap rest) ≡ words-and (wordsAfter [] (plain rest))
+        → (isGap byte ≡ true) ⊎ (isGap byte ≡ false) → (eqb byte hash ≡ true) ⊎ (eqb byte hash ≡ false)
+        → (eqb byte carriage-return ≡ true) ⊎ (eqb byte carriage-return ≡ false)
+        → lineOf (drawn gap (byte ∷ rest)) ≡ words-and (wordsAfter [] (plain (byte ∷ rest)))
+    unfolding drawn wordsAfter fieldsLine
+    gap-byte byte rest later (inl s) c r =
+        ap (λ (d : Draft). lineOf (drawn d rest)) (gap-gap k h a b byte s)
         ∙ later
-        ∙ sym (ap (λ (u : List ℕ). words-and (wordsAfter [] u)) (no-comment byte rest (space-no-hash byte s)) ∙ ap words-and (word-ends byte (uncommented rest) [] s))
-    gap-byte byte rest later (inr s) (inl c) =
+        ∙ sym (ap (λ (u : List ℕ). words-and (wordsAfter [] u)) (gap-goes-on byte rest s) ∙ ap words-and (word-ends byte (plain rest) [] s))
+    gap-byte byte rest later (inr s) (inl c) r =
         ap (λ (d : Draft). lineOf (drawn d rest)) (gap-hash k h a b byte s c)
         ∙ ap (λ (d : Draft). lineOf d) (comment-stays gap rest)
         ∙ kind .none
         ∙ sym (ap (λ (u : List ℕ). words-and (wordsAfter [] u)) (comment-starts byte rest c))
-    gap-byte byte rest later (inr s) (inr c) =
-        ap (λ (d : Draft). lineOf (drawn d rest)) (gap-on k h a b byte s c ∙ kind .from byte)
-        ∙ longer-reads byte [] rest (word-reads byte [] rest)
-        ∙ sym (ap (λ (u : List ℕ). words-and (wordsAfter [] u)) (no-comment byte rest c) ∙ ap words-and (word-goes-on byte (uncommented rest) [] s))
+    gap-byte byte rest later (inr s) (inr c) (inl r) = gap-carriage byte rest s c r
+    gap-byte byte rest later (inr s) (inr c) (inr r) =
+        ap (λ (d : Draft). lineOf (drawn d rest)) (gap-on k h a b byte s c r ∙ kind .from byte)
+        ∙ longer-reads (kind .bad []) byte [] rest (word-reads byte [] rest)
+        ∙ sym (ap (λ (u : List ℕ). words-and (wordsAfter [] u)) (no-comment byte c rest r) ∙ ap words-and (word-goes-on byte (plain rest) [] s))
 
-    gap-reads : (rest : List ℕ) → lineOf (drawn gap rest) ≡ words-and (wordsAfter [] (uncommented rest))
-    unfolding drawn uncommented wordsAfter
+    gap-reads : (rest : List ℕ) → lineOf (drawn gap rest) ≡ words-and (wordsAfter [] (plain rest))
+    unfolding drawn unreturned uncommented wordsAfter
     gap-reads [] = kind .none
-    gap-reads (byte ∷ rest) = gap-byte byte rest (gap-reads rest) (test (eqb byte space)) (test (eqb byte hash))
+    gap-reads (byte ∷ rest) = gap-byte byte rest (gap-reads rest) (test (isGap byte)) (test (eqb byte hash)) (test (eqb byte carriage-return))
 
 -- ---- what a line with so many right words is
 
@@ -295,21 +375,31 @@ no-letters : isName [] ≡ true
 unfolding isName allOf heldAfter
 no-letters = refl
 
-module _ (number : ℕ → Draft) (w : List ℕ) (byte : ℕ) (fine : isNumber w ≡ true) where
-  digit-on : if (lengthens (speltAfter 0 w) byte) (number (longer (speltAfter 0 w) byte)) amiss
-      ≡ if (isNumber (w ++ (byte ∷ []))) (number (speltAfter 0 (w ++ (byte ∷ [])))) amiss
+module _ (number : ℕ → Draft) (bad : Draft) (w : List ℕ) (byte : ℕ) (fine : isNumber w ≡ true) where
+  digit-on : if (lengthens (speltAfter 0 w) byte) (number (longer (speltAfter 0 w) byte)) bad
+      ≡ if (isNumber (w ++ (byte ∷ []))) (number (speltAfter 0 (w ++ (byte ∷ [])))) bad
   unfolding speltAfter
   digit-on =
-      ap (λ (v : ℕ). if (lengthens (speltAfter 0 w) byte) (number v) amiss) (sym (spelt-append 0 w (byte ∷ [])))
-      ∙ ap (λ (t : Bool). if t (number (speltAfter 0 (w ++ (byte ∷ [])))) amiss) (sym (digit-more w byte fine))
+      ap (λ (v : ℕ). if (lengthens (speltAfter 0 w) byte) (number v) bad) (sym (spelt-append 0 w (byte ∷ [])))
+      ∙ ap (λ (t : Bool). if t (number (speltAfter 0 (w ++ (byte ∷ [])))) bad) (sym (digit-more w byte fine))
 
-module _ (w : List ℕ) (byte : ℕ) (fine : isName w ≡ true) where
-  letter-on : if (isLetter byte && ltb (heldAfter 0 w) (256 ^ 7)) (drafted Within 1 (heldAfter 0 w * 256 + byte) 0 0) amiss
-      ≡ if (isName (w ++ (byte ∷ []))) (drafted Within 1 (heldAfter 0 (w ++ (byte ∷ []))) 0 0) amiss
+module _ (bad : Draft) (w : List ℕ) (byte : ℕ) (fine : isName w ≡ true) where
+  letter-on : if (isLetter byte && ltb (heldAfter 0 w) (256 ^ 7)) (drafted Within 1 (heldAfter 0 w * 256 + byte) 0 0) bad
+      ≡ if (isName (w ++ (byte ∷ []))) (drafted Within 1 (heldAfter 0 (w ++ (byte ∷ []))) 0 0) bad
   unfolding heldAfter
   letter-on =
-      ap (λ (v : ℕ). if (isLetter byte && ltb (heldAfter 0 w) (256 ^ 7)) (drafted Within 1 v 0 0) amiss) (sym (held-append w (byte ∷ []) 0))
-      ∙ ap (λ (t : Bool). if t (drafted Within 1 (heldAfter 0 (w ++ (byte ∷ []))) 0 0) amiss) (sym (letter-more w byte fine))
+      ap (λ (v : ℕ). if (isLetter byte && ltb (heldAfter 0 w) (256 ^ 7)) (drafted Within 1 v 0 0) bad) (sym (held-append w (byte ∷ []) 0))
+      ∙ ap (λ (t : Bool). if t (drafted Within 1 (heldAfter 0 (w ++ (byte ∷ []))) 0 0) bad) (sym (letter-more w byte fine))
+
+-- neither has a carriage return in it
+module _ (w : List ℕ) where
+  number-no-return : isNumber (w ++ (carriage-return ∷ [])) ≡ false
+  unfolding isNumber allOf
+  number-no-return = rw (all-append isDigit w (carriage-return ∷ []), and-false (allOf isDigit w))
+
+  name-no-return : isName (w ++ (carriage-return ∷ [])) ≡ false
+  unfolding isName allOf
+  name-no-return = rw (all-append isLetter w (carriage-return ∷ []), and-false (allOf isLetter w))
 
 -- ---- the words, the last first
 
@@ -318,15 +408,17 @@ module _ (name : List ℕ) (n : isName name ≡ true) where
     -- a fourth word is too many
     fourth : (second : List ℕ) → isNumber second ≡ true → (rest : List ℕ)
         → lineOf (drawn (drafted Between 3 (heldAfter 0 name) (speltAfter 0 first) (speltAfter 0 second)) rest)
-        ≡ lineOfWords ((name ∷ first ∷ second ∷ []) ++ wordsAfter [] (uncommented rest))
+        ≡ lineOfWords ((name ∷ first ∷ second ∷ []) ++ wordsAfter [] (plain rest))
     unfolding begun if
     fourth second s rest =
         gap-reads (name ∷ first ∷ second ∷ []) 3 (heldAfter 0 name) (speltAfter 0 first) (speltAfter 0 second) (λ _. 0) (λ _. 0) (λ _. 0) (λ _. false)
         (record {
+          bad = λ _. drafted Between 4 (heldAfter 0 name) (speltAfter 0 first) (speltAfter 0 second);
           from = λ byte. refl;
           on = λ w byte o. absurd (false≢true o);
           none = three-words name n first f Between second s;
           one = λ w o. absurd (false≢true o);
+          no-return = λ w. refl;
           hopeless = λ w more others o. refl;
           next = λ w rest2 o. absurd (false≢true o);
         })
@@ -339,15 +431,17 @@ module _ (name : List ℕ) (n : isName name ≡ true) where
 
     third : (rest : List ℕ)
         → lineOf (drawn (drafted Between 2 (heldAfter 0 name) (speltAfter 0 first) 0) rest)
-        ≡ lineOfWords ((name ∷ first ∷ []) ++ wordsAfter [] (uncommented rest))
+        ≡ lineOfWords ((name ∷ first ∷ []) ++ wordsAfter [] (plain rest))
     unfolding begun inField secondLonger if speltAfter
     third =
         gap-reads (name ∷ first ∷ []) 2 (heldAfter 0 name) (speltAfter 0 first) 0 (λ _. heldAfter 0 name) (λ _. speltAfter 0 first) (speltAfter 0) isNumber
         (record {
-          from = λ byte. digit-on (drafted Within 3 (heldAfter 0 name) (speltAfter 0 first)) [] byte no-digits;
-          on = λ w byte o. digit-on (drafted Within 3 (heldAfter 0 name) (speltAfter 0 first)) w byte o;
+          bad = λ w. drafted Within 3 (heldAfter 0 name) (speltAfter 0 first) (speltAfter 0 w);
+          from = λ byte. digit-on (drafted Within 3 (heldAfter 0 name) (speltAfter 0 first)) (drafted Amiss 3 (heldAfter 0 name) (speltAfter 0 first) 0) [] byte no-digits;
+          on = λ w byte o. digit-on (drafted Within 3 (heldAfter 0 name) (speltAfter 0 first)) (drafted Amiss 3 (heldAfter 0 name) (speltAfter 0 first) (speltAfter 0 w)) w byte o;
           none = two-words name n first f Between;
           one = λ w o. three-words name n first f Within w o;
+          no-return = number-no-return;
           hopeless = second-hopeless;
           next = λ w rest2 o. fourth w o rest2;
         })
@@ -358,15 +452,17 @@ module _ (name : List ℕ) (n : isName name ≡ true) where
   first-hopeless w more (x ∷ []) o = rw (number-spoilt w more o, and-false (isName name))
   first-hopeless w more (x ∷ y ∷ others) o = refl
 
-  second : (rest : List ℕ) → lineOf (drawn (drafted Between 1 (heldAfter 0 name) 0 0) rest) ≡ lineOfWords ((name ∷ []) ++ wordsAfter [] (uncommented rest))
+  second : (rest : List ℕ) → lineOf (drawn (drafted Between 1 (heldAfter 0 name) 0 0) rest) ≡ lineOfWords ((name ∷ []) ++ wordsAfter [] (plain rest))
   unfolding begun inField firstLonger if speltAfter
   second =
       gap-reads (name ∷ []) 1 (heldAfter 0 name) 0 0 (λ _. heldAfter 0 name) (speltAfter 0) (λ _. 0) isNumber
       (record {
-        from = λ byte. digit-on (λ v. drafted Within 2 (heldAfter 0 name) v 0) [] byte no-digits;
-        on = λ w byte o. digit-on (λ v. drafted Within 2 (heldAfter 0 name) v 0) w byte o;
+        bad = λ w. drafted Within 2 (heldAfter 0 name) (speltAfter 0 w) 0;
+        from = λ byte. digit-on (λ v. drafted Within 2 (heldAfter 0 name) v 0) (drafted Amiss 2 (heldAfter 0 name) 0 0) [] byte no-digits;
+        on = λ w byte o. digit-on (λ v. drafted Within 2 (heldAfter 0 name) v 0) (drafted Amiss 2 (heldAfter 0 name) (speltAfter 0 w) 0) w byte o;
         none = one-word name n Between;
         one = λ w o. two-words name n w o Within;
+        no-return = number-no-return;
         hopeless = first-hopeless;
         next = λ w rest2 o. third w o rest2;
       })
@@ -383,10 +479,12 @@ unfolding begun inField lettered fieldsLine if heldAfter
 line-by-words =
     gap-reads [] 0 0 0 0 (heldAfter 0) (λ _. 0) (λ _. 0) isName
     (record {
-      from = λ byte. letter-on [] byte no-letters;
-      on = λ w byte o. letter-on w byte o;
+      bad = λ w. drafted Within 1 (heldAfter 0 w) 0 0;
+      from = λ byte. letter-on (drafted Amiss 1 0 0 0) [] byte no-letters;
+      on = λ w byte o. letter-on (drafted Amiss 1 (heldAfter 0 w) 0 0) w byte o;
       none = refl;
       one = λ w o. one-word w o Within;
+      no-return = name-no-return;
       hopeless = name-hopeless;
       next = λ w rest o. second w o rest;
     })

@@ -19,7 +19,7 @@ use Rattle.notes.specs.declared.line.Line.{Line}
 use Rattle.notes.specs.declared.line.Line.the-variants.{Blank, Worst, Span, Padding, Stream, Call, Wrong}
 use Rattle.notes.specs.declared.draft.Place.the-variants.{Between, Within}
 use Rattle.notes.specs.declared.draft.Draft.{Draft}
-use Rattle.notes.specs.Draft.{drafted, blank, hash, lettered, longer, lengthens, firstLonger, secondLonger, inField, begun, afterGap, afterField, withByte}
+use Rattle.notes.specs.Draft.{drafted, blank, tab, isGap, hash, carriage-return, lettered, longer, lengthens, firstLonger, secondLonger, inField, begun, afterGap, afterField, withByte}
 use Rattle.notes.specs.Line.{heldAfter, held, wordLine, tableLine, numberLine, streamLine, pairLine, fieldsLine, lineOf}
 use Rattle.notes.specs.Notes.{noted, stopped, afterNumber, afterStream, afterEvent, after, expectedBy, Read, read, lineRefusal, refusedBy, traceAfter, lineEnded, byteRead, bytesRead}
 use Rattle.notes.specs.Laws.{LineReadsBack, drawn, LineIsJudged}
@@ -35,30 +35,33 @@ unfolding lengthens
 digit-lengthens n byte d h =
     rw (le-leb zero-digit byte (d .0), le-leb byte (zero-digit + 9) (d .1), lt-ltb (longer n byte) (2 ^ 64) h)
 
--- a digit is no space and begins no comment
-no-space : (byte : ℕ) → Digit byte → eqb byte space ≡ false
-no-space byte d = ne-eqb byte space (λ e. omega (arith, d .0, e))
+-- a digit is no gap, begins no comment and is no carriage return
+no-gap : (byte : ℕ) → Digit byte → isGap byte ≡ false
+no-gap byte d = rw (ne-eqb byte space (λ e. omega (arith, d .0, e)), ne-eqb byte tab (λ e. omega (arith, d .0, e)))
 
 no-hash : (byte : ℕ) → Digit byte → eqb byte hash ≡ false
 no-hash byte d = ne-eqb byte hash (λ e. omega (arith, d .0, e))
 
+no-return : (byte : ℕ) → Digit byte → eqb byte carriage-return ≡ false
+no-return byte d = ne-eqb byte carriage-return (λ e. omega (arith, d .0, e))
+
 module _ (w n byte : ℕ) (d : Digit byte) (h : longer n byte < 2 ^ 64) where
   first-on : withByte (drafted Within 2 w n 0) byte ≡ drafted Within 2 w (longer n byte) 0
   unfolding afterField inField firstLonger if
-  first-on = rw (no-space byte d, no-hash byte d, digit-lengthens n byte d h)
+  first-on = rw (no-gap byte d, no-hash byte d, no-return byte d, digit-lengthens n byte d h)
 
   second-on : (a : ℕ) → withByte (drafted Within 3 w a n) byte ≡ drafted Within 3 w a (longer n byte)
   unfolding afterField inField secondLonger if
-  second-on a = rw (no-space byte d, no-hash byte d, digit-lengthens n byte d h)
+  second-on a = rw (no-gap byte d, no-hash byte d, no-return byte d, digit-lengthens n byte d h)
 
 module _ (w byte : ℕ) (d : Digit byte) (h : longer 0 byte < 2 ^ 64) where
   first-from : withByte (drafted Between 1 w 0 0) byte ≡ drafted Within 2 w (longer 0 byte) 0
   unfolding afterGap begun inField firstLonger if
-  first-from = rw (no-space byte d, no-hash byte d, digit-lengthens 0 byte d h)
+  first-from = rw (no-gap byte d, no-hash byte d, no-return byte d, digit-lengthens 0 byte d h)
 
   second-from : (a : ℕ) → withByte (drafted Between 2 w a 0) byte ≡ drafted Within 3 w a (longer 0 byte)
   unfolding afterGap begun inField secondLonger if
-  second-from a = rw (no-space byte d, no-hash byte d, digit-lengthens 0 byte d h)
+  second-from a = rw (no-gap byte d, no-hash byte d, no-return byte d, digit-lengthens 0 byte d h)
 
 -- ---- a line, read byte by byte
 

@@ -1,12 +1,12 @@
--- A line of notes, read byte by byte: up to three fields, parted by spaces, and a comment. The first field is a word of up to eight letters, the others are numbers.
-use mathlib.Core.Bool.{Bool, _&&_}
+-- A line of notes, read byte by byte: up to three fields, parted by spaces or tabs, and a comment. The first field is a word of up to eight letters, the others are numbers.
+use mathlib.Core.Bool.{Bool, _&&_, _||_}
 use Prim.Native.Nat.{ℕ, _+_, _-_, _*_, _^_}
 use Prim.Native.Char.{code}
 use lib.Dec.{leb, ltb, eqb}
 use Rattle.table.specs.Fold.{if}
 use Rattle.listing.specs.Line.{space, zero-digit}
 use Rattle.notes.specs.declared.draft.Place.{Place}
-use Rattle.notes.specs.declared.draft.Place.the-variants.{Between, Within, Comment, Amiss}
+use Rattle.notes.specs.declared.draft.Place.the-variants.{Between, Within, Comment, Returned, Stray, Amiss}
 use Rattle.notes.specs.declared.draft.Draft.{Draft}
 
 -- a line so far: the place of its last byte, how many fields have begun, and what they hold
@@ -14,16 +14,17 @@ abbrev pub drafted : Place → ℕ → ℕ → ℕ → ℕ → Draft
 drafted place fields word first second =
     record { place = place; fields = fields; word = word; first = first; second = second }
 
--- a line before its first byte, and a line of which no right one can come
+-- a line before its first byte
 abbrev pub blank : Draft
 blank = drafted Between 0 0 0 0
-
-abbrev pub amiss : Draft
-amiss = drafted Amiss 0 0 0 0
 
 -- the same line, at another place
 abbrev pub placed : Draft → Place → Draft
 placed d place = drafted place (d .fields) (d .word) (d .first) (d .second)
+
+-- the same line, of which no right one can come: the field that was begun last is not as it should be
+abbrev pub amiss : Draft → Draft
+amiss d = placed d Amiss
 
 -- a letter more in a word, which is held as a number: its letters are digits to the base 256. Eight are the most.
 abbrev pub isLetter : ℕ → Bool
@@ -31,7 +32,7 @@ isLetter byte = leb (code "a") byte && leb byte (code "z")
 
 unfoldable pub lettered : Draft → ℕ → Draft
 lettered d byte =
-    if (isLetter byte && ltb (d .word) (256 ^ 7)) (drafted Within 1 (d .word * 256 + byte) (d .first) (d .second)) amiss
+    if (isLetter byte && ltb (d .word) (256 ^ 7)) (drafted Within 1 (d .word * 256 + byte) (d .first) (d .second)) (amiss d)
 
 -- a digit more in a number, which has room in 64 bits
 abbrev pub isDigit : ℕ → Bool
@@ -44,10 +45,10 @@ unfoldable pub lengthens : ℕ → ℕ → Bool
 lengthens n byte = isDigit byte && ltb (longer n byte) (2 ^ 64)
 
 unfoldable pub firstLonger : Draft → ℕ → Draft
-firstLonger d byte = if (lengthens (d .first) byte) (drafted Within 2 (d .word) (longer (d .first) byte) (d .second)) amiss
+firstLonger d byte = if (lengthens (d .first) byte) (drafted Within 2 (d .word) (longer (d .first) byte) (d .second)) (amiss d)
 
 unfoldable pub secondLonger : Draft → ℕ → Draft
-secondLonger d byte = if (lengthens (d .second) byte) (drafted Within 3 (d .word) (d .first) (longer (d .second) byte)) amiss
+secondLonger d byte = if (lengthens (d .second) byte) (drafted Within 3 (d .word) (d .first) (longer (d .second) byte)) (amiss d)
 
 -- a byte more in the field that is being read: a letter in the first, a digit in the second and the third
 unfoldable pub inField : Draft → ℕ → Draft
@@ -56,24 +57,44 @@ inField d byte = if (eqb (d .fields) 1) (lettered d byte) (if (eqb (d .fields) 2
 -- the first byte of a field; a fourth one is too many
 unfoldable pub begun : Draft → ℕ → Draft
 begun d byte =
-    if (ltb (d .fields) 3) (inField (drafted Within (d .fields + 1) (d .word) (d .first) (d .second)) byte) amiss
+    if (ltb (d .fields) 3) (inField (drafted Within (d .fields + 1) (d .word) (d .first) (d .second)) byte)
+    (drafted Amiss 4 (d .word) (d .first) (d .second))
 
--- what begins a comment
+-- what parts fields, what begins a comment, and what may stand before the newline
+abbrev pub tab : ℕ
+tab = code "\t"
+
+abbrev pub isGap : ℕ → Bool
+isGap byte = eqb byte space || eqb byte tab
+
 abbrev pub hash : ℕ
 hash = code "#"
 
--- a byte after a space or at the start, and a byte after one of a field
+abbrev pub carriage-return : ℕ
+carriage-return = code "\r"
+
+-- a byte after a gap or at the start, and a byte after one of a field
 unfoldable pub afterGap : Draft → ℕ → Draft
-afterGap d byte = if (eqb byte space) d (if (eqb byte hash) (placed d Comment) (begun d byte))
+afterGap d byte =
+    if (isGap byte) d
+    (if (eqb byte hash) (placed d Comment)
+    (if (eqb byte carriage-return) (placed d Returned)
+    (begun d byte)))
 
 unfoldable pub afterField : Draft → ℕ → Draft
-afterField d byte = if (eqb byte space) (placed d Between) (if (eqb byte hash) (placed d Comment) (inField d byte))
+afterField d byte =
+    if (isGap byte) (placed d Between)
+    (if (eqb byte hash) (placed d Comment)
+    (if (eqb byte carriage-return) (placed d Returned)
+    (inField d byte)))
 
--- a line with a byte more, which is not its newline
+-- a line with a byte more, which is not its newline. After a carriage return there is none in a right line.
 abbrev pub continued : Place → Draft → ℕ → Draft
 continued Between d byte = afterGap d byte
 continued Within d byte = afterField d byte
 continued Comment d byte = d
+continued Returned d byte = placed d Stray
+continued Stray d byte = d
 continued Amiss d byte = d
 
 abbrev pub withByte : Draft → ℕ → Draft

@@ -11,14 +11,15 @@ use Rattle.file.specs.Reading.{eventsIn, tableIn, traceIn, isLaidOut}
 use Rattle.file.specs.Laws.{Coded}
 use Rattle.file.specs.File.{event-size}
 use Rattle.file.specs.Listing.{listing-file}
-use Rattle.listing.specs.Line.{newline, ascii, rendered}
+use Rattle.listing.specs.Line.{space, newline, ascii, rendered}
 use Rattle.listing.specs.Laws.{Each}
 use Rattle.notes.specs.declared.Notes.{Notes}
 use Rattle.notes.specs.declared.Composed.the-variants.{Written}
 use Rattle.notes.specs.declared.line.Line.{Line}
 use Rattle.notes.specs.declared.draft.Draft.{Draft}
 use Rattle.notes.specs.declared.line.Line.the-variants.{Blank, Worst, Span, Padding, Stream, Call, Wrong}
-use Rattle.notes.specs.Draft.{blank, withByte}
+use Rattle.notes.specs.declared.draft.Place.the-variants.{Returned}
+use Rattle.notes.specs.Draft.{blank, tab, carriage-return, withByte}
 use Rattle.notes.specs.Line.{heldAfter, lineOf, lineShown, notesOf}
 use Rattle.notes.specs.Words.{wordsOf, lineOfWords}
 use Rattle.notes.specs.Notes.{noted, started, after, expectedBy, Read, read, lineRefusal, refusedBy, traceAfter, bytesRead, ended, Filed, filed, filedBy}
@@ -71,13 +72,26 @@ WordsTell = (a b : List ℕ) → Each Letter a → Each Letter b → heldAfter 0
 abbrev pub PiecesJoin : Type 0
 PiecesJoin = (r : Read) (a b : List ℕ) → bytesRead r (a ++ b) ≡ bytesRead (bytesRead r a) b
 
+-- A tab reads as a space, wherever it stands.
+abbrev pub TabIsSpace : Type 0
+TabIsSpace = (r : Read) (a b : List ℕ) → bytesRead r (a ++ (tab ∷ b)) ≡ bytesRead r (a ++ (space ∷ b))
+
+-- what composing makes of what has been read
+abbrev pub composedOf : Read → List ℕ → Filed
+composedOf r out = let last = ended (r .notes) (r .trace) in filedBy (last .notes) (last .trace) out
+
+-- A carriage return before a newline is dropped, unless another one stands before it: the reply and the file are the same without it.
+abbrev pub ReturnIsDropped : Type 0
+ReturnIsDropped =
+    (r : Read) (more out : List ℕ) → (r .notes .draft .place ≡ Returned → ⊥)
+    → composedOf (bytesRead r (carriage-return ∷ newline ∷ more)) out ≡ composedOf (bytesRead r (newline ∷ more)) out
+
 -- What is shown of a file is composed to that file, byte for byte, whatever stood in the buffers that are lent for the trace and the file, if they have the room.
 abbrev pub ShownComposes : Type 0
 ShownComposes =
     (file buffer out : List ℕ) → Bytes file → isLaidOut file ≡ true → eventsIn (traceIn file) ≤ eventsIn buffer → length file ≤ length out
-    → let all = bytesRead (read started buffer) (notesOf (tableIn file) (traceIn file)) in
-    let last = ended (all .notes) (all .trace) in
-    filedBy (last .notes) (last .trace) out ≡ filed (Written (length file)) (file ++ drop (length file) out)
+    → composedOf (bytesRead (read started buffer) (notesOf (tableIn file) (traceIn file))) out
+    ≡ filed (Written (length file)) (file ++ drop (length file) out)
 
 -- Where no file is written, no byte of its buffer changes.
 abbrev pub NothingElseWritten : Type 0
@@ -86,10 +100,7 @@ NothingElseWritten =
 
 -- what composing makes of some notes, in buffers of zeros for so many events and a file of so many bytes
 abbrev pub composedIn : ℕ → ℕ → List ℕ → Filed
-composedIn events size notes =
-    let all = bytesRead (read started (replicate (event-size * events) 0)) notes in
-    let last = ended (all .notes) (all .trace) in
-    filedBy (last .notes) (last .trace) (replicate size 0)
+composedIn events size notes = composedOf (bytesRead (read started (replicate (event-size * events) 0)) notes) (replicate size 0)
 
 -- Notes of listing (P), as they might be written by hand, are composed to the 234 bytes of its file.
 abbrev pub hand-written : List ℕ

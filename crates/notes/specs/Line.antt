@@ -15,7 +15,7 @@ use Rattle.listing.specs.Line.{ascii, rendered, wordedFields}
 use Rattle.notes.specs.declared.line.Line.{Line}
 use Rattle.notes.specs.declared.line.Line.the-variants.{Blank, Worst, Span, Padding, Stream, Call, Wrong}
 use Rattle.notes.specs.declared.draft.Place.{Place}
-use Rattle.notes.specs.declared.draft.Place.the-variants.{Between, Within, Comment, Amiss}
+use Rattle.notes.specs.declared.draft.Place.the-variants.{Between, Within, Comment, Returned, Stray, Amiss}
 use Rattle.notes.specs.declared.draft.Draft.{Draft}
 
 -- a word as it is held: its letters are digits to the base 256
@@ -77,6 +77,8 @@ abbrev pub placeLine : Place → Draft → Line
 placeLine Between d = fieldsLine d
 placeLine Within d = fieldsLine d
 placeLine Comment d = fieldsLine d
+placeLine Returned d = fieldsLine d
+placeLine Stray d = Wrong
 placeLine Amiss d = Wrong
 
 abbrev pub lineOf : Draft → Line

@@ -4,19 +4,24 @@ use mathlib.Core.List.{List, [], _∷_, _++_}
 use Prim.Native.Nat.{ℕ, _^_}
 use lib.Dec.{ltb, eqb}
 use Rattle.table.specs.Fold.{if}
-use Rattle.listing.specs.Line.{space}
 use Rattle.listing.specs.Laws.{speltAfter}
 use Rattle.notes.specs.declared.line.Line.{Line}
 use Rattle.notes.specs.declared.line.Line.the-variants.{Blank, Wrong}
-use Rattle.notes.specs.Draft.{hash, isLetter, isDigit}
+use Rattle.notes.specs.Draft.{isGap, hash, carriage-return, isLetter, isDigit}
 use Rattle.notes.specs.Line.{heldAfter, wordLine, numberLine, pairLine}
+
+-- a line without a carriage return at its end
+unfoldable pub unreturned : List ℕ → List ℕ
+unreturned [] = []
+unreturned (byte ∷ []) = if (eqb byte carriage-return) [] (byte ∷ [])
+unreturned (byte ∷ next ∷ rest) = byte ∷ unreturned (next ∷ rest)
 
 -- a line without its comment, which begins at #
 unfoldable pub uncommented : List ℕ → List ℕ
 uncommented [] = []
 uncommented (byte ∷ rest) = if (eqb byte hash) [] (byte ∷ uncommented rest)
 
--- words are parted by one space or more: the words of some bytes, after the start of one; an empty one is none
+-- words are parted by one space or tab or more: the words of some bytes, after the start of one; an empty one is none
 abbrev pub ended-word : List ℕ → List (List ℕ) → List (List ℕ)
 ended-word [] words = words
 ended-word (byte ∷ word) words = (byte ∷ word) ∷ words
@@ -24,10 +29,10 @@ ended-word (byte ∷ word) words = (byte ∷ word) ∷ words
 unfoldable pub wordsAfter : List ℕ → List ℕ → List (List ℕ)
 wordsAfter word [] = ended-word word []
 wordsAfter word (byte ∷ rest) =
-    if (eqb byte space) (ended-word word (wordsAfter [] rest)) (wordsAfter (word ++ (byte ∷ [])) rest)
+    if (isGap byte) (ended-word word (wordsAfter [] rest)) (wordsAfter (word ++ (byte ∷ [])) rest)
 
 abbrev pub wordsOf : List ℕ → List (List ℕ)
-wordsOf line = wordsAfter [] (uncommented line)
+wordsOf line = wordsAfter [] (uncommented (unreturned line))
 
 -- a name is letters, held in 64 bits, and so up to eight of them; a number is digits that spell one of 64 bits
 unfoldable pub allOf : (ℕ → Bool) → List ℕ → Bool

@@ -1,13 +1,16 @@
 // A line that is being read, byte by byte.
 ghost use mathlib.Core.Path.{_≡_};
 ghost use mathlib.Core.Bool.{true};
-ghost use Rattle.notes.specs.Draft.{blank, amiss, placed, isLetter, lettered, isDigit, longer, lengthens, firstLonger, secondLonger, inField, begun, afterGap, afterField, withByte};
+ghost use Rattle.notes.specs.Draft.{blank, amiss, placed, isLetter, lettered, isDigit, longer, lengthens, firstLonger, secondLonger, inField, begun, isGap, afterGap, afterField, withByte};
 
-// Where in a line its last byte stands: between fields, within one, in a comment, or where no right line can follow.
+// Where in a line its last byte stands: between fields, within one, in a comment, at a carriage return that may end the line,
+// after one that does not, or where no right line can follow, because of the field that was begun last.
 pub enum Place {
     Between,
     Within,
     Comment,
+    Returned,
+    Stray,
     Amiss,
 }
 
@@ -37,17 +40,11 @@ impl Draft {
         }
     }
 
-    // A line of which no right one can come.
-    fn amiss() -> Draft
-        ensures { λ r. ⌜ r ≡ amiss ⌝ }
+    // The line, of which no right one can come.
+    fn amiss(self) -> Draft
+        ensures { λ r. ⌜ r ≡ amiss self ⌝ }
     {
-        Draft {
-            place: Place::Amiss,
-            fields: 0,
-            word: 0,
-            first: 0,
-            second: 0,
-        }
+        self.at(Place::Amiss)
     }
 
     // The line with a byte more, which is not its newline.
@@ -58,19 +55,23 @@ impl Draft {
         match place {
             Place::Between => self.after_gap(byte),
             Place::Within => self.after_field(byte),
-            Place::Comment | Place::Amiss => self,
+            Place::Returned => self.at(Place::Stray),
+            Place::Comment | Place::Stray | Place::Amiss => self,
         }
     }
 
-    // A byte after a space, or at the start.
+    // A byte after a gap, or at the start.
     fn after_gap(self, byte: u8) -> Draft
         ensures { λ r. ⌜ r ≡ afterGap self byte ⌝ }
     {
-        if byte == b' ' {
+        if is_gap(byte) {
             return self;
         }
         if byte == b'#' {
             return self.at(Place::Comment);
+        }
+        if byte == b'\r' {
+            return self.at(Place::Returned);
         }
         self.begun(byte)
     }
@@ -79,11 +80,14 @@ impl Draft {
     fn after_field(self, byte: u8) -> Draft
         ensures { λ r. ⌜ r ≡ afterField self byte ⌝ }
     {
-        if byte == b' ' {
+        if is_gap(byte) {
             return self.at(Place::Between);
         }
         if byte == b'#' {
             return self.at(Place::Comment);
+        }
+        if byte == b'\r' {
+            return self.at(Place::Returned);
         }
         self.in_field(byte)
     }
@@ -114,7 +118,13 @@ impl Draft {
             };
             return next.in_field(byte);
         }
-        Draft::amiss()
+        Draft {
+            place: Place::Amiss,
+            fields: 4,
+            word: self.word,
+            first: self.first,
+            second: self.second,
+        }
     }
 
     // A byte of the field that is being read: a letter in the first, a digit in the second and the third.
@@ -143,7 +153,7 @@ impl Draft {
                 second: self.second,
             };
         }
-        Draft::amiss()
+        self.amiss()
     }
 
     // A digit more in the first number.
@@ -159,7 +169,7 @@ impl Draft {
                 second: self.second,
             };
         }
-        Draft::amiss()
+        self.amiss()
     }
 
     // A digit more in the second number.
@@ -175,8 +185,15 @@ impl Draft {
                 second: longer(self.second, byte),
             };
         }
-        Draft::amiss()
+        self.amiss()
     }
+}
+
+// Whether a byte parts fields.
+fn is_gap(byte: u8) -> bool
+    ensures { λ r. ⌜ r ≡ isGap byte ⌝ }
+{
+    (byte == b' ') | (byte == b'\t')
 }
 
 fn is_letter(byte: u8) -> bool

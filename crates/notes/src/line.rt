@@ -51,8 +51,8 @@ pub(crate) fn line_of(draft: Draft) -> Line
 {
     let place = draft.place;
     match place {
-        Place::Between | Place::Within | Place::Comment => fields_line(draft),
-        Place::Amiss => Line::Wrong,
+        Place::Between | Place::Within | Place::Comment | Place::Returned => fields_line(draft),
+        Place::Stray | Place::Amiss => Line::Wrong,
     }
 }
 

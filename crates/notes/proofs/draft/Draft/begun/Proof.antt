@@ -16,12 +16,9 @@ returns : tie.Need-returns
 unfolding begun if
 returns c = rw (lt-ltb _ 3 (c .before .before .if1 .taken)) (c .in-field .ensures)
 
-amiss-requires : tie.Need-amiss-requires
-amiss-requires c κs = tt
-
 returns-2 : tie.Need-returns-2
 unfolding begun if
-returns-2 c = rw (le-ltb _ 3 (c .before .if1 .left)) (c .amiss .ensures)
+returns-2 c = rw (le-ltb _ 3 (c .if1 .left))
 
 pub begun-spec : {M : Type 1} → statement M
-begun-spec = tie.close (tie.spec add-t6 in-field-requires returns amiss-requires returns-2)
+begun-spec = tie.close (tie.spec add-t6 in-field-requires returns returns-2)

@@ -1,0 +1,150 @@
+-- A tab reads as a space, and a carriage return before a newline is dropped.
+use mathlib.Core.Bool.{Bool, true, false}
+use mathlib.Core.Path.{_≡_, refl, sym, ap, _∙_}
+use mathlib.Core.List.{List, [], _∷_, _++_}
+use mathlib.Core.Logic.{_⊎_, inl, inr}
+use Prim.Native.Nat.{ℕ}
+use native.Mathlib.Omega.{arith}
+use Rattle.table.specs.Fold.{if}
+use Rattle.listing.specs.Line.{space, newline}
+use Rattle.notes.specs.declared.Notes.{Notes}
+use Rattle.notes.specs.declared.Composed.the-variants as composed
+use Rattle.notes.specs.declared.line.Line.{Line}
+use Rattle.notes.specs.declared.line.Line.the-variants.{Blank, Worst, Span, Padding, Stream, Call, Wrong}
+use Rattle.notes.specs.declared.draft.Place.{Place}
+use Rattle.notes.specs.declared.draft.Place.the-variants.{Between, Within, Comment, Returned, Stray, Amiss}
+use Rattle.notes.specs.declared.draft.Draft.{Draft}
+use Rattle.notes.specs.Draft.{tab, carriage-return, afterGap, afterField, continued, withByte}
+use Rattle.notes.specs.Line.{fieldsLine, lineOf}
+use Rattle.notes.specs.Notes.{stopped, afterNumber, afterStream, afterEvent, after, expectedBy, Read, read, lineRefusal, refusedBy, traceAfter, lineEnded, byteRead, bytesRead, Filed, filed, filedBy}
+use Rattle.notes.specs.Laws.{TabIsSpace, ReturnIsDropped, composedOf}
+use Rattle.notes.proofs.Grammar.{test}
+use Rattle.notes.proofs.Choices.{byte-stopped, byte-ends, byte-lengthens, filed-wrong}
+
+-- ---- tabs
+
+tab-continues : (place : Place) (d : Draft) → continued place d tab ≡ continued place d space
+unfolding afterGap afterField if
+tab-continues Between d = refl
+tab-continues Within d = refl
+tab-continues Comment d = refl
+tab-continues Returned d = refl
+tab-continues Stray d = refl
+tab-continues Amiss d = refl
+
+-- the same notes, with another line so far
+abbrev with-draft : Notes → Draft → Notes
+with-draft n d = record { line = n .line; numbers = n .numbers; table = n .table; events = n .events; draft = d; refused = n .refused; wrong = n .wrong }
+
+tab-read : (n : Notes) (trace : List ℕ) → byteRead (read n trace) tab ≡ byteRead (read n trace) space
+unfolding byteRead if
+tab-read n trace =
+    ap (λ (d : Draft). if (n .wrong) (read n trace) (read (with-draft n d) trace)) (tab-continues (n .draft .place) (n .draft))
+
+pub tab-is-space : TabIsSpace
+unfolding bytesRead
+tab-is-space r [] b = ap (λ (q : Read). bytesRead q b) (tab-read (r .notes) (r .trace))
+tab-is-space r (byte ∷ a) b = tab-is-space (byteRead r byte) a b
+
+-- ---- carriage returns
+
+-- a line is the same after a carriage return
+return-line : (place : Place) (d : Draft) → (place ≡ Returned → ⊥) → d .place ≡ place → lineOf (withByte d carriage-return) ≡ lineOf d
+unfolding afterGap afterField fieldsLine if
+return-line Between d other is = rw is
+return-line Within d other is = rw is
+return-line Comment d other is = rw is
+return-line Returned d other is = absurd (other refl)
+return-line Stray d other is = rw is
+return-line Amiss d other is = rw is
+
+-- notes with another line so far, which is read as the same, end it alike: they go on the same, or stop
+module _ (n : Notes) (trace : List ℕ) (d : Draft) (same : lineOf d ≡ lineOf (n .draft)) where
+  abbrev other : Notes
+  other = with-draft n d
+
+  Alike : Notes → Notes → Type 0
+  Alike a b = (a ≡ b) ⊎ ((a ≡ stopped other) × (b ≡ stopped n))
+
+  either : (t : Bool) (x : Notes) → Alike (if t x (stopped other)) (if t x (stopped n))
+  unfolding if Alike
+  either true x = inl refl
+  either false x = inr (refl, refl)
+
+  alike : (l : Line) → Alike (after other l) (after n l)
+  unfolding afterNumber afterStream afterEvent Alike
+  alike Blank = inl refl
+  alike (Worst x) = either _ _
+  alike (Span x) = either _ _
+  alike (Padding x) = either _ _
+  alike (Stream e p) = either _ _
+  alike (Call event) = either _ _
+  alike Wrong = inr (refl, refl)
+
+  abbrev ending : Line → Notes → Read
+  ending l next = if (next .wrong) (read next trace) (read (refusedBy next (lineRefusal trace (n .events) l)) (traceAfter trace (n .events) l))
+
+  ends-alike : (lineEnded other trace ≡ lineEnded n trace) ⊎ ((lineEnded other trace ≡ read (stopped other) trace) × (lineEnded n trace ≡ read (stopped n) trace))
+  unfolding lineEnded if Alike
+  ends-alike = go (alike (lineOf (n .draft)))
+    where
+      l : Line
+      l = lineOf (n .draft)
+
+      go : Alike (after other l) (after n l)
+          → (lineEnded other trace ≡ lineEnded n trace) ⊎ ((lineEnded other trace ≡ read (stopped other) trace) × (lineEnded n trace ≡ read (stopped n) trace))
+      go (inl e) = inl (ap (λ (k : Line). ending k (after other k)) same ∙ ap (λ (next : Notes). ending l next) e)
+      go (inr (e, f)) = inr (ap (λ (k : Line). ending k (after other k)) same ∙ ap (λ (next : Notes). ending l next) e, ap (λ (next : Notes). ending l next) f)
+
+-- what has stopped stays
+wrong-stays : (n : Notes) (trace bytes : List ℕ) → n .wrong ≡ true → bytesRead (read n trace) bytes ≡ read n trace
+unfolding bytesRead
+wrong-stays n trace [] h = refl
+wrong-stays n trace (byte ∷ bytes) h = ap (λ (r : Read). bytesRead r bytes) (byte-stopped n trace byte h) ∙ wrong-stays n trace bytes h
+
+module _ (n : Notes) (trace : List ℕ) (h : n .wrong ≡ true) (more out : List ℕ) where
+  composed-wrong : composedOf (bytesRead (read n trace) more) out ≡ filed (composed.Wrong (n .line) (expectedBy n)) out
+  composed-wrong =
+      ap (λ (r : Read). composedOf r out) (wrong-stays n trace more h)
+      ∙ ap (λ (r : Read). filedBy (r .notes) (r .trace) out) (byte-stopped n trace newline h)
+      ∙ filed-wrong n trace out h
+
+no-newline : carriage-return ≡ newline → ⊥
+no-newline e = omega (arith, e)
+
+module _ (n : Notes) (trace more out : List ℕ) where
+  abbrev composed-after : Read → Filed
+  composed-after r = composedOf (bytesRead r more) out
+
+  module _ (right : n .wrong ≡ false) (d : Draft) (same : lineOf d ≡ lineOf (n .draft)) where
+    ended-alike : composed-after (byteRead (read (with-draft n d) trace) newline) ≡ composed-after (byteRead (read n trace) newline)
+    unfolding expectedBy
+    ended-alike =
+        ap composed-after (byte-ends (with-draft n d) trace newline right refl)
+        ∙ go (ends-alike n trace d same)
+        ∙ sym (ap composed-after (byte-ends n trace newline right refl))
+      where
+        go : (lineEnded (with-draft n d) trace ≡ lineEnded n trace)
+            ⊎ ((lineEnded (with-draft n d) trace ≡ read (stopped (with-draft n d)) trace) × (lineEnded n trace ≡ read (stopped n) trace))
+            → composed-after (lineEnded (with-draft n d) trace) ≡ composed-after (lineEnded n trace)
+        go (inl e) = ap composed-after e
+        go (inr (e, f)) =
+            ap composed-after e
+            ∙ composed-wrong (stopped (with-draft n d)) trace refl more out
+            ∙ sym (ap composed-after f ∙ composed-wrong (stopped n) trace refl more out)
+
+pub return-is-dropped : ReturnIsDropped
+unfolding bytesRead
+return-is-dropped r more out other = go (test (r .notes .wrong))
+  where
+    n : Notes
+    n = r .notes
+
+    go : (n .wrong ≡ true) ⊎ (n .wrong ≡ false)
+        → composedOf (bytesRead r (carriage-return ∷ newline ∷ more)) out ≡ composedOf (bytesRead r (newline ∷ more)) out
+    go (inl h) =
+        ap (λ (q : Read). composedOf q out) (wrong-stays n (r .trace) (carriage-return ∷ newline ∷ more) h)
+        ∙ sym (ap (λ (q : Read). composedOf q out) (wrong-stays n (r .trace) (newline ∷ more) h))
+    go (inr right) =
+        ap (λ (q : Read). composedOf (bytesRead (byteRead q newline) more) out) (byte-lengthens n (r .trace) carriage-return right no-newline)
+        ∙ ended-alike n (r .trace) more out right (withByte (n .draft) carriage-return) (return-line (n .draft .place) (n .draft) other refl)

@@ -16,6 +16,7 @@ use Rattle.listing.specs.Line.{newline}
 use Rattle.notes.specs.declared.Notes.{Notes}
 use Rattle.notes.specs.declared.Composed.the-variants.{Written, Wrong, Unfinished, Refused}
 use Rattle.notes.specs.Notes.{Read, read, lineEnded, lengthened, byteRead, Filed, filed, told, expectedBy, traceOfNotes, filedBy}
+use Rattle.notes.specs.Fault.{faultBy}
 use Rattle.notes.specs.Laws.{NothingElseWritten}
 
 pub chosen : {A : Type 0} (b : Bool) (x y : A) → b ≡ true → if b x y ≡ x
@@ -62,22 +63,22 @@ module _ (n : Notes) (trace out : List ℕ) where
   abbrev right : Filed
   right = if (ltb (n .numbers) 3) (filed (Unfinished (expectedBy n)) out) whole
 
-  pub filed-wrong : n .wrong ≡ true → filedBy n trace out ≡ filed (Wrong (n .line) (expectedBy n)) out
+  pub filed-wrong : n .wrong ≡ true → filedBy n trace out ≡ filed (Wrong (n .line) (faultBy n) (expectedBy n)) out
   unfolding filedBy
-  filed-wrong h = chosen (n .wrong) (filed (Wrong (n .line) (expectedBy n)) out) right h
+  filed-wrong h = chosen (n .wrong) (filed (Wrong (n .line) (faultBy n) (expectedBy n)) out) right h
 
   module _ (ok : n .wrong ≡ false) where
     pub filed-unfinished : n .numbers < 3 → filedBy n trace out ≡ filed (Unfinished (expectedBy n)) out
     unfolding filedBy
     filed-unfinished h =
-        passed (n .wrong) (filed (Wrong (n .line) (expectedBy n)) out) right ok
+        passed (n .wrong) (filed (Wrong (n .line) (faultBy n) (expectedBy n)) out) right ok
         ∙ chosen (ltb (n .numbers) 3) (filed (Unfinished (expectedBy n)) out) whole (lt-ltb (n .numbers) 3 h)
 
     module _ (three : 3 ≤ n .numbers) where
       on : filedBy n trace out ≡ whole
       unfolding filedBy
       on =
-          passed (n .wrong) (filed (Wrong (n .line) (expectedBy n)) out) right ok
+          passed (n .wrong) (filed (Wrong (n .line) (faultBy n) (expectedBy n)) out) right ok
           ∙ passed (ltb (n .numbers) 3) (filed (Unfinished (expectedBy n)) out) whole (le-ltb (n .numbers) 3 three)
 
       pub filed-refused : (n .refused ≡ 0 → ⊥) → filedBy n trace out ≡ filed (Refused (n .refused)) out
@@ -103,7 +104,7 @@ pub nothing-else-written : NothingElseWritten
 unfolding filedBy
 nothing-else-written n trace out =
     let P : Filed → Type 0 = λ f. ((len : ℕ) → f .reply ≡ Written len → ⊥) → f .out ≡ out in
-    by-if P (n .wrong) (filed (Wrong (n .line) (expectedBy n)) out) (right n trace out) (λ _ _. refl)
+    by-if P (n .wrong) (filed (Wrong (n .line) (faultBy n) (expectedBy n)) out) (right n trace out) (λ _ _. refl)
     (λ _.
     by-if P (ltb (n .numbers) 3) (filed (Unfinished (expectedBy n)) out) (whole n trace out) (λ _ _. refl)
     (λ _.

@@ -14,8 +14,13 @@ use Rattle.notes.specs.declared.line.Line.the-variants.{Blank, Worst, Sp
 use Rattle.notes.specs.declared.draft.Place.{Place}
 use Rattle.notes.specs.declared.draft.Place.the-variants.{Between, Within, Comment, Returned, Stray, Amiss}
 use Rattle.notes.specs.declared.draft.Draft.{Draft}
+use Rattle.notes.specs.declared.heard.Heard.{Heard}
+use Rattle.notes.specs.declared.fault.Fault.{Fault}
 use Rattle.notes.specs.Draft.{tab, carriage-return, afterGap, afterField, continued, withByte}
 use Rattle.notes.specs.Line.{fieldsLine, lineOf}
+use Rattle.notes.specs.Numbers.{fits, roomAt}
+use Rattle.notes.specs.Heard.{heardOf, heardWith}
+use Rattle.notes.specs.Fault.{numberFault, faultBy}
 use Rattle.notes.specs.Notes.{stopped, afterNumber, afterStream, afterEvent, after, expectedBy, Read, read, lineRefusal, refusedBy, traceAfter, lineEnded, byteRead, bytesRead, Filed, filed, filedBy}
 use Rattle.notes.specs.Laws.{TabIsSpace, ReturnIsDropped, composedOf}
 use Rattle.notes.proofs.Grammar.{test}
@@ -33,13 +38,14 @@ tab-continues Stray d = refl
 tab-continues Amiss d = refl
 
 -- the same notes, with another line so far
-abbrev with-draft : Notes → Draft → Notes
-with-draft n d = record { line = n .line; numbers = n .numbers; table = n .table; events = n .events; draft = d; refused = n .refused; wrong = n .wrong }
+abbrev with-draft : Notes → Draft → Heard → Notes
+with-draft n d h =
+    record { line = n .line; numbers = n .numbers; table = n .table; events = n .events; draft = d; heard = h; refused = n .refused; wrong = n .wrong }
 
 tab-read : (n : Notes) (trace : List ℕ) → byteRead (read n trace) tab ≡ byteRead (read n trace) space
-unfolding byteRead if
+unfolding byteRead heardWith if
 tab-read n trace =
-    ap (λ (d : Draft). if (n .wrong) (read n trace) (read (with-draft n d) trace)) (tab-continues (n .draft .place) (n .draft))
+    ap (λ (d : Draft). if (n .wrong) (read n trace) (read (with-draft n d (heardOf (n .heard .word) (n .heard .number) false)) trace)) (tab-continues (n .draft .place) (n .draft))
 
 pub tab-is-space : TabIsSpace
 unfolding bytesRead
@@ -58,10 +64,23 @@ return-line Returned d other is = absurd (other refl)
 return-line Stray d other is = rw is
 return-line Amiss d other is = rw is
 
+-- and what is wrong with it
+abbrev returned : Notes → Notes
+returned n = with-draft n (withByte (n .draft) carriage-return) (heardWith (n .heard) (n .draft) carriage-return)
+
+return-fault : (place : Place) (n : Notes) → (place ≡ Returned → ⊥) → n .draft .place ≡ place → faultBy (stopped (returned n)) ≡ faultBy (stopped n)
+unfolding afterGap afterField fieldsLine fits roomAt heardWith numberFault faultBy if
+return-fault Between n other is = rw is
+return-fault Within n other is = rw is
+return-fault Comment n other is = rw is
+return-fault Returned n other is = absurd (other refl)
+return-fault Stray n other is = rw is
+return-fault Amiss n other is = rw is
+
 -- notes with another line so far, which is read as the same, end it alike: they go on the same, or stop
-module _ (n : Notes) (trace : List ℕ) (d : Draft) (same : lineOf d ≡ lineOf (n .draft)) where
+module _ (n : Notes) (trace : List ℕ) (d : Draft) (h : Heard) (same : lineOf d ≡ lineOf (n .draft)) where
   abbrev other : Notes
-  other = with-draft n d
+  other = with-draft n d h
 
   Alike : Notes → Notes → Type 0
   Alike a b = (a ≡ b) ⊎ ((a ≡ stopped other) × (b ≡ stopped n))
@@ -103,7 +122,7 @@ wrong-stays n trace [] h = refl
 wrong-stays n trace (byte ∷ bytes) h = ap (λ (r : Read). bytesRead r bytes) (byte-stopped n trace byte h) ∙ wrong-stays n trace bytes h
 
 module _ (n : Notes) (trace : List ℕ) (h : n .wrong ≡ true) (more out : List ℕ) where
-  composed-wrong : composedOf (bytesRead (read n trace) more) out ≡ filed (composed.Wrong (n .line) (expectedBy n)) out
+  composed-wrong : composedOf (bytesRead (read n trace) more) out ≡ filed (composed.Wrong (n .line) (faultBy n) (expectedBy n)) out
   composed-wrong =
       ap (λ (r : Read). composedOf r out) (wrong-stays n trace more h)
       ∙ ap (λ (r : Read). filedBy (r .notes) (r .trace) out) (byte-stopped n trace newline h)
@@ -116,21 +135,22 @@ module _ (n : Notes) (trace more out : List ℕ) where
   abbrev composed-after : Read → Filed
   composed-after r = composedOf (bytesRead r more) out
 
-  module _ (right : n .wrong ≡ false) (d : Draft) (same : lineOf d ≡ lineOf (n .draft)) where
-    ended-alike : composed-after (byteRead (read (with-draft n d) trace) newline) ≡ composed-after (byteRead (read n trace) newline)
+  module _ (right : n .wrong ≡ false) (d : Draft) (h : Heard) (same : lineOf d ≡ lineOf (n .draft)) (fault : faultBy (stopped (with-draft n d h)) ≡ faultBy (stopped n)) where
+    ended-alike : composed-after (byteRead (read (with-draft n d h) trace) newline) ≡ composed-after (byteRead (read n trace) newline)
     unfolding expectedBy
     ended-alike =
-        ap composed-after (byte-ends (with-draft n d) trace newline right refl)
-        ∙ go (ends-alike n trace d same)
+        ap composed-after (byte-ends (with-draft n d h) trace newline right refl)
+        ∙ go (ends-alike n trace d h same)
         ∙ sym (ap composed-after (byte-ends n trace newline right refl))
       where
-        go : (lineEnded (with-draft n d) trace ≡ lineEnded n trace)
-            ⊎ ((lineEnded (with-draft n d) trace ≡ read (stopped (with-draft n d)) trace) × (lineEnded n trace ≡ read (stopped n) trace))
-            → composed-after (lineEnded (with-draft n d) trace) ≡ composed-after (lineEnded n trace)
+        go : (lineEnded (with-draft n d h) trace ≡ lineEnded n trace)
+            ⊎ ((lineEnded (with-draft n d h) trace ≡ read (stopped (with-draft n d h)) trace) × (lineEnded n trace ≡ read (stopped n) trace))
+            → composed-after (lineEnded (with-draft n d h) trace) ≡ composed-after (lineEnded n trace)
         go (inl e) = ap composed-after e
         go (inr (e, f)) =
             ap composed-after e
-            ∙ composed-wrong (stopped (with-draft n d)) trace refl more out
+            ∙ composed-wrong (stopped (with-draft n d h)) trace refl more out
+            ∙ ap (λ (f : Fault). filed (composed.Wrong (n .line) f (expectedBy n)) out) fault
             ∙ sym (ap composed-after f ∙ composed-wrong (stopped n) trace refl more out)
 
 pub return-is-dropped : ReturnIsDropped
@@ -147,4 +167,5 @@ return-is-dropped r more out other = go (test (r .notes .wrong))
         ∙ sym (ap (λ (q : Read). composedOf q out) (wrong-stays n (r .trace) (newline ∷ more) h))
     go (inr right) =
         ap (λ (q : Read). composedOf (bytesRead (byteRead q newline) more) out) (byte-lengthens n (r .trace) carriage-return right no-newline)
-        ∙ ended-alike n (r .trace) more out right (withByte (n .draft) carriage-return) (return-line (n .draft .place) (n .draft) other refl)
+        ∙ ended-alike n (r .trace) more out right (withByte (n .draft) carriage-return) (heardWith (n .heard) (n .draft) carriage-return)
+        (return-line (n .draft .place) (n .draft) other refl) (return-fault (n .draft .place) n other refl)

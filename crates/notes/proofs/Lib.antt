@@ -2,6 +2,7 @@ pub mod Bytes
 pub mod Choices
 pub mod Digits
 pub mod Grammar
+pub mod Faults
 pub mod Gaps
 pub mod ReadBack
 pub mod RoundTrip

@@ -19,8 +19,10 @@ use Rattle.notes.specs.declared.line.Line.{Line}
 use Rattle.notes.specs.declared.line.Line.the-variants.{Blank, Worst, Span, Padding, Stream, Call, Wrong}
 use Rattle.notes.specs.declared.draft.Place.the-variants.{Between, Within}
 use Rattle.notes.specs.declared.draft.Draft.{Draft}
+use Rattle.notes.specs.declared.heard.Heard.{Heard}
 use Rattle.notes.specs.Draft.{drafted, blank, tab, isGap, hash, carriage-return, lettered, longer, lengthens, firstLonger, secondLonger, inField, begun, afterGap, afterField, withByte}
 use Rattle.notes.specs.Line.{heldAfter, held, wordLine, tableLine, numberLine, streamLine, pairLine, fieldsLine, lineOf}
+use Rattle.notes.specs.Heard.{unheard, heardWith}
 use Rattle.notes.specs.Notes.{noted, stopped, afterNumber, afterStream, afterEvent, after, expectedBy, Read, read, lineRefusal, refusedBy, traceAfter, lineEnded, byteRead, bytesRead}
 use Rattle.notes.specs.Laws.{LineReadsBack, drawn, LineIsJudged}
 use Rattle.notes.specs.Words.{wordsOf, lineOfWords}
@@ -63,67 +65,106 @@ module _ (w byte : ℕ) (d : Digit byte) (h : longer 0 byte < 2 ^ 64) where
   unfolding afterGap begun inField secondLonger if
   second-from a = rw (no-gap byte d, no-hash byte d, no-return byte d, digit-lengthens 0 byte d h)
 
+-- ---- digits and letters, one after the other
+
+-- a number: `gap` is the line before it, `number n` the line where it is n so far
+module _ (gap : Draft) (number : ℕ → Draft)
+    (from : (byte : ℕ) → Digit byte → longer 0 byte < 2 ^ 64 → withByte gap byte ≡ number (longer 0 byte))
+    (on : (n byte : ℕ) → Digit byte → longer n byte < 2 ^ 64 → withByte (number n) byte ≡ number (longer n byte)) where
+  digits-on : (ds : List ℕ) (n : ℕ) → Each Digit ds → speltAfter n ds < 2 ^ 64 → drawn (number n) ds ≡ number (speltAfter n ds)
+  unfolding drawn speltAfter Each
+  digits-on [] n p h = refl
+  digits-on (d ∷ ds) n p h =
+      ap (λ (e : Draft). drawn e ds) (on n d (p .0) (omega (arith, spelt-grows (longer n d) ds, h)))
+      ∙ digits-on ds (longer n d) (p .1) h
+
+  digits-from : (ds : List ℕ) → 1 ≤ length ds → Each Digit ds → speltAfter 0 ds < 2 ^ 64 → drawn gap ds ≡ number (speltAfter 0 ds)
+  unfolding drawn speltAfter Each
+  digits-from [] some p h = absurd (not-suc-le-zero some)
+  digits-from (d ∷ ds) some p h =
+      ap (λ (e : Draft). drawn e ds) (from d (p .0) (omega (arith, spelt-grows (longer 0 d) ds, h)))
+      ∙ digits-on ds (longer 0 d) (p .1) h
+
+  number-drawn : (n : ℕ) → n < 2 ^ 64 → drawn gap (decimal n) ≡ number n
+  number-drawn n h =
+      let back = decimal-reads-back n in
+      digits-from (decimal n) (decimal-some n) (decimal-is-digits n) (rw back h) ∙ ap number back
+
+-- what is heard of a line, byte after byte
+unfoldable hearing : Heard → Draft → List ℕ → Heard
+hearing h d [] = h
+hearing h d (byte ∷ rest) = hearing (heardWith h d byte) (withByte d byte) rest
+
+digits-no-newline : (ds : List ℕ) → Each Digit ds → Each (λ byte. byte ≡ newline → ⊥) ds
+unfolding Each
+digits-no-newline [] p = tt
+digits-no-newline (d ∷ ds) p = (λ e. omega (arith, p .0 .0, e), digits-no-newline ds (p .1))
+
 -- ---- a line, read byte by byte
 
 module _ (line numbers : ℕ) (table : Table) (events : ℕ) (trace : List ℕ) where
-  -- the notes with a line so far
-  abbrev so-far : Draft → Notes
-  so-far d = record { line = line; numbers = numbers; table = table; events = events; draft = d; refused = 0; wrong = false }
+  -- the notes with a line so far, and what is heard of it
+  abbrev so-far : Draft → Heard → Notes
+  so-far d h = record { line = line; numbers = numbers; table = table; events = events; draft = d; heard = h; refused = 0; wrong = false }
 
-  abbrev at-draft : Draft → Read
-  at-draft d = read (so-far d) trace
+  abbrev at-draft : Draft → Heard → Read
+  at-draft d h = read (so-far d h) trace
 
-  byte-on : (d : Draft) (byte : ℕ) → Digit byte → byteRead (at-draft d) byte ≡ at-draft (withByte d byte)
-  byte-on d byte p = byte-lengthens (so-far d) trace byte refl (λ e. omega (arith, p .0, e))
+  bytes-drawn : (bytes : List ℕ) (d : Draft) (h : Heard) → Each (λ byte. byte ≡ newline → ⊥) bytes
+      → (rest : List ℕ) → bytesRead (at-draft d h) (bytes ++ rest) ≡ bytesRead (at-draft (drawn d bytes) (hearing h d bytes)) rest
+  unfolding bytesRead drawn hearing Each
+  bytes-drawn [] d h p rest = refl
+  bytes-drawn (byte ∷ bytes) d h p rest =
+      ap (λ (r : Read). bytesRead r (bytes ++ rest)) (byte-lengthens (so-far d h) trace byte refl (p .0))
+      ∙ bytes-drawn bytes (withByte d byte) (heardWith h d byte) (p .1) rest
 
-  -- a number, digit by digit: `gap` is the line before it, `held n` the line where it is n so far
-  module _ (gap : Draft) (number : ℕ → Draft)
-      (from : (byte : ℕ) → Digit byte → longer 0 byte < 2 ^ 64 → withByte gap byte ≡ number (longer 0 byte))
-      (on : (n byte : ℕ) → Digit byte → longer n byte < 2 ^ 64 → withByte (number n) byte ≡ number (longer n byte)) where
-    digits-on : (ds : List ℕ) (n : ℕ) → Each Digit ds → speltAfter n ds < 2 ^ 64
-        → (rest : List ℕ) → bytesRead (at-draft (number n)) (ds ++ rest) ≡ bytesRead (at-draft (number (speltAfter n ds))) rest
-    unfolding bytesRead speltAfter Each
-    digits-on [] n p h rest = refl
-    digits-on (d ∷ ds) n p h rest =
-        let room : longer n d < 2 ^ 64 = omega (arith, spelt-grows (longer n d) ds, h) in
-        ap (λ (r : Read). bytesRead r (ds ++ rest)) (byte-on (number n) d (p .0) ∙ ap (λ (e : Draft). at-draft e) (on n d (p .0) room))
-        ∙ digits-on ds (longer n d) (p .1) h rest
+  -- some bytes end as this line, whatever is heard of it
+  record Ends (bytes : List ℕ) (d : Draft) : Type 0 where
+    hears : Heard
+    are : bytesRead (at-draft blank unheard) bytes ≡ lineEnded (so-far d hears) trace
 
-    digits-from : (ds : List ℕ) → 1 ≤ length ds → Each Digit ds → speltAfter 0 ds < 2 ^ 64
-        → (rest : List ℕ) → bytesRead (at-draft gap) (ds ++ rest) ≡ bytesRead (at-draft (number (speltAfter 0 ds))) rest
-    unfolding bytesRead speltAfter Each
-    digits-from [] some p h rest = absurd (not-suc-le-zero some)
-    digits-from (d ∷ ds) some p h rest =
-        let room : longer 0 d < 2 ^ 64 = omega (arith, spelt-grows (longer 0 d) ds, h) in
-        ap (λ (r : Read). bytesRead r (ds ++ rest)) (byte-on gap d (p .0) ∙ ap (λ (e : Draft). at-draft e) (from d (p .0) room))
-        ∙ digits-on ds (longer 0 d) (p .1) h rest
-
-    number-read : (n : ℕ) → n < 2 ^ 64 → (rest : List ℕ) → bytesRead (at-draft gap) (decimal n ++ rest) ≡ bytesRead (at-draft (number n)) rest
-    number-read n h rest =
-        let back = decimal-reads-back n in
-        digits-from (decimal n) (decimal-some n) (decimal-is-digits n) (rw back h) rest
-        ∙ ap (λ (m : ℕ). bytesRead (at-draft (number m)) rest) back
+  number-read : (gap : Draft) (h : Heard) (n : ℕ) (d : Draft) → drawn gap (decimal n) ≡ d
+      → (rest : List ℕ) → bytesRead (at-draft gap h) (decimal n ++ rest) ≡ bytesRead (at-draft d (hearing h gap (decimal n))) rest
+  number-read gap h n d is rest =
+      bytes-drawn (decimal n) gap h (digits-no-newline (decimal n) (decimal-is-digits n)) rest
+      ∙ ap (λ (e : Draft). bytesRead (at-draft e (hearing h gap (decimal n))) rest) is
 
   -- a word has been read, and the space after it
-  abbrev Word : List ℕ → ℕ → Type 0
-  Word text w = (rest : List ℕ) → bytesRead (at-draft blank) (text ++ (space ∷ rest)) ≡ bytesRead (at-draft (drafted Between 1 w 0 0)) rest
+  record Word (text : List ℕ) (w : ℕ) : Type 0 where
+    heard : Heard
+    reads : (rest : List ℕ) → bytesRead (at-draft blank unheard) (text ++ (space ∷ rest)) ≡ bytesRead (at-draft (drafted Between 1 w 0 0) heard) rest
 
-  one-number : (text : List ℕ) (w n : ℕ) → Word text w → n < 2 ^ 64
-      → bytesRead (at-draft blank) (text ++ onward (decimal n ∷ [])) ≡ lineEnded (so-far (drafted Within 2 w n 0)) trace
+  one-number : (text : List ℕ) (w n : ℕ) → Word text w → n < 2 ^ 64 → Ends (text ++ onward (decimal n ∷ [])) (drafted Within 2 w n 0)
   unfolding onward bytesRead byteRead if
   one-number text w n word h =
-      word (decimal n ++ (newline ∷ []))
-      ∙ number-read (drafted Between 1 w 0 0) (λ m. drafted Within 2 w m 0) (first-from w) (first-on w) n h (newline ∷ [])
+      record {
+        hears = hearing (word .heard) (drafted Between 1 w 0 0) (decimal n);
+        are =
+            word .reads (decimal n ++ (newline ∷ []))
+            ∙ number-read (drafted Between 1 w 0 0) (word .heard) n (drafted Within 2 w n 0)
+            (number-drawn (drafted Between 1 w 0 0) (λ m. drafted Within 2 w m 0) (first-from w) (first-on w) n h) (newline ∷ []);
+      }
 
-  two-numbers : (text : List ℕ) (w a b : ℕ) → Word text w → a < 2 ^ 64 → b < 2 ^ 64
-      → bytesRead (at-draft blank) (text ++ onward (decimal a ∷ decimal b ∷ [])) ≡ lineEnded (so-far (drafted Within 3 w a b)) trace
+  two-numbers : (text : List ℕ) (w a b : ℕ) → Word text w → a < 2 ^ 64 → b < 2 ^ 64 → Ends (text ++ onward (decimal a ∷ decimal b ∷ [])) (drafted Within 3 w a b)
   unfolding onward bytesRead byteRead if afterField
   two-numbers text w a b word ha hb =
-      word (decimal a ++ (space ∷ (decimal b ++ (newline ∷ []))))
-      ∙ number-read (drafted Between 1 w 0 0) (λ m. drafted Within 2 w m 0) (first-from w) (first-on w) a ha (space ∷ (decimal b ++ (newline ∷ [])))
-      ∙ number-read (drafted Between 2 w a 0) (λ m. drafted Within 3 w a m) (λ byte d h. second-from w byte d h a) (λ m byte d h. second-on w m byte d h a) b hb (newline ∷ [])
+      let first : Heard = hearing (word .heard) (drafted Between 1 w 0 0) (decimal a) in
+      let gap : Heard = heardWith first (drafted Within 2 w a 0) space in
+      record {
+        hears = hearing gap (drafted Between 2 w a 0) (decimal b);
+        are =
+            word .reads (decimal a ++ (space ∷ (decimal b ++ (newline ∷ []))))
+            ∙ number-read (drafted Between 1 w 0 0) (word .heard) a (drafted Within 2 w a 0)
+            (number-drawn (drafted Between 1 w 0 0) (λ m. drafted Within 2 w m 0) (first-from w) (first-on w) a ha) (space ∷ (decimal b ++ (newline ∷ [])))
+            ∙ number-read (drafted Between 2 w a 0) gap b (drafted Within 3 w a b)
+            (number-drawn (drafted Between 2 w a 0) (λ m. drafted Within 3 w a m) (λ byte d h. second-from w byte d h a) (λ m byte d h. second-on w m byte d h a) b hb) (newline ∷ []);
+      }
 
   -- each word, letter by letter
+  word-of : (text : List ℕ) → ((rest : List ℕ) → bytesRead (at-draft blank unheard) (text ++ (space ∷ rest)) ≡ bytesRead (at-draft (drafted Between 1 (heldAfter 0 text) 0 0) (hearing unheard blank (text ++ (space ∷ [])))) rest)
+      → Word text (heldAfter 0 text)
+  word-of text reads = record { heard = hearing unheard blank (text ++ (space ∷ [])); reads = reads }
+
   words : Word (ascii "worst") (held "worst")
       × Word (ascii "span") (held "span")
       × Word (ascii "padding") (held "padding")
@@ -132,16 +173,25 @@ module _ (line numbers : ℕ) (table : Table) (events : ℕ) (trace : List ℕ) 
       × Word (ascii "own") (held "own")
       × Word (ascii "done") (held "done")
       × Word (ascii "clock") (held "clock")
-  unfolding ascii heldAfter bytesRead byteRead if afterGap afterField begun inField lettered
-  words = (λ rest. refl, λ rest. refl, λ rest. refl, λ rest. refl, λ rest. refl, λ rest. refl, λ rest. refl, λ rest. refl)
+  unfolding ascii heldAfter bytesRead byteRead if afterGap afterField begun inField lettered hearing
+  words = (
+    word-of (ascii "worst") (λ rest. refl),
+    word-of (ascii "span") (λ rest. refl),
+    word-of (ascii "padding") (λ rest. refl),
+    word-of (ascii "stream") (λ rest. refl),
+    word-of (ascii "arrival") (λ rest. refl),
+    word-of (ascii "own") (λ rest. refl),
+    word-of (ascii "done") (λ rest. refl),
+    word-of (ascii "clock") (λ rest. refl),
+  )
 
-  turn-read : bytesRead (at-draft blank) (ascii "turn" ++ onward []) ≡ lineEnded (so-far (drafted Within 1 (held "turn") 0 0)) trace
-  unfolding ascii heldAfter onward bytesRead byteRead if afterGap afterField begun inField lettered
-  turn-read = refl
+  turn-read : Ends (ascii "turn" ++ onward []) (drafted Within 1 (held "turn") 0 0)
+  unfolding ascii heldAfter onward bytesRead byteRead if afterGap afterField begun inField lettered hearing
+  turn-read = record { hears = hearing unheard blank (ascii "turn"); are = refl }
 
-  blank-read : bytesRead (at-draft blank) (onward []) ≡ lineEnded (so-far blank) trace
+  blank-read : Ends (onward []) blank
   unfolding onward bytesRead byteRead if
-  blank-read = refl
+  blank-read = record { hears = unheard; are = refl }
 
   -- ---- the line that has ended is taken as what it was read as
 
@@ -153,25 +203,25 @@ module _ (line numbers : ℕ) (table : Table) (events : ℕ) (trace : List ℕ) 
   abbrev before : Notes
   before = noted line numbers table events
 
-  after-same : (d : Draft) (l : Line) → after before l .wrong ≡ false → after (so-far d) l ≡ after before l
+  after-same : (d : Draft) (k : Heard) (l : Line) → after before l .wrong ≡ false → after (so-far d k) l ≡ after before l
   unfolding afterNumber afterStream afterEvent
-  after-same d Blank h = refl
-  after-same d (Worst x) h = same-choice _ _ (stopped before) (stopped (so-far d)) h refl
-  after-same d (Span x) h = same-choice _ _ (stopped before) (stopped (so-far d)) h refl
-  after-same d (Padding x) h = same-choice _ _ (stopped before) (stopped (so-far d)) h refl
-  after-same d (Stream e p) h = same-choice _ _ (stopped before) (stopped (so-far d)) h refl
-  after-same d (Call event) h = same-choice _ _ (stopped before) (stopped (so-far d)) h refl
-  after-same d Wrong h = absurd (false≢true (sym h))
+  after-same d k Blank h = refl
+  after-same d k (Worst x) h = same-choice _ _ (stopped before) (stopped (so-far d k)) h refl
+  after-same d k (Span x) h = same-choice _ _ (stopped before) (stopped (so-far d k)) h refl
+  after-same d k (Padding x) h = same-choice _ _ (stopped before) (stopped (so-far d k)) h refl
+  after-same d k (Stream e p) h = same-choice _ _ (stopped before) (stopped (so-far d k)) h refl
+  after-same d k (Call event) h = same-choice _ _ (stopped before) (stopped (so-far d k)) h refl
+  after-same d k Wrong h = absurd (false≢true (sym h))
 
   abbrev ending : Line → Notes → Read
   ending l next = if (next .wrong) (read next trace) (read (refusedBy next (lineRefusal trace events l)) (traceAfter trace events l))
 
-  taken-as : (d : Draft) (l : Line) → lineOf d ≡ l → after before l .wrong ≡ false
-      → lineEnded (so-far d) trace ≡ read (refusedBy (after before l) (lineRefusal trace events l)) (traceAfter trace events l)
+  taken-as : (d : Draft) (k : Heard) (l : Line) → lineOf d ≡ l → after before l .wrong ≡ false
+      → lineEnded (so-far d k) trace ≡ read (refusedBy (after before l) (lineRefusal trace events l)) (traceAfter trace events l)
   unfolding lineEnded if
-  taken-as d l is h =
-      ap (λ (k : Line). ending k (after (so-far d) k)) is
-      ∙ ap (λ (next : Notes). ending l next) (after-same d l h)
+  taken-as d k l is h =
+      ap (λ (m : Line). ending m (after (so-far d k) m)) is
+      ∙ ap (λ (next : Notes). ending l next) (after-same d k l h)
       ∙ ap (λ (b : Bool). if b (read (after before l) trace) (read (refusedBy (after before l) (lineRefusal trace events l)) (traceAfter trace events l))) h
 
   -- and a line that may not stand there stops the reading
@@ -180,46 +230,43 @@ module _ (line numbers : ℕ) (table : Table) (events : ℕ) (trace : List ℕ) 
   stops-choice true x y z h w = absurd (false≢true (sym w ∙ h))
   stops-choice false x y z h w = refl
 
-  after-stops : (d : Draft) (l : Line) → after before l .wrong ≡ true → after (so-far d) l ≡ stopped (so-far d)
+  after-stops : (d : Draft) (k : Heard) (l : Line) → after before l .wrong ≡ true → after (so-far d k) l ≡ stopped (so-far d k)
   unfolding afterNumber afterStream afterEvent
-  after-stops d Blank h = absurd (false≢true h)
-  after-stops d (Worst x) h = stops-choice _ _ (stopped before) (stopped (so-far d)) h refl
-  after-stops d (Span x) h = stops-choice _ _ (stopped before) (stopped (so-far d)) h refl
-  after-stops d (Padding x) h = stops-choice _ _ (stopped before) (stopped (so-far d)) h refl
-  after-stops d (Stream e p) h = stops-choice _ _ (stopped before) (stopped (so-far d)) h refl
-  after-stops d (Call event) h = stops-choice _ _ (stopped before) (stopped (so-far d)) h refl
-  after-stops d Wrong h = refl
+  after-stops d k Blank h = absurd (false≢true h)
+  after-stops d k (Worst x) h = stops-choice _ _ (stopped before) (stopped (so-far d k)) h refl
+  after-stops d k (Span x) h = stops-choice _ _ (stopped before) (stopped (so-far d k)) h refl
+  after-stops d k (Padding x) h = stops-choice _ _ (stopped before) (stopped (so-far d k)) h refl
+  after-stops d k (Stream e p) h = stops-choice _ _ (stopped before) (stopped (so-far d k)) h refl
+  after-stops d k (Call event) h = stops-choice _ _ (stopped before) (stopped (so-far d k)) h refl
+  after-stops d k Wrong h = refl
 
-  not-taken : (d : Draft) (l : Line) → lineOf d ≡ l → after before l .wrong ≡ true → lineEnded (so-far d) trace ≡ read (stopped (so-far d)) trace
+  not-taken : (d : Draft) (k : Heard) (l : Line) → lineOf d ≡ l → after before l .wrong ≡ true → lineEnded (so-far d k) trace ≡ read (stopped (so-far d k)) trace
   unfolding lineEnded if
-  not-taken d l is h =
-      ap (λ (k : Line). ending k (after (so-far d) k)) is
-      ∙ ap (λ (next : Notes). ending l next) (after-stops d l h)
+  not-taken d k l is h =
+      ap (λ (m : Line). ending m (after (so-far d k) m)) is
+      ∙ ap (λ (next : Notes). ending l next) (after-stops d k l h)
 
   -- ---- any line
 
-  bytes-drawn : (bytes : List ℕ) (d : Draft) → Each (λ byte. byte ≡ newline → ⊥) bytes
-      → (rest : List ℕ) → bytesRead (at-draft d) (bytes ++ rest) ≡ bytesRead (at-draft (drawn d bytes)) rest
-  unfolding bytesRead drawn Each
-  bytes-drawn [] d p rest = refl
-  bytes-drawn (byte ∷ bytes) d p rest =
-      ap (λ (r : Read). bytesRead r (bytes ++ rest)) (byte-lengthens (so-far d) trace byte refl (p .0))
-      ∙ bytes-drawn bytes (withByte d byte) (p .1) rest
-
   line-drawn : (bytes : List ℕ) → Each (λ byte. byte ≡ newline → ⊥) bytes
-      → bytesRead (at-draft blank) (bytes ++ (newline ∷ [])) ≡ lineEnded (so-far (drawn blank bytes)) trace
+      → bytesRead (at-draft blank unheard) (bytes ++ (newline ∷ [])) ≡ lineEnded (so-far (drawn blank bytes) (hearing unheard blank bytes)) trace
   unfolding bytesRead byteRead if
-  line-drawn bytes p = bytes-drawn bytes blank p (newline ∷ [])
+  line-drawn bytes p = bytes-drawn bytes blank unheard p (newline ∷ [])
+
+  line-taken : (bytes : List ℕ) (d : Draft) (l : Line) → Ends bytes d → lineOf d ≡ l → after before l .wrong ≡ false
+      → bytesRead (read before trace) bytes ≡ read (refusedBy (after before l) (lineRefusal trace events l)) (traceAfter trace events l)
+  line-taken bytes d l e is h = e .are ∙ taken-as d (e .hears) l is h
 
 pub line-is-judged : LineIsJudged
 unfolding expectedBy
 line-is-judged i k t e trace bytes p =
     let d = drawn blank bytes in
+    let k2 = hearing unheard blank bytes in
     let r = line-drawn i k t e trace bytes p in
     let is = line-by-words bytes in (
-      λ right. r ∙ taken-as i k t e trace d (lineOfWords (wordsOf bytes)) is right,
+      λ right. r ∙ taken-as i k t e trace d k2 (lineOfWords (wordsOf bytes)) is right,
       λ wrong.
-          let q = r ∙ not-taken i k t e trace d (lineOfWords (wordsOf bytes)) is wrong in (
+          let q = r ∙ not-taken i k t e trace d k2 (lineOfWords (wordsOf bytes)) is wrong in (
             ap (λ (x : Read). x .notes .wrong) q,
             ap (λ (x : Read). x .notes .line) q,
             ap (λ (x : Read). expectedBy (x .notes)) q,
@@ -273,32 +320,26 @@ blank-line = refl
 
 pub line-reads-back : LineReadsBack
 unfolding rendered wordedFields ascii
-line-reads-back i k t e trace Blank f h = blank-read i k t e trace ∙ taken-as i k t e trace blank Blank blank-line h
+line-reads-back i k t e trace Blank f h = line-taken i k t e trace (onward []) blank Blank (blank-read i k t e trace) blank-line h
 line-reads-back i k t e trace (Worst n) f h =
-    one-number i k t e trace (ascii "worst") (held "worst") n (words i k t e trace .0) (omega (arith, f))
-    ∙ taken-as i k t e trace (drafted Within 2 (held "worst") n 0) (Worst n) (worst-line n f) h
+    line-taken i k t e trace _ _ (Worst n) (one-number i k t e trace (ascii "worst") (held "worst") n (words i k t e trace .0) (omega (arith, f))) (worst-line n f) h
 line-reads-back i k t e trace (Span n) f h =
-    one-number i k t e trace (ascii "span") (held "span") n (words i k t e trace .1) (omega (arith, f))
-    ∙ taken-as i k t e trace (drafted Within 2 (held "span") n 0) (Span n) (span-line n f) h
+    line-taken i k t e trace _ _ (Span n) (one-number i k t e trace (ascii "span") (held "span") n (words i k t e trace .1) (omega (arith, f))) (span-line n f) h
 line-reads-back i k t e trace (Padding n) f h =
-    one-number i k t e trace (ascii "padding") (held "padding") n (words i k t e trace .2) (omega (arith, f))
-    ∙ taken-as i k t e trace (drafted Within 2 (held "padding") n 0) (Padding n) (padding-line n f) h
+    line-taken i k t e trace _ _ (Padding n) (one-number i k t e trace (ascii "padding") (held "padding") n (words i k t e trace .2) (omega (arith, f))) (padding-line n f) h
 line-reads-back i k t e trace (Stream a b) f h =
-    two-numbers i k t e trace (ascii "stream") (held "stream") a b (words i k t e trace .3) (omega (arith, f .0)) (omega (arith, f .1))
-    ∙ taken-as i k t e trace (drafted Within 3 (held "stream") a b) (Stream a b) (stream-line a b (f .0) (f .1)) h
+    line-taken i k t e trace _ _ (Stream a b)
+    (two-numbers i k t e trace (ascii "stream") (held "stream") a b (words i k t e trace .3) (omega (arith, f .0)) (omega (arith, f .1))) (stream-line a b (f .0) (f .1)) h
 line-reads-back i k t e trace (Call (Arrival a b)) f h =
-    two-numbers i k t e trace (ascii "arrival") (held "arrival") a b (words i k t e trace .4) (omega (arith, f .0)) (f .1)
-    ∙ taken-as i k t e trace (drafted Within 3 (held "arrival") a b) (Call (Arrival a b)) (arrival-line a b (f .0)) h
-line-reads-back i k t e trace (Call Turn) f h =
-    turn-read i k t e trace ∙ taken-as i k t e trace (drafted Within 1 (held "turn") 0 0) (Call Turn) turn-line h
+    line-taken i k t e trace _ _ (Call (Arrival a b))
+    (two-numbers i k t e trace (ascii "arrival") (held "arrival") a b (words i k t e trace .4) (omega (arith, f .0)) (f .1)) (arrival-line a b (f .0)) h
+line-reads-back i k t e trace (Call Turn) f h = line-taken i k t e trace _ _ (Call Turn) (turn-read i k t e trace) turn-line h
 line-reads-back i k t e trace (Call (OwnTurn a b)) f h =
-    two-numbers i k t e trace (ascii "own") (held "own") a b (words i k t e trace .5) (omega (arith, f .0)) (f .1)
-    ∙ taken-as i k t e trace (drafted Within 3 (held "own") a b) (Call (OwnTurn a b)) (own-line a b (f .0)) h
+    line-taken i k t e trace _ _ (Call (OwnTurn a b))
+    (two-numbers i k t e trace (ascii "own") (held "own") a b (words i k t e trace .5) (omega (arith, f .0)) (f .1)) (own-line a b (f .0)) h
 line-reads-back i k t e trace (Call (Done n)) f h =
-    one-number i k t e trace (ascii "done") (held "done") n (words i k t e trace .6) f
-    ∙ taken-as i k t e trace (drafted Within 2 (held "done") n 0) (Call (Done n)) (done-line n) h
+    line-taken i k t e trace _ _ (Call (Done n)) (one-number i k t e trace (ascii "done") (held "done") n (words i k t e trace .6) f) (done-line n) h
 line-reads-back i k t e trace (Call (Clock n)) f h =
-    one-number i k t e trace (ascii "clock") (held "clock") n (words i k t e trace .7) f
-    ∙ taken-as i k t e trace (drafted Within 2 (held "clock") n 0) (Call (Clock n)) (clock-line n) h
+    line-taken i k t e trace _ _ (Call (Clock n)) (one-number i k t e trace (ascii "clock") (held "clock") n (words i k t e trace .7) f) (clock-line n) h
 line-reads-back i k t e trace (Call Malformed) f h = absurd f
 line-reads-back i k t e trace Wrong f h = absurd f

@@ -1,6 +1,9 @@
 pub mod Draft
 pub mod Line
 pub mod Words
+pub mod Numbers
+pub mod Heard
+pub mod Fault
 pub mod Notes
 pub mod Cases
 pub mod Laws

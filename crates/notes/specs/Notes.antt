@@ -20,11 +20,13 @@ use Rattle.notes.specs.declared.Expected.the-variants.{Worst, Span, Padd
 use Rattle.notes.specs.declared.line.Line.{Line}
 use Rattle.notes.specs.Draft.{blank, withByte}
 use Rattle.notes.specs.Line.{lineOf}
+use Rattle.notes.specs.Heard.{unheard, heardWith}
+use Rattle.notes.specs.Fault.{faultBy}
 
 -- notes at the start of a line: its number, how many table numbers have been read, the table so far, and how many events, each of which is in the trace
 abbrev pub noted : ℕ → ℕ → Table → ℕ → Notes
 noted line numbers table events =
-    record { line = line; numbers = numbers; table = table; events = events; draft = blank; refused = 0; wrong = false }
+    record { line = line; numbers = numbers; table = table; events = events; draft = blank; heard = unheard; refused = 0; wrong = false }
 
 abbrev pub no-table : Table
 no-table = record { worst = 0; span = 0; padding = 0; count = 0; reserved = replicate streams-max 0; period = replicate streams-max 0 }
@@ -35,7 +37,7 @@ started = noted 1 0 no-table 0
 -- the same notes, of which the line that is being read is wrong
 abbrev pub stopped : Notes → Notes
 stopped n =
-    record { line = n .line; numbers = n .numbers; table = n .table; events = n .events; draft = n .draft; refused = n .refused; wrong = true }
+    record { line = n .line; numbers = n .numbers; table = n .table; events = n .events; draft = n .draft; heard = n .heard; refused = n .refused; wrong = true }
 
 -- the number of the line after this one; a machine's number stays at its highest
 unfoldable pub nextLine : ℕ → ℕ
@@ -44,7 +46,7 @@ nextLine line = if (ltb line (2 ^ 64 - 1)) (line + 1) line
 -- the notes after a right line, which has given them this many table numbers, this table and this many events
 abbrev pub advanced : Notes → ℕ → Table → ℕ → Notes
 advanced n numbers table events =
-    record { line = nextLine (n .line); numbers = numbers; table = table; events = events; draft = blank; refused = n .refused; wrong = false }
+    record { line = nextLine (n .line); numbers = numbers; table = table; events = events; draft = blank; heard = unheard; refused = n .refused; wrong = false }
 
 -- a table with one number set, and with a stream more
 abbrev pub withWorst : Table → ℕ → Table
@@ -134,7 +136,7 @@ lineRefusal trace i Line.Wrong = 0
 unfoldable pub refusedBy : Notes → ℕ → Notes
 refusedBy n number =
     if (eqb number 0) n
-    (record { line = n .line; numbers = n .numbers; table = n .table; events = n .events; draft = n .draft; refused = number; wrong = n .wrong })
+    (record { line = n .line; numbers = n .numbers; table = n .table; events = n .events; draft = n .draft; heard = n .heard; refused = number; wrong = n .wrong })
 
 -- a line has ended: a wrong one leaves the trace as it was
 unfoldable pub lineEnded : Notes → List ℕ → Read
@@ -146,7 +148,16 @@ lineEnded n trace =
 -- the line that is being read has a byte more
 abbrev pub lengthened : Notes → ℕ → Notes
 lengthened n byte =
-    record { line = n .line; numbers = n .numbers; table = n .table; events = n .events; draft = withByte (n .draft) byte; refused = n .refused; wrong = n .wrong }
+    record {
+      line = n .line;
+      numbers = n .numbers;
+      table = n .table;
+      events = n .events;
+      draft = withByte (n .draft) byte;
+      heard = heardWith (n .heard) (n .draft) byte;
+      refused = n .refused;
+      wrong = n .wrong;
+    }
 
 -- a byte more, and any number of them. After a wrong line nothing changes.
 unfoldable pub byteRead : Read → ℕ → Read
@@ -178,7 +189,7 @@ traceOfNotes n trace = take (event-size * n .events) trace
 -- Notes that are right and whole are written as a session file; of others nothing is. Where the trace refused an event, that is told; 17 is for another trace, which is shorter.
 unfoldable pub filedBy : Notes → List ℕ → List ℕ → Filed
 filedBy n trace out =
-    if (n .wrong) (filed (Wrong (n .line) (expectedBy n)) out)
+    if (n .wrong) (filed (Wrong (n .line) (faultBy n) (expectedBy n)) out)
     (if (ltb (n .numbers) 3) (filed (Unfinished (expectedBy n)) out)
     (if (not (eqb (n .refused) 0)) (filed (Refused (n .refused)) out)
     (if (ltb (eventsIn trace) (n .events)) (filed (Refused 17) out)

@@ -190,7 +190,7 @@ impl Draft {
 }
 
 // Whether a byte parts fields.
-fn is_gap(byte: u8) -> bool
+pub(crate) fn is_gap(byte: u8) -> bool
     ensures { λ r. ⌜ r ≡ isGap byte ⌝ }
 {
     (byte == b' ') | (byte == b'\t')
@@ -202,7 +202,7 @@ fn is_letter(byte: u8) -> bool
     (b'a' <= byte) & (byte <= b'z')
 }
 
-fn is_digit(byte: u8) -> bool
+pub(crate) fn is_digit(byte: u8) -> bool
     ensures { λ r. ⌜ r ≡ isDigit byte ⌝ }
 {
     (b'0' <= byte) & (byte <= b'9')

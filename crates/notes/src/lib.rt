@@ -1,12 +1,19 @@
 // Notes: a session written by hand, a line for each table number, stream and event.
 // They are read byte by byte into a table and a trace; and a line of them is shown.
 mod draft;
+mod fault;
+mod heard;
 mod line;
+mod numbers;
 
 pub use draft::Draft;
 pub use draft::Place;
+pub use fault::Fault;
+use fault::fault_of;
 use file::Event;
 use file::Writing;
+pub use heard::Field;
+pub use heard::Heard;
 pub use line::Line;
 pub use line::line_at;
 use line::line_of;
@@ -17,13 +24,14 @@ ghost use Prim.Native.Nat.{_<_};
 ghost use Rattle.notes.specs.Notes.{started, stopped, nextLine, advanced, withWorst, withSpan, withPadding, afterNumber, afterStream, afterEvent, after, expectedBy, lengthened, told, read, lineRefusal, refusedBy, traceAfter, lineEnded, byteRead, bytesRead, filedBy, ended};
 
 // What has been read of some notes: the number of the line that is being read, how many of the three table numbers there are, the table so far,
-// how many events there are, the line so far, the number by which an event was refused its place in the trace, or 0, and whether the line is wrong. Then nothing more is read.
+// how many events there are, the line so far and what a message can quote of it, the number by which an event was refused its place in the trace, or 0, and whether the line is wrong. Then nothing more is read.
 pub struct Notes {
     pub line: u64,
     pub numbers: u64,
     pub table: Table,
     pub events: usize,
     pub draft: Draft,
+    pub heard: Heard,
     pub refused: u64,
     pub wrong: bool,
 }
@@ -38,10 +46,14 @@ pub enum Expected {
     NoMore,
 }
 
-// What composing says: how long the file is, which line is wrong, that the notes end too early, or the refusal of the writer.
+// What composing says: how long the file is, which line is wrong and what with it, that the notes end too early, or the refusal of the writer.
 pub enum Composed {
     Written(usize),
-    Wrong { line: u64, expected: Expected },
+    Wrong {
+        line: u64,
+        fault: Fault,
+        expected: Expected,
+    },
     Unfinished(Expected),
     Refused(u64),
 }
@@ -112,7 +124,7 @@ fn put_line(trace: &mut [u8], i: usize, line: Line) -> u64
 
 impl Notes {
     // How many numbers of the table come before its streams.
-    const TABLE_NUMBERS: u64 = 3;
+    pub(crate) const TABLE_NUMBERS: u64 = 3;
 
     // No notes yet.
     pub fn start() -> Notes
@@ -132,6 +144,7 @@ impl Notes {
             table,
             events: 0,
             draft: Draft::blank(),
+            heard: Heard::none(),
             refused: 0,
             wrong: false,
         }
@@ -239,6 +252,7 @@ impl Notes {
             table,
             events,
             draft: Draft::blank(),
+            heard: Heard::none(),
             refused: self.refused,
             wrong: false,
         }
@@ -268,9 +282,12 @@ impl Notes {
     fn lengthened(self, byte: u8) -> Notes
         ensures { λ r. ⌜ r ≡ lengthened self byte ⌝ }
     {
-        let draft = self.draft.with(byte);
+        let before = self.draft;
+        let draft = before.with(byte);
+        let heard = self.heard.with(before, byte);
         let mut next = self;
         next.draft = draft;
+        next.heard = heard;
         next
     }
 
@@ -302,9 +319,11 @@ impl Notes {
         ensures { λ _. ⌜ now (out .exit) ≡ filedBy self (now (trace .entry)) (now (out .entry)) .out ⌝ }
     {
         if self.wrong {
+            let fault = fault_of(self);
             let expected = self.expected();
             return Composed::Wrong {
                 line: self.line,
+                fault,
                 expected,
             };
         }

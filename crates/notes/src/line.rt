@@ -73,7 +73,7 @@ fn fields_line(draft: Draft) -> Line
 }
 
 // The line of a word alone.
-fn word_line(word: u64) -> Line
+pub(crate) fn word_line(word: u64) -> Line
     ensures { λ r. ⌜ r ≡ wordLine word ⌝ }
 {
     if word == TURN {
@@ -83,7 +83,7 @@ fn word_line(word: u64) -> Line
 }
 
 // The line of a word and a number.
-fn number_line(word: u64, n: u64) -> Line
+pub(crate) fn number_line(word: u64, n: u64) -> Line
     ensures { λ r. ⌜ r ≡ numberLine word n ⌝ }
 {
     if word == DONE {
@@ -115,7 +115,7 @@ fn table_line(word: u64, n: u32) -> Line
 }
 
 // The line of a word and two numbers.
-fn pair_line(word: u64, a: u64, b: u64) -> Line
+pub(crate) fn pair_line(word: u64, a: u64, b: u64) -> Line
     ensures { λ r. ⌜ r ≡ pairLine word a b ⌝ }
 {
     if word == STREAM {

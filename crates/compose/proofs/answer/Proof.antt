@@ -29,23 +29,20 @@ say-requires c κs = search needs
 print-decimal-requires : tie.Need-print-decimal-requires
 print-decimal-requires c κs = search needs
 
-say-expected-requires : tie.Need-say-expected-requires
-say-expected-requires c κs = search needs
-
-enum-known-composed-3 : tie.Need-enum-known-composed-3
-enum-known-composed-3 c = search needs
-
 slice-aggregate-say-2 : tie.Need-slice-aggregate-say-2
 slice-aggregate-say-2 c = search needs
 
 say-requires-2 : tie.Need-say-requires-2
 say-requires-2 c κs = search needs
 
-say-expected-requires-2 : tie.Need-say-expected-requires-2
-say-expected-requires-2 c κs = search needs
+say-fault-requires : tie.Need-say-fault-requires
+say-fault-requires c κs = search needs
 
-enum-known-composed-4 : tie.Need-enum-known-composed-4
-enum-known-composed-4 c = search needs
+say-expected-requires : tie.Need-say-expected-requires
+say-expected-requires c κs = search needs
+
+enum-known-composed-3 : tie.Need-enum-known-composed-3
+enum-known-composed-3 c = search needs
 
 slice-aggregate-say-3 : tie.Need-slice-aggregate-say-3
 slice-aggregate-say-3 c = search needs
@@ -53,14 +50,26 @@ slice-aggregate-say-3 c = search needs
 say-requires-3 : tie.Need-say-requires-3
 say-requires-3 c κs = search needs
 
-print-decimal-requires-2 : tie.Need-print-decimal-requires-2
-print-decimal-requires-2 c κs = search needs
+say-expected-requires-2 : tie.Need-say-expected-requires-2
+say-expected-requires-2 c κs = search needs
+
+enum-known-composed-4 : tie.Need-enum-known-composed-4
+enum-known-composed-4 c = search needs
 
 slice-aggregate-say-4 : tie.Need-slice-aggregate-say-4
 slice-aggregate-say-4 c = search needs
 
 say-requires-4 : tie.Need-say-requires-4
 say-requires-4 c κs = search needs
+
+print-decimal-requires-2 : tie.Need-print-decimal-requires-2
+print-decimal-requires-2 c κs = search needs
+
+slice-aggregate-say-5 : tie.Need-slice-aggregate-say-5
+slice-aggregate-say-5 c = search needs
+
+say-requires-5 : tie.Need-say-requires-5
+say-requires-5 c κs = search needs
 
 returns : tie.Need-returns
 returns c = search needs
@@ -86,17 +95,20 @@ answer-spec =
     slice-aggregate-say
     say-requires
     print-decimal-requires
-    say-expected-requires
-    enum-known-composed-3
     slice-aggregate-say-2
     say-requires-2
-    say-expected-requires-2
-    enum-known-composed-4
+    say-fault-requires
+    say-expected-requires
+    enum-known-composed-3
     slice-aggregate-say-3
     say-requires-3
-    print-decimal-requires-2
+    say-expected-requires-2
+    enum-known-composed-4
     slice-aggregate-say-4
     say-requires-4
+    print-decimal-requires-2
+    slice-aggregate-say-5
+    say-requires-5
     returns
     returns-2
     returns-3

@@ -7,11 +7,14 @@ use native.Mathlib.Omega.{arith}
 use Rattle.notes.proofs.Notes.filed.Statement.{statement}
 use Rattle.notes.proofs.Notes.filed.Tie as tie
 
+fault-of-requires : tie.Need-fault-of-requires
+fault-of-requires c κs = tt
+
 expected-requires : tie.Need-expected-requires
 expected-requires c κs = tt
 
 returns : tie.Need-returns
-returns c = rw (filed-wrong (c .before .before .before .before .args .self) (c .before .before .before .before .args .trace .now) (c .before .before .before .before .args .out .now) (c .before .if1 .taken), c .expected .ensures) (refl, refl)
+returns c = rw (filed-wrong (c .before .before .before .before .before .args .self) (c .before .before .before .before .before .args .trace .now) (c .before .before .before .before .before .args .out .now) (c .before .before .if1 .taken), c .before .fault-of .ensures, c .expected .ensures) (refl, refl)
 
 expected-requires-2 : tie.Need-expected-requires-2
 expected-requires-2 c κs = tt
@@ -47,7 +50,7 @@ pub filed-spec : {M : Type 1} → statement M
 filed-spec =
     tie.close
     (tie.spec
-    expected-requires
+    fault-of-requires expected-requires
     returns
     expected-requires-2
     returns-2

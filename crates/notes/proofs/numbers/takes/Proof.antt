@@ -1,0 +1,27 @@
+-- `takes` asks for the lines of a word alone, and of a word and a number.
+use mathlib.Core.Path.{sym, _∙_}
+use Rattle.table.specs.Fold.{if}
+use Rattle.notes.specs.Numbers.{takes}
+use Rattle.notes.proofs.numbers.takes.Statement.{statement}
+use Rattle.notes.proofs.numbers.takes.Tie as tie
+
+stands-alone-requires : tie.Need-stands-alone-requires
+stands-alone-requires c κs = tt
+
+returns : tie.Need-returns
+unfolding takes if
+returns c = rw (sym (c .before .stands-alone .ensures) ∙ c .if1 .taken)
+
+takes-one-requires : tie.Need-takes-one-requires
+takes-one-requires c κs = tt
+
+returns-2 : tie.Need-returns-2
+unfolding takes if
+returns-2 c = rw (sym (c .before .before .before .stands-alone .ensures) ∙ c .before .before .if1 .left, sym (c .before .takes-one .ensures) ∙ c .if2 .taken)
+
+returns-3 : tie.Need-returns-3
+unfolding takes if
+returns-3 c = rw (sym (c .before .before .before .stands-alone .ensures) ∙ c .before .before .if1 .left, sym (c .before .takes-one .ensures) ∙ c .if2 .left)
+
+pub takes-spec : {M : Type 1} → statement M
+takes-spec = tie.close (tie.spec stands-alone-requires returns takes-one-requires returns-2 returns-3)

@@ -1,0 +1,63 @@
+-- What is wrong with a line: the first of these that is so, from its start on. A right line may still stand where it may not.
+use mathlib.Core.Bool.{Bool, true, false, not, _&&_, _||_}
+use Prim.Native.Nat.{ℕ, _+_}
+use lib.Dec.{ltb, eqb}
+use Rattle.table.specs.Fold.{if}
+use Rattle.notes.specs.declared.Notes.{Notes}
+use Rattle.notes.specs.declared.fault.Fault.{Fault}
+use Rattle.notes.specs.declared.fault.Fault.the-variants.{Return, Mark, Word, Numbers, NoNumber, TooLarge, Misplaced, NinthStream, LateEvent}
+use Rattle.notes.specs.declared.draft.Place.{Place}
+use Rattle.notes.specs.declared.draft.Place.the-variants.{Between, Within, Comment, Returned, Stray, Amiss}
+use Rattle.notes.specs.declared.line.Line.{Line}
+use Rattle.notes.specs.Line.{lineOf}
+use Rattle.notes.specs.Numbers.{isKnown, takes, fits, roomAt}
+use Rattle.notes.specs.Heard.{isMarked}
+
+abbrev pub isStray : Place → Bool
+isStray Between = false
+isStray Within = false
+isStray Comment = false
+isStray Returned = false
+isStray Stray = true
+isStray Amiss = false
+
+abbrev pub isAmiss : Place → Bool
+isAmiss Between = false
+isAmiss Within = false
+isAmiss Comment = false
+isAmiss Returned = false
+isAmiss Stray = false
+isAmiss Amiss = true
+
+-- a right line, after so many numbers of the table and so many events: one stream too many, one event too many, or one that comes too early, too late or twice
+unfoldable pub streamFault : ℕ → ℕ → Fault
+streamFault numbers events = if (eqb numbers 3 && eqb events 0) NinthStream Misplaced
+
+unfoldable pub eventFault : ℕ → Fault
+eventFault numbers = if (eqb numbers 3) LateEvent Misplaced
+
+abbrev pub rightFault : ℕ → ℕ → Line → Fault
+rightFault numbers events Line.Blank = Misplaced
+rightFault numbers events (Line.Worst n) = Misplaced
+rightFault numbers events (Line.Span n) = Misplaced
+rightFault numbers events (Line.Padding n) = Misplaced
+rightFault numbers events (Line.Stream e p) = streamFault numbers events
+rightFault numbers events (Line.Call event) = eventFault numbers
+rightFault numbers events Line.Wrong = Misplaced
+
+-- behind a word of notes: no number, one too large, or too few
+unfoldable pub numberFault : Notes → Fault
+numberFault n =
+    if (isAmiss (n .draft .place) && not (n .heard .number .digits)) NoNumber
+    (if (isAmiss (n .draft .place) || not (fits (n .draft))) (TooLarge (roomAt (n .draft)))
+    (if (ltb (n .draft .fields) (takes (n .draft .word) + 1)) (Numbers (takes (n .draft .word)))
+    (rightFault (n .numbers) (n .events) (lineOf (n .draft)))))
+
+-- a carriage return within the line, a byte order mark, no word of notes, more numbers than it takes
+unfoldable pub faultBy : Notes → Fault
+faultBy n =
+    if (isStray (n .draft .place)) Return
+    (if (isMarked (n .heard .word)) Mark
+    (if (not (isKnown (n .draft .word)) || (isAmiss (n .draft .place) && eqb (n .draft .fields) 1)) Word
+    (if (ltb (takes (n .draft .word) + 1) (n .draft .fields)) (Numbers (takes (n .draft .word)))
+    (numberFault n))))

@@ -1,0 +1,121 @@
+// What is wrong with a line.
+use crate::Notes;
+use crate::draft::Place;
+use crate::line::Line;
+use crate::line::line_of;
+use crate::numbers::fits;
+use crate::numbers::is_known;
+use crate::numbers::room_at;
+use crate::numbers::takes;
+ghost use mathlib.Core.Path.{_≡_};
+ghost use Rattle.notes.specs.Fault.{isStray, isAmiss, streamFault, eventFault, rightFault, numberFault, faultBy};
+
+// A carriage return within the line; a byte order mark; no word of notes; more or fewer numbers than the word takes; no number;
+// a number for which so many bits have no room; a line that stands where it may not; a ninth stream; an event after 4,000.
+// The word or the number is what the notes have heard of the line.
+pub enum Fault {
+    Return,
+    Mark,
+    Word,
+    Numbers(u64),
+    NoNumber,
+    TooLarge(u64),
+    Misplaced,
+    NinthStream,
+    LateEvent,
+}
+
+// What is wrong with the line that is being read, from its start on.
+pub(crate) fn fault_of(notes: Notes) -> Fault
+    ensures { λ r. ⌜ r ≡ faultBy notes ⌝ }
+{
+    let draft = notes.draft;
+    let heard = notes.heard;
+    let word = heard.word;
+    let place = draft.place;
+    if is_stray(place) {
+        return Fault::Return;
+    }
+    if word.is_marked() {
+        return Fault::Mark;
+    }
+    let known = is_known(draft.word);
+    if !known | (is_amiss(place) & (draft.fields == 1)) {
+        return Fault::Word;
+    }
+    let takes = takes(draft.word);
+    if takes + 1 < draft.fields {
+        return Fault::Numbers(takes);
+    }
+    number_fault(notes)
+}
+
+// What is wrong behind a word of notes.
+fn number_fault(notes: Notes) -> Fault
+    ensures { λ r. ⌜ r ≡ numberFault notes ⌝ }
+{
+    let draft = notes.draft;
+    let place = draft.place;
+    let spoilt = is_amiss(place);
+    if spoilt & !notes.heard.number.digits {
+        return Fault::NoNumber;
+    }
+    if spoilt | !fits(draft) {
+        return Fault::TooLarge(room_at(draft));
+    }
+    let takes = takes(draft.word);
+    if draft.fields < takes + 1 {
+        return Fault::Numbers(takes);
+    }
+    right_fault(notes.numbers, notes.events, line_of(draft))
+}
+
+// What is wrong with a line that is right by itself, after so many numbers of the table and so many events.
+fn right_fault(numbers: u64, events: usize, line: Line) -> Fault
+    ensures { λ r. ⌜ r ≡ rightFault numbers events line ⌝ }
+{
+    match line {
+        Line::Stream { .. } => stream_fault(numbers, events),
+        Line::Call(_) => event_fault(numbers),
+        Line::Blank | Line::Worst(_) | Line::Span(_) | Line::Padding(_) | Line::Wrong =>
+            Fault::Misplaced,
+    }
+}
+
+// A stream too many, or one that comes too early or too late.
+fn stream_fault(numbers: u64, events: usize) -> Fault
+    ensures { λ r. ⌜ r ≡ streamFault numbers events ⌝ }
+{
+    if (numbers == Notes::TABLE_NUMBERS) & (events == 0) {
+        return Fault::NinthStream;
+    }
+    Fault::Misplaced
+}
+
+// An event too many, or one that comes too early.
+fn event_fault(numbers: u64) -> Fault
+    ensures { λ r. ⌜ r ≡ eventFault numbers ⌝ }
+{
+    if numbers == Notes::TABLE_NUMBERS {
+        return Fault::LateEvent;
+    }
+    Fault::Misplaced
+}
+
+fn is_stray(place: Place) -> bool
+    ensures { λ r. ⌜ r ≡ isStray place ⌝ }
+{
+    match place {
+        Place::Stray => true,
+        Place::Between | Place::Within | Place::Comment | Place::Returned | Place::Amiss => false,
+    }
+}
+
+fn is_amiss(place: Place) -> bool
+    ensures { λ r. ⌜ r ≡ isAmiss place ⌝ }
+{
+    match place {
+        Place::Amiss => true,
+        Place::Between | Place::Within | Place::Comment | Place::Returned | Place::Stray => false,
+    }
+}

@@ -1,4 +1,4 @@
-// Reads notes from standard input, and writes their session file. Of notes that are wrong it says on standard error what is wrong where and what was expected, and writes nothing.
+// Reads notes from standard input, and writes their session file. Of notes that are wrong it says on standard error what is wrong where and what was expected, and writes nothing. A table without streams is told, too, and written.
 use libc::STDERR_FILENO;
 use libc::STDIN_FILENO;
 use libc::STDOUT_FILENO;
@@ -35,10 +35,10 @@ fn main() {
 // Writes the file, or says what is wrong; what was heard of the last line is quoted.
 fn answer(composed: Composed, heard: Heard, out: &[u8]) {
     match composed {
-        Composed::Written(len) => {
-            // the file ends within the buffer
-            let end = smaller(len, out.len());
-            io::write_all(STDOUT_FILENO, &out[..end]);
+        Composed::Written(len) => write_file(len, out),
+        Composed::Streamless { len, event } => {
+            write_file(len, out);
+            say_streamless(event);
         }
         Composed::Wrong {
             line,
@@ -61,6 +61,24 @@ fn answer(composed: Composed, heard: Heard, out: &[u8]) {
             say(b"\n");
         }
     }
+}
+
+fn write_file(len: usize, out: &[u8]) {
+    // the file ends within the buffer
+    let end = smaller(len, out.len());
+    io::write_all(STDOUT_FILENO, &out[..end]);
+}
+
+// The file is written all the same: it is a session file, and opening says what it lacks.
+fn say_streamless(event: u64) {
+    if event == 0 {
+        say(b"end: no stream");
+    } else {
+        say(b"line ");
+        io::print_decimal(STDERR_FILENO, event);
+        say(b": no stream before the first event");
+    }
+    say(b"; the file is written, and opening refuses a table without streams by 1\n");
 }
 
 fn say_fault(fault: Fault, heard: Heard) {

@@ -14,8 +14,9 @@ use Rattle.file.specs.declared.Writing.{Writing}
 use Rattle.file.proofs.Round.{refused-changes-nothing}
 use Rattle.listing.specs.Line.{newline}
 use Rattle.notes.specs.declared.Notes.{Notes}
-use Rattle.notes.specs.declared.Composed.the-variants.{Written, Wrong, Unfinished, Refused}
-use Rattle.notes.specs.Notes.{Read, read, lineEnded, lengthened, byteRead, Filed, filed, told, expectedBy, traceOfNotes, filedBy}
+use Rattle.notes.specs.declared.Composed.{Composed}
+use Rattle.notes.specs.declared.Composed.the-variants.{Written, Streamless, Wrong, Unfinished, Refused}
+use Rattle.notes.specs.Notes.{Read, read, lineEnded, lengthened, byteRead, Filed, filed, writtenBy, told, expectedBy, traceOfNotes, filedBy}
 use Rattle.notes.specs.Fault.{faultBy}
 use Rattle.notes.specs.Laws.{NothingElseWritten}
 
@@ -52,7 +53,7 @@ module _ (n : Notes) (trace : List ℕ) (byte : ℕ) where
 -- the end of the notes
 module _ (n : Notes) (trace out : List ℕ) where
   abbrev fileWritten : Filed
-  fileWritten = filed (told (writeOf (n .table) (traceOfNotes n trace) out)) (writtenOn (n .table) (traceOfNotes n trace) out)
+  fileWritten = filed (told (n .table .count) (n .began) (writeOf (n .table) (traceOfNotes n trace) out)) (writtenOn (n .table) (traceOfNotes n trace) out)
 
   abbrev stored : Filed
   stored = if (ltb (eventsIn trace) (n .events)) (filed (Refused 17) out) fileWritten
@@ -95,20 +96,25 @@ module _ (n : Notes) (trace out : List ℕ) where
         filed-whole h = on-stored ∙ passed (ltb (eventsIn trace) (n .events)) (filed (Refused 17) out) fileWritten (le-ltb (eventsIn trace) (n .events) h)
 
 -- a file that the writer refuses leaves the buffer as it was
-not-told : (reply : Writing) (table : Table) (trace out : List ℕ) → writeOf table trace out ≡ reply → ((len : ℕ) → told reply ≡ Written len → ⊥)
+not-written : (streams began len : ℕ) (A : Type 0) → (writtenBy streams began len ≡ Written len → A) → (writtenBy streams began len ≡ Streamless len began → A) → A
+unfolding writtenBy
+not-written streams began len A = by-if (λ (c : Composed). (c ≡ Written len → A) → (c ≡ Streamless len began → A) → A) (eqb streams 0) (Streamless len began) (Written len) (λ _ f g. g refl) (λ _ f g. f refl)
+
+not-told : (reply : Writing) (table : Table) (began : ℕ) (trace out : List ℕ) → writeOf table trace out ≡ reply
+    → ((len : ℕ) → told (table .count) began reply ≡ Written len → ⊥) → ((len event : ℕ) → told (table .count) began reply ≡ Streamless len event → ⊥)
     → writtenOn table trace out ≡ out
-not-told (Writing.Written len) table trace out is none = absurd (none len refl)
-not-told (Writing.Refused number) table trace out is none = refused-changes-nothing table trace out number is
+not-told (Writing.Written len) table began trace out is none bare = absurd (not-written (table .count) began len ⊥ (none len) (bare len began))
+not-told (Writing.Refused number) table began trace out is none bare = refused-changes-nothing table trace out number is
 
 pub nothing-else-written : NothingElseWritten
 unfolding filedBy
 nothing-else-written n trace out =
-    let P : Filed → Type 0 = λ f. ((len : ℕ) → f .reply ≡ Written len → ⊥) → f .out ≡ out in
-    by-if P (n .wrong) (filed (Wrong (n .line) (faultBy n) (expectedBy n)) out) (right n trace out) (λ _ _. refl)
+    let P : Filed → Type 0 = λ f. ((len : ℕ) → f .reply ≡ Written len → ⊥) → ((len event : ℕ) → f .reply ≡ Streamless len event → ⊥) → f .out ≡ out in
+    by-if P (n .wrong) (filed (Wrong (n .line) (faultBy n) (expectedBy n)) out) (right n trace out) (λ _ _ _. refl)
     (λ _.
-    by-if P (ltb (n .numbers) 3) (filed (Unfinished (expectedBy n)) out) (whole n trace out) (λ _ _. refl)
+    by-if P (ltb (n .numbers) 3) (filed (Unfinished (expectedBy n)) out) (whole n trace out) (λ _ _ _. refl)
     (λ _.
-    by-if P (not (eqb (n .refused) 0)) (filed (Refused (n .refused)) out) (stored n trace out) (λ _ _. refl)
+    by-if P (not (eqb (n .refused) 0)) (filed (Refused (n .refused)) out) (stored n trace out) (λ _ _ _. refl)
     (λ _.
-    by-if P (ltb (eventsIn trace) (n .events)) (filed (Refused 17) out) (fileWritten n trace out) (λ _ _. refl)
-    (λ _ none. not-told (writeOf (n .table) (traceOfNotes n trace) out) (n .table) (traceOfNotes n trace) out refl none))))
+    by-if P (ltb (eventsIn trace) (n .events)) (filed (Refused 17) out) (fileWritten n trace out) (λ _ _ _. refl)
+    (λ _ none bare. not-told (writeOf (n .table) (traceOfNotes n trace) out) (n .table) (n .began) (traceOfNotes n trace) out refl none bare))))

@@ -1,11 +1,13 @@
--- A tab reads as a space, and a carriage return before a newline is dropped.
-use mathlib.Core.Bool.{Bool, true, false}
-use mathlib.Core.Path.{_≡_, refl, sym, ap, _∙_}
+-- A tab reads as a space, a carriage return before a newline is dropped, and the end of a wrong line changes nothing that is quoted.
+use mathlib.Core.Bool.{Bool, true, false, false≢true}
+use mathlib.Core.Path.{_≡_, refl, sym, ap, subst, _∙_}
 use mathlib.Core.List.{List, [], _∷_, _++_}
 use mathlib.Core.Logic.{_⊎_, inl, inr}
 use Prim.Native.Nat.{ℕ}
 use native.Mathlib.Omega.{arith}
+use lib.Dec.{eqb}
 use Rattle.table.specs.Fold.{if}
+use Rattle.table.proofs.Tests.{by-if}
 use Rattle.listing.specs.Line.{space, newline}
 use Rattle.notes.specs.declared.Notes.{Notes}
 use Rattle.notes.specs.declared.Composed.the-variants as composed
@@ -21,8 +23,8 @@ use Rattle.notes.specs.Line.{fieldsLine, lineOf}
 use Rattle.notes.specs.Numbers.{fits, roomAt}
 use Rattle.notes.specs.Heard.{heardOf, heardWith}
 use Rattle.notes.specs.Fault.{numberFault, faultBy}
-use Rattle.notes.specs.Notes.{stopped, afterNumber, afterStream, afterEvent, after, expectedBy, Read, read, lineRefusal, refusedBy, traceAfter, lineEnded, byteRead, bytesRead, Filed, filed, filedBy}
-use Rattle.notes.specs.Laws.{TabIsSpace, ReturnIsDropped, composedOf}
+use Rattle.notes.specs.Notes.{stopped, afterNumber, afterStream, beganBy, afterEvent, after, expectedBy, Read, read, lineRefusal, refusedBy, traceAfter, lineEnded, byteRead, bytesRead, Filed, filed, filedBy}
+use Rattle.notes.specs.Laws.{TabIsSpace, ReturnIsDropped, HeardStays, composedOf}
 use Rattle.notes.proofs.Grammar.{test}
 use Rattle.notes.proofs.Choices.{byte-stopped, byte-ends, byte-lengthens, filed-wrong}
 
@@ -40,7 +42,7 @@ tab-continues Amiss d = refl
 -- the same notes, with another line so far
 abbrev with-draft : Notes → Draft → Heard → Notes
 with-draft n d h =
-    record { line = n .line; numbers = n .numbers; table = n .table; events = n .events; draft = d; heard = h; refused = n .refused; wrong = n .wrong }
+    record { line = n .line; numbers = n .numbers; table = n .table; events = n .events; began = n .began; draft = d; heard = h; refused = n .refused; wrong = n .wrong }
 
 tab-read : (n : Notes) (trace : List ℕ) → byteRead (read n trace) tab ≡ byteRead (read n trace) space
 unfolding byteRead heardWith if
@@ -91,7 +93,7 @@ module _ (n : Notes) (trace : List ℕ) (d : Draft) (h : Heard) (same : lineOf d
   either false x = inr (refl, refl)
 
   alike : (l : Line) → Alike (after other l) (after n l)
-  unfolding afterNumber afterStream afterEvent Alike
+  unfolding afterNumber afterStream beganBy afterEvent Alike
   alike Blank = inl refl
   alike (Worst x) = either _ _
   alike (Span x) = either _ _
@@ -169,3 +171,43 @@ return-is-dropped r more out other = go (test (r .notes .wrong))
         ap (λ (q : Read). composedOf (bytesRead (byteRead q newline) more) out) (byte-lengthens n (r .trace) carriage-return right no-newline)
         ∙ ended-alike n (r .trace) more out right (withByte (n .draft) carriage-return) (heardWith (n .heard) (n .draft) carriage-return)
         (return-line (n .draft .place) (n .draft) other refl) (return-fault (n .draft .place) n other refl)
+
+-- ---- what is quoted
+
+Kept : Notes → Notes → Type 0
+Kept n next = next .wrong ≡ true → next .heard ≡ n .heard
+
+kept-or-on : (n : Notes) (t : Bool) (x : Notes) → x .wrong ≡ false → Kept n (if t x (stopped n))
+unfolding if Kept
+kept-or-on n true x right = λ wrong. absurd (false≢true (sym right ∙ wrong))
+kept-or-on n false x right = λ wrong. refl
+
+after-keeps : (n : Notes) (l : Line) → Kept n (after n l)
+unfolding afterNumber afterStream beganBy afterEvent Kept
+after-keeps n Blank = λ wrong. absurd (false≢true wrong)
+after-keeps n (Worst x) = kept-or-on n _ _ refl
+after-keeps n (Span x) = kept-or-on n _ _ refl
+after-keeps n (Padding x) = kept-or-on n _ _ refl
+after-keeps n (Stream e p) = kept-or-on n _ _ refl
+after-keeps n (Call event) = kept-or-on n _ _ refl
+after-keeps n Wrong = λ wrong. refl
+
+line-keeps : (n : Notes) (trace : List ℕ) → Kept n (lineEnded n trace .notes)
+unfolding lineEnded refusedBy Kept
+line-keeps n trace =
+    let l = lineOf (n .draft) in
+    let next = after n l in
+    let number = lineRefusal trace (n .events) l in
+    let P : Read → Type 0 = λ r. Kept n (r .notes) in
+    by-if P (next .wrong) (read next trace) (read (refusedBy next number) (traceAfter trace (n .events) l))
+    (λ _. after-keeps n l)
+    (λ right. by-if (λ (m : Notes). Kept n m) (eqb number 0) next _ (λ _. after-keeps n l) (λ _ wrong. after-keeps n l wrong))
+
+pub heard-stays : HeardStays
+unfolding Kept
+heard-stays n trace = go (test (n .wrong))
+  where
+    go : (n .wrong ≡ true) ⊎ (n .wrong ≡ false) → Kept n (byteRead (read n trace) newline .notes)
+    go (inl h) = λ wrong. ap (λ (r : Read). r .notes .heard) (byte-stopped n trace newline h)
+    go (inr right) =
+        subst (λ (r : Read). Kept n (r .notes)) (sym (byte-ends n trace newline right refl)) (line-keeps n trace)

@@ -23,7 +23,7 @@ use Rattle.notes.specs.declared.heard.Heard.{Heard}
 use Rattle.notes.specs.Draft.{drafted, blank, tab, isGap, hash, carriage-return, lettered, longer, lengthens, firstLonger, secondLonger, inField, begun, afterGap, afterField, withByte}
 use Rattle.notes.specs.Line.{heldAfter, held, wordLine, tableLine, numberLine, streamLine, pairLine, fieldsLine, lineOf}
 use Rattle.notes.specs.Heard.{unheard, heardWith}
-use Rattle.notes.specs.Notes.{noted, stopped, afterNumber, afterStream, afterEvent, after, expectedBy, Read, read, lineRefusal, refusedBy, traceAfter, lineEnded, byteRead, bytesRead}
+use Rattle.notes.specs.Notes.{noted, stopped, afterNumber, afterStream, beganBy, afterEvent, after, expectedBy, Read, read, lineRefusal, refusedBy, traceAfter, lineEnded, byteRead, bytesRead}
 use Rattle.notes.specs.Laws.{LineReadsBack, drawn, LineIsJudged}
 use Rattle.notes.specs.Words.{wordsOf, lineOfWords}
 use Rattle.notes.proofs.Choices.{byte-lengthens}
@@ -102,10 +102,10 @@ digits-no-newline (d ∷ ds) p = (λ e. omega (arith, p .0 .0, e), digits-no-new
 
 -- ---- a line, read byte by byte
 
-module _ (line numbers : ℕ) (table : Table) (events : ℕ) (trace : List ℕ) where
+module _ (line numbers : ℕ) (table : Table) (events began : ℕ) (trace : List ℕ) where
   -- the notes with a line so far, and what is heard of it
   abbrev so-far : Draft → Heard → Notes
-  so-far d h = record { line = line; numbers = numbers; table = table; events = events; draft = d; heard = h; refused = 0; wrong = false }
+  so-far d h = record { line = line; numbers = numbers; table = table; events = events; began = began; draft = d; heard = h; refused = 0; wrong = false }
 
   abbrev at-draft : Draft → Heard → Read
   at-draft d h = read (so-far d h) trace
@@ -201,10 +201,10 @@ module _ (line numbers : ℕ) (table : Table) (events : ℕ) (trace : List ℕ) 
   same-choice false x y z h w = absurd (false≢true (sym h ∙ w))
 
   abbrev before : Notes
-  before = noted line numbers table events
+  before = noted line numbers table events began
 
   after-same : (d : Draft) (k : Heard) (l : Line) → after before l .wrong ≡ false → after (so-far d k) l ≡ after before l
-  unfolding afterNumber afterStream afterEvent
+  unfolding afterNumber afterStream beganBy afterEvent
   after-same d k Blank h = refl
   after-same d k (Worst x) h = same-choice _ _ (stopped before) (stopped (so-far d k)) h refl
   after-same d k (Span x) h = same-choice _ _ (stopped before) (stopped (so-far d k)) h refl
@@ -231,7 +231,7 @@ module _ (line numbers : ℕ) (table : Table) (events : ℕ) (trace : List ℕ) 
   stops-choice false x y z h w = refl
 
   after-stops : (d : Draft) (k : Heard) (l : Line) → after before l .wrong ≡ true → after (so-far d k) l ≡ stopped (so-far d k)
-  unfolding afterNumber afterStream afterEvent
+  unfolding afterNumber afterStream beganBy afterEvent
   after-stops d k Blank h = absurd (false≢true h)
   after-stops d k (Worst x) h = stops-choice _ _ (stopped before) (stopped (so-far d k)) h refl
   after-stops d k (Span x) h = stops-choice _ _ (stopped before) (stopped (so-far d k)) h refl
@@ -259,14 +259,14 @@ module _ (line numbers : ℕ) (table : Table) (events : ℕ) (trace : List ℕ) 
 
 pub line-is-judged : LineIsJudged
 unfolding expectedBy
-line-is-judged i k t e trace bytes p =
+line-is-judged i k t e g trace bytes p =
     let d = drawn blank bytes in
     let k2 = hearing unheard blank bytes in
-    let r = line-drawn i k t e trace bytes p in
+    let r = line-drawn i k t e g trace bytes p in
     let is = line-by-words bytes in (
-      λ right. r ∙ taken-as i k t e trace d k2 (lineOfWords (wordsOf bytes)) is right,
+      λ right. r ∙ taken-as i k t e g trace d k2 (lineOfWords (wordsOf bytes)) is right,
       λ wrong.
-          let q = r ∙ not-taken i k t e trace d k2 (lineOfWords (wordsOf bytes)) is wrong in (
+          let q = r ∙ not-taken i k t e g trace d k2 (lineOfWords (wordsOf bytes)) is wrong in (
             ap (λ (x : Read). x .notes .wrong) q,
             ap (λ (x : Read). x .notes .line) q,
             ap (λ (x : Read). expectedBy (x .notes)) q,
@@ -320,26 +320,26 @@ blank-line = refl
 
 pub line-reads-back : LineReadsBack
 unfolding rendered wordedFields ascii
-line-reads-back i k t e trace Blank f h = line-taken i k t e trace (onward []) blank Blank (blank-read i k t e trace) blank-line h
-line-reads-back i k t e trace (Worst n) f h =
-    line-taken i k t e trace _ _ (Worst n) (one-number i k t e trace (ascii "worst") (held "worst") n (words i k t e trace .0) (omega (arith, f))) (worst-line n f) h
-line-reads-back i k t e trace (Span n) f h =
-    line-taken i k t e trace _ _ (Span n) (one-number i k t e trace (ascii "span") (held "span") n (words i k t e trace .1) (omega (arith, f))) (span-line n f) h
-line-reads-back i k t e trace (Padding n) f h =
-    line-taken i k t e trace _ _ (Padding n) (one-number i k t e trace (ascii "padding") (held "padding") n (words i k t e trace .2) (omega (arith, f))) (padding-line n f) h
-line-reads-back i k t e trace (Stream a b) f h =
-    line-taken i k t e trace _ _ (Stream a b)
-    (two-numbers i k t e trace (ascii "stream") (held "stream") a b (words i k t e trace .3) (omega (arith, f .0)) (omega (arith, f .1))) (stream-line a b (f .0) (f .1)) h
-line-reads-back i k t e trace (Call (Arrival a b)) f h =
-    line-taken i k t e trace _ _ (Call (Arrival a b))
-    (two-numbers i k t e trace (ascii "arrival") (held "arrival") a b (words i k t e trace .4) (omega (arith, f .0)) (f .1)) (arrival-line a b (f .0)) h
-line-reads-back i k t e trace (Call Turn) f h = line-taken i k t e trace _ _ (Call Turn) (turn-read i k t e trace) turn-line h
-line-reads-back i k t e trace (Call (OwnTurn a b)) f h =
-    line-taken i k t e trace _ _ (Call (OwnTurn a b))
-    (two-numbers i k t e trace (ascii "own") (held "own") a b (words i k t e trace .5) (omega (arith, f .0)) (f .1)) (own-line a b (f .0)) h
-line-reads-back i k t e trace (Call (Done n)) f h =
-    line-taken i k t e trace _ _ (Call (Done n)) (one-number i k t e trace (ascii "done") (held "done") n (words i k t e trace .6) f) (done-line n) h
-line-reads-back i k t e trace (Call (Clock n)) f h =
-    line-taken i k t e trace _ _ (Call (Clock n)) (one-number i k t e trace (ascii "clock") (held "clock") n (words i k t e trace .7) f) (clock-line n) h
-line-reads-back i k t e trace (Call Malformed) f h = absurd f
-line-reads-back i k t e trace Wrong f h = absurd f
+line-reads-back i k t e g trace Blank f h = line-taken i k t e g trace (onward []) blank Blank (blank-read i k t e g trace) blank-line h
+line-reads-back i k t e g trace (Worst n) f h =
+    line-taken i k t e g trace _ _ (Worst n) (one-number i k t e g trace (ascii "worst") (held "worst") n (words i k t e g trace .0) (omega (arith, f))) (worst-line n f) h
+line-reads-back i k t e g trace (Span n) f h =
+    line-taken i k t e g trace _ _ (Span n) (one-number i k t e g trace (ascii "span") (held "span") n (words i k t e g trace .1) (omega (arith, f))) (span-line n f) h
+line-reads-back i k t e g trace (Padding n) f h =
+    line-taken i k t e g trace _ _ (Padding n) (one-number i k t e g trace (ascii "padding") (held "padding") n (words i k t e g trace .2) (omega (arith, f))) (padding-line n f) h
+line-reads-back i k t e g trace (Stream a b) f h =
+    line-taken i k t e g trace _ _ (Stream a b)
+    (two-numbers i k t e g trace (ascii "stream") (held "stream") a b (words i k t e g trace .3) (omega (arith, f .0)) (omega (arith, f .1))) (stream-line a b (f .0) (f .1)) h
+line-reads-back i k t e g trace (Call (Arrival a b)) f h =
+    line-taken i k t e g trace _ _ (Call (Arrival a b))
+    (two-numbers i k t e g trace (ascii "arrival") (held "arrival") a b (words i k t e g trace .4) (omega (arith, f .0)) (f .1)) (arrival-line a b (f .0)) h
+line-reads-back i k t e g trace (Call Turn) f h = line-taken i k t e g trace _ _ (Call Turn) (turn-read i k t e g trace) turn-line h
+line-reads-back i k t e g trace (Call (OwnTurn a b)) f h =
+    line-taken i k t e g trace _ _ (Call (OwnTurn a b))
+    (two-numbers i k t e g trace (ascii "own") (held "own") a b (words i k t e g trace .5) (omega (arith, f .0)) (f .1)) (own-line a b (f .0)) h
+line-reads-back i k t e g trace (Call (Done n)) f h =
+    line-taken i k t e g trace _ _ (Call (Done n)) (one-number i k t e g trace (ascii "done") (held "done") n (words i k t e g trace .6) f) (done-line n) h
+line-reads-back i k t e g trace (Call (Clock n)) f h =
+    line-taken i k t e g trace _ _ (Call (Clock n)) (one-number i k t e g trace (ascii "clock") (held "clock") n (words i k t e g trace .7) f) (clock-line n) h
+line-reads-back i k t e g trace (Call Malformed) f h = absurd f
+line-reads-back i k t e g trace Wrong f h = absurd f

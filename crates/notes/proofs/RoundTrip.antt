@@ -5,6 +5,7 @@ use mathlib.Core.List.{List, [], _∷_, _++_}
 use Prim.Native.Nat.{ℕ, zero, suc, _+_, _-_, _*_, _^_, _≤_, _<_}
 use native.Mathlib.Omega.{arith}
 use native.Mathlib.Numerals.{add-one}
+use lib.Dec.{eqb}
 use lib.ListN.{length, take, drop, set, length-append, length-take}
 use lib.Seq.{sets, sets-eq, length-sets, length-take-le, take-at, take-add, take-all, getD-drop}
 use borrow.Author.Tests.{ne-eqb, lt-ltb, le-ltb}
@@ -27,7 +28,7 @@ use Rattle.notes.specs.declared.Notes.{Notes}
 use Rattle.notes.specs.declared.line.Line.{Line}
 use Rattle.notes.specs.declared.line.Line.the-variants.{Worst, Span, Padding, Stream, Call}
 use Rattle.notes.specs.Line.{fieldsLine, lineShown, streamAt, afterNumbers, lineAt, shownTo}
-use Rattle.notes.specs.Notes.{noted, started, no-table, withWorst, withSpan, nextLine, afterNumber, afterStream, afterEvent, after, Read, read, lineRefusal, refusedBy, traceAfter, lineEnded, byteRead, bytesRead, Filed, filed, told, filedBy, ended}
+use Rattle.notes.specs.Notes.{noted, started, no-table, withWorst, withSpan, nextLine, afterNumber, afterStream, beganBy, afterEvent, after, Read, read, lineRefusal, refusedBy, traceAfter, lineEnded, byteRead, bytesRead, Filed, filed, told, filedBy, ended}
 use Rattle.notes.specs.Laws.{Fits, ShownComposes}
 use Rattle.notes.proofs.Bytes.{pieces-join}
 use Rattle.notes.proofs.Choices.{filed-whole}
@@ -99,6 +100,21 @@ next-line : (n : ℕ) → n < 2 ^ 64 - 1 → nextLine n ≡ n + 1
 unfolding nextLine if
 next-line n h = rw (lt-ltb n (2 ^ 64 - 1) h)
 
+-- the line of the first event, once there is one
+abbrev began-of : Table → ℕ → ℕ
+began-of t zero = 0
+began-of t (suc e) = t .count + 4
+
+began-there : (t : Table) (e : ℕ) → beganBy (noted (e + (t .count + 4)) 3 (trimmed t) e (began-of t e)) ≡ t .count + 4
+unfolding beganBy if
+began-there t zero = omega arith
+began-there t (suc e) = rw (ne-eqb (suc e) 0 (λ z. omega (arith, z)))
+
+began-is : (t : Table) (e : ℕ) → began-of t e ≡ if (eqb e 0) 0 (t .count + 4)
+unfolding if
+began-is t zero = refl
+began-is t (suc e) = rw (ne-eqb (suc e) 0 (λ z. omega (arith, z)))
+
 module _ (t : Table) (w : Words t) (few : t .count ≤ streams-max) (trace : List ℕ) (b : Bytes trace)
     (well : (i : ℕ) → i < eventsIn trace → formed (eventAt trace i) ≡ true) (short : eventsIn trace ≤ events-max) (buffer : List ℕ) (room : eventsIn trace ≤ eventsIn buffer) where
   -- what has been read of the first m lines
@@ -106,15 +122,15 @@ module _ (t : Table) (w : Words t) (few : t .count ≤ streams-max) (trace : Lis
   read-of m = bytesRead (read started buffer) (shownTo t trace m)
 
   -- a line more: it is read as the line that was shown
-  line-more : (m line numbers : ℕ) (table : Table) (events : ℕ) (so-far : List ℕ) (l : Line) (next : Notes) → lineAt t trace m ≡ l → Fits l
-      → read-of m ≡ read (noted line numbers table events) so-far → after (noted line numbers table events) l ≡ next → next .wrong ≡ false → lineRefusal so-far events l ≡ 0
+  line-more : (m line numbers : ℕ) (table : Table) (events began : ℕ) (so-far : List ℕ) (l : Line) (next : Notes) → lineAt t trace m ≡ l → Fits l
+      → read-of m ≡ read (noted line numbers table events began) so-far → after (noted line numbers table events began) l ≡ next → next .wrong ≡ false → lineRefusal so-far events l ≡ 0
       → read-of (suc m) ≡ read next (traceAfter so-far events l)
   unfolding shownTo refusedBy if
-  line-more m line numbers table events so-far l next is fits before then right kept =
+  line-more m line numbers table events began so-far l next is fits before then right kept =
       pieces-join (read started buffer) (shownTo t trace m) (rendered (lineShown (lineAt t trace m)))
       ∙ ap (λ (r : Read). bytesRead r (rendered (lineShown (lineAt t trace m)))) before
-      ∙ ap (λ (k : Line). bytesRead (read (noted line numbers table events) so-far) (rendered (lineShown k))) is
-      ∙ line-reads-back line numbers table events so-far l fits (ap (λ (n : Notes). n .wrong) then ∙ right)
+      ∙ ap (λ (k : Line). bytesRead (read (noted line numbers table events began) so-far) (rendered (lineShown k))) is
+      ∙ line-reads-back line numbers table events began so-far l fits (ap (λ (n : Notes). n .wrong) then ∙ right)
       ∙ ap (λ (n : Notes). read (refusedBy n (lineRefusal so-far events l)) (traceAfter so-far events l)) then
       ∙ ap (λ (number : ℕ). read (refusedBy next number) (traceAfter so-far events l)) kept
 
@@ -123,12 +139,12 @@ module _ (t : Table) (w : Words t) (few : t .count ≤ streams-max) (trace : Lis
   streams-of j =
       record { worst = t .worst; span = t .span; padding = t .padding; count = j; reserved = column (reservedAt t) j; period = column (periodAt t) j }
 
-  numbers-read : read-of 3 ≡ read (noted 4 3 (streams-of 0) 0) buffer
+  numbers-read : read-of 3 ≡ read (noted 4 3 (streams-of 0) 0 0) buffer
   unfolding shownTo bytesRead lineAt afterNumber nextLine if column listTo
   numbers-read =
-      line-more 2 3 2 (withSpan (withWorst no-table (t .worst)) (t .span)) 0 buffer (Padding (t .padding)) (noted 4 3 (streams-of 0) 0) refl (w .padding-fits)
-      (line-more 1 2 1 (withWorst no-table (t .worst)) 0 buffer (Span (t .span)) (noted 3 2 (withSpan (withWorst no-table (t .worst)) (t .span)) 0) refl (w .span-fits)
-      (line-more 0 1 0 no-table 0 buffer (Worst (t .worst)) (noted 2 1 (withWorst no-table (t .worst)) 0) refl (w .worst-fits) refl refl refl refl)
+      line-more 2 3 2 (withSpan (withWorst no-table (t .worst)) (t .span)) 0 0 buffer (Padding (t .padding)) (noted 4 3 (streams-of 0) 0 0) refl (w .padding-fits)
+      (line-more 1 2 1 (withWorst no-table (t .worst)) 0 0 buffer (Span (t .span)) (noted 3 2 (withSpan (withWorst no-table (t .worst)) (t .span)) 0 0) refl (w .span-fits)
+      (line-more 0 1 0 no-table 0 0 buffer (Worst (t .worst)) (noted 2 1 (withWorst no-table (t .worst)) 0 0) refl (w .worst-fits) refl refl refl refl)
       refl refl refl)
       refl refl refl
 
@@ -146,18 +162,18 @@ module _ (t : Table) (w : Words t) (few : t .count ≤ streams-max) (trace : Lis
       )
 
   stream-taken : (j : ℕ) → j < streams-max
-      → after (noted (j + 4) 3 (streams-of j) 0) (Stream (reservedAt t j) (periodAt t j)) ≡ noted (suc j + 4) 3 (streams-of (suc j)) 0
+      → after (noted (j + 4) 3 (streams-of j) 0 0) (Stream (reservedAt t j) (periodAt t j)) ≡ noted (suc j + 4) 3 (streams-of (suc j)) 0 0
   unfolding afterStream if
   stream-taken j h =
       let e : j + 4 + 1 ≡ suc j + 4 = omega arith in
       rw (lt-ltb j streams-max h, next-line (j + 4) (omega arith), e, add-one, column-more (reservedAt t) j h, column-more (periodAt t) j h)
 
-  streams-read : (j : ℕ) → j ≤ t .count → read-of (j + 3) ≡ read (noted (j + 4) 3 (streams-of j) 0) buffer
+  streams-read : (j : ℕ) → j ≤ t .count → read-of (j + 3) ≡ read (noted (j + 4) 3 (streams-of j) 0 0) buffer
   streams-read zero h = numbers-read
   streams-read (suc j) h =
       let m : suc j + 3 ≡ suc (j + 3) = omega arith in
       ap read-of m
-      ∙ line-more (j + 3) (j + 4) 3 (streams-of j) 0 buffer (Stream (reservedAt t j) (periodAt t j)) (noted (suc j + 4) 3 (streams-of (suc j)) 0)
+      ∙ line-more (j + 3) (j + 4) 3 (streams-of j) 0 0 buffer (Stream (reservedAt t j) (periodAt t j)) (noted (suc j + 4) 3 (streams-of (suc j)) 0 0)
       (stream-there j h)
       (w .reserved-fits j, w .period-fits j)
       (streams-read j (omega arith))
@@ -183,11 +199,11 @@ module _ (t : Table) (w : Words t) (few : t .count ≤ streams-max) (trace : Lis
       )
 
   event-taken : (e : ℕ) → e < events-max
-      → after (noted (e + (t .count + 4)) 3 (trimmed t) e) (Call (eventAt trace e)) ≡ noted (suc e + (t .count + 4)) 3 (trimmed t) (suc e)
+      → after (noted (e + (t .count + 4)) 3 (trimmed t) e (began-of t e)) (Call (eventAt trace e)) ≡ noted (suc e + (t .count + 4)) 3 (trimmed t) (suc e) (t .count + 4)
   unfolding afterEvent if
   event-taken e h =
       let k : e + (t .count + 4) + 1 ≡ suc e + (t .count + 4) = omega arith in
-      rw (lt-ltb e events-max h, next-line (e + (t .count + 4)) (omega (arith, few)), k, add-one)
+      rw (lt-ltb e events-max h, next-line (e + (t .count + 4)) (omega (arith, few)), began-there t e, k, add-one)
 
   -- the trace has room for each event
   event-kept : (e : ℕ) → e < eventsIn trace → putRefusal (stored buffer trace e) e (eventAt trace e) ≡ 0
@@ -198,7 +214,7 @@ module _ (t : Table) (w : Words t) (few : t .count ≤ streams-max) (trace : Lis
       sym (stored-there (stored buffer trace e) e (eventAt trace e) (coded-storable (eventAt trace e) w) here .0)
 
   events-read : (e : ℕ) → e ≤ eventsIn trace
-      → read-of (e + lines) ≡ read (noted (e + (t .count + 4)) 3 (trimmed t) e) (stored buffer trace e)
+      → read-of (e + lines) ≡ read (noted (e + (t .count + 4)) 3 (trimmed t) e (began-of t e)) (stored buffer trace e)
   unfolding stored trimmed
   events-read zero h =
       let none : 0 + lines ≡ t .count + 3 = omega arith in
@@ -207,7 +223,7 @@ module _ (t : Table) (w : Words t) (few : t .count ≤ streams-max) (trace : Lis
   events-read (suc e) h =
       let m : suc e + lines ≡ suc (e + lines) = omega arith in
       ap read-of m
-      ∙ line-more (e + lines) (e + (t .count + 4)) 3 (trimmed t) e (stored buffer trace e) (Call (eventAt trace e)) (noted (suc e + (t .count + 4)) 3 (trimmed t) (suc e))
+      ∙ line-more (e + lines) (e + (t .count + 4)) 3 (trimmed t) e (began-of t e) (stored buffer trace e) (Call (eventAt trace e)) (noted (suc e + (t .count + 4)) 3 (trimmed t) (suc e) (t .count + 4))
       (event-there e)
       (event-writes-back trace e b (well e (omega arith)) .0)
       (events-read e (omega arith))
@@ -222,11 +238,11 @@ abbrev written-of : List ℕ → Read → Filed
 written-of out r = filedBy (ended (r .notes) (r .trace) .notes) (ended (r .notes) (r .trace) .trace) out
 
 -- the end of the notes leaves a blank line, which says nothing
-at-end : (line events : ℕ) (table : Table) (trace out : List ℕ) → events ≤ eventsIn trace
-    → written-of out (read (noted line 3 table events) trace)
-    ≡ filed (told (writeOf table (take (event-size * events) trace) out)) (writtenOn table (take (event-size * events) trace) out)
+at-end : (line events began : ℕ) (table : Table) (trace out : List ℕ) → events ≤ eventsIn trace
+    → written-of out (read (noted line 3 table events began) trace)
+    ≡ filed (told (table .count) began (writeOf table (take (event-size * events) trace) out)) (writtenOn table (take (event-size * events) trace) out)
 unfolding byteRead lineEnded refusedBy fieldsLine if
-at-end line events table trace out room = filed-whole (noted (nextLine line) 3 table events) trace out refl (omega arith) refl room
+at-end line events began table trace out room = filed-whole (noted (nextLine line) 3 table events began) trace out refl (omega arith) refl room
 
 pub shown-composes : ShownComposes
 unfolding tableAt
@@ -244,5 +260,5 @@ shown-composes file buffer out b h room space =
     let back = accepted-writes-back file out _ _ _ _ b a space in
     ap (λ (m : ℕ). written-of out (bytesRead (read started buffer) (shownTo t trace m))) index
     ∙ ap (written-of out) (events-read t (table .0) (inside .count-high) trace bytes (inside .all-formed) (inside .events-high) buffer room e (omega arith))
-    ∙ at-end (e + (t .count + 4)) e (trimmed t) (stored buffer trace e) out (omega (arith, stores .1, room))
-    ∙ rw (table .1, stores .0, take-all (event-size * e) trace size, back .0, back .1)
+    ∙ at-end (e + (t .count + 4)) e (began-of t e) (trimmed t) (stored buffer trace e) out (omega (arith, stores .1, room))
+    ∙ rw (began-is t e, table .1, stores .0, take-all (event-size * e) trace size, back .0, back .1)

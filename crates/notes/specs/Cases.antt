@@ -3,7 +3,7 @@ use mathlib.Core.List.{List, [], _∷_}
 use Prim.Native.String.{String}
 use Rattle.notes.specs.declared.Composed.{Composed}
 use Rattle.notes.specs.declared.fault.Fault.the-variants.{Return, Mark, Word, Numbers, NoNumber, TooLarge, Misplaced, NinthStream}
-use Rattle.notes.specs.declared.Composed.the-variants.{Written, Wrong, Unfinished, Refused}
+use Rattle.notes.specs.declared.Composed.the-variants.{Written, Streamless, Wrong, Unfinished, Refused}
 use Rattle.notes.specs.declared.Expected.the-variants.{Worst, Span, Padding, StreamOrEvent, Event}
 
 pub record Case : Type 0 where
@@ -17,22 +17,22 @@ unfoldable pub cases : List Case
 cases =
     gives "" (Unfinished Worst)
     ∷ gives "worst 1\nspan 1" (Unfinished Padding)
-    ∷ gives "worst 1\nspan 1\npadding 1" (Written 42)
+    ∷ gives "worst 1\nspan 1\npadding 1" (Streamless 42 0)
     ∷ gives "\n# span comes second\nspan 1\nworst 1\npadding 1\n" (Wrong 3 Misplaced Worst)
     ∷ gives "worst 1\nworst 1\n" (Wrong 2 Misplaced Span)
-    ∷ gives "worst 4294967295\nspan 1\npadding 1\n" (Written 42)
+    ∷ gives "worst 4294967295\nspan 1\npadding 1\n" (Streamless 42 0)
     ∷ gives "worst 4294967296\nspan 1\npadding 1\n" (Wrong 1 (TooLarge 32) Worst)
     ∷ gives "worst 1\nspan 1\nstream 1 1\n" (Wrong 3 Misplaced Padding)
     ∷ gives "worst 1\nspan 1\npadding 1\nstream 1\n" (Wrong 4 (Numbers 2) StreamOrEvent)
     ∷ gives "worst 1\nspan 1\npadding 1\nstream 1 1\nturn\nstream 1 1\n" (Wrong 6 Misplaced Event)
     ∷ gives "worst 1\nspan 1\npadding 1\nstream 1 1\nstream 1 1\nstream 1 1\nstream 1 1\nstream 1 1\nstream 1 1\nstream 1 1\nstream 1 1\n" (Written 106)
     ∷ gives "worst 1\nspan 1\npadding 1\nstream 1 1\nstream 1 1\nstream 1 1\nstream 1 1\nstream 1 1\nstream 1 1\nstream 1 1\nstream 1 1\nstream 1 1\n" (Wrong 12 NinthStream Event)
-    ∷ gives "worst 1\nspan 1\npadding 1\narrival 255 18446744073709551615\n" (Written 58)
+    ∷ gives "worst 1\nspan 1\npadding 1\narrival 255 18446744073709551615\n" (Streamless 58 4)
     ∷ gives "worst 1\nspan 1\npadding 1\narrival 256 1\n" (Wrong 4 (TooLarge 8) StreamOrEvent)
     ∷ gives "worst 1\nspan 1\npadding 1\narrival 1 18446744073709551616\n" (Wrong 4 (TooLarge 64) StreamOrEvent)
     ∷ gives "worst 1\nspan 1\npadding 1\nown 1 0 0\n" (Wrong 4 (Numbers 2) StreamOrEvent)
-    ∷ gives "worst\t1\nspan 1\t\n\tpadding \t 1\n\t\n" (Written 42)
-    ∷ gives "worst 1\r\nspan 1 \r\npadding 1# the default\r\n\r\nturn\r" (Written 58)
+    ∷ gives "worst\t1\nspan 1\t\n\tpadding \t 1\n\t\n" (Streamless 42 0)
+    ∷ gives "worst 1\r\nspan 1 \r\npadding 1# the default\r\n\r\nturn\r" (Streamless 58 5)
     ∷ gives "worst 1\nspan 1\npadding 1\nturn\rturn\n" (Wrong 4 Return StreamOrEvent)
     ∷ gives "worst 1\nspan 1\npadding 1\nturn \r # sent\n" (Wrong 4 Return StreamOrEvent)
     ∷ gives "worst 1\nspan 1\npadding 1\nturn\r\r\n" (Wrong 4 Return StreamOrEvent)
@@ -43,6 +43,7 @@ cases =
     ∷ gives "worst 1\nspan 1\npadding 1\nstream 4294967296 x\n" (Wrong 4 (TooLarge 32) StreamOrEvent)
     ∷ gives "worst 1\nspan 1\npadding 1\nturn x\n" (Wrong 4 (Numbers 0) StreamOrEvent)
     ∷ gives "worst 1\nspan\n" (Wrong 2 (Numbers 1) Span)
-    ∷ gives "worst 1\nspan 1\npadding 1\nturn\nturn\n" (Written 74)
+    ∷ gives "worst 1\nspan 1\npadding 1\nturn\nturn\n" (Streamless 74 4)
+    ∷ gives "worst 1\nspan 1\npadding 1\nstream 1 1\n\nturn\nturn\n" (Written 82)
     ∷ gives "worst 1\nspan 1\npadding 1\nturn\nturn\nturn\n" (Refused 17)
     ∷ []

@@ -2,9 +2,11 @@
 use mathlib.Core.Bool.{true, false}
 use mathlib.Core.Path.{_≡_}
 use mathlib.Core.List.{List, [], _∷_, _++_, map}
-use Prim.Native.Nat.{ℕ, _*_, _^_, _≤_, _<_}
+use Prim.Native.Nat.{ℕ, _+_, _*_, _^_, _≤_, _<_}
 use Prim.Native.Char.{code}
+use lib.Dec.{eqb}
 use lib.ListN.{length, drop, replicate}
+use Rattle.table.specs.Fold.{if}
 use Rattle.table.specs.declared.Table.{Table}
 use Rattle.cells.specs.Cells.{Bytes}
 use Rattle.file.specs.Reading.{eventsIn, tableIn, traceIn, isLaidOut}
@@ -14,7 +16,8 @@ use Rattle.file.specs.Listing.{listing-file}
 use Rattle.listing.specs.Line.{space, newline, ascii, rendered}
 use Rattle.listing.specs.Laws.{Each}
 use Rattle.notes.specs.declared.Notes.{Notes}
-use Rattle.notes.specs.declared.Composed.the-variants.{Written}
+use Rattle.notes.specs.declared.Composed.{Composed}
+use Rattle.notes.specs.declared.Composed.the-variants.{Written, Streamless}
 use Rattle.notes.specs.declared.line.Line.{Line}
 use Rattle.notes.specs.declared.draft.Draft.{Draft}
 use Rattle.notes.specs.declared.line.Line.the-variants.{Blank, Worst, Span, Padding, Stream, Call, Wrong}
@@ -22,7 +25,7 @@ use Rattle.notes.specs.declared.draft.Place.the-variants.{Returned}
 use Rattle.notes.specs.Draft.{blank, tab, carriage-return, withByte}
 use Rattle.notes.specs.Line.{heldAfter, lineOf, lineShown, notesOf}
 use Rattle.notes.specs.Words.{wordsOf, lineOfWords}
-use Rattle.notes.specs.Notes.{noted, started, after, expectedBy, Read, read, lineRefusal, refusedBy, traceAfter, bytesRead, ended, Filed, filed, filedBy}
+use Rattle.notes.specs.Notes.{noted, started, after, expectedBy, Read, read, lineRefusal, refusedBy, traceAfter, bytesRead, ended, Filed, filed, writtenBy, filedBy}
 use Rattle.notes.specs.Cases.{Case, cases}
 
 -- a line whose numbers have room in their fields
@@ -38,8 +41,8 @@ Fits Wrong = ⊥
 -- A line that is shown is read as that line, wherever it may stand; where the trace refuses its event, the notes have heard of it.
 abbrev pub LineReadsBack : Type 0
 LineReadsBack =
-    (line numbers : ℕ) (table : Table) (events : ℕ) (trace : List ℕ) (l : Line) → Fits l
-    → let n = noted line numbers table events in
+    (line numbers : ℕ) (table : Table) (events began : ℕ) (trace : List ℕ) (l : Line) → Fits l
+    → let n = noted line numbers table events began in
     after n l .wrong ≡ false → bytesRead (read n trace) (rendered (lineShown l)) ≡ read (refusedBy (after n l) (lineRefusal trace events l)) (traceAfter trace events l)
 
 -- A line that is read byte by byte is the line of its words, whatever bytes they are.
@@ -53,8 +56,8 @@ LineByWords = (line : List ℕ) → lineOf (drawn blank line) ≡ lineOfWords (w
 -- So a line of notes is taken as what its words say, where that may stand; where it may not, the line is told with what was expected, and the trace stays.
 abbrev pub LineIsJudged : Type 0
 LineIsJudged =
-    (line numbers : ℕ) (table : Table) (events : ℕ) (trace bytes : List ℕ) → Each (λ byte. byte ≡ newline → ⊥) bytes
-    → let n = noted line numbers table events in
+    (line numbers : ℕ) (table : Table) (events began : ℕ) (trace bytes : List ℕ) → Each (λ byte. byte ≡ newline → ⊥) bytes
+    → let n = noted line numbers table events began in
     let l = lineOfWords (wordsOf bytes) in
     let r = bytesRead (read n trace) (bytes ++ (newline ∷ [])) in
     (after n l .wrong ≡ false → r ≡ read (refusedBy (after n l) (lineRefusal trace events l)) (traceAfter trace events l))
@@ -86,17 +89,27 @@ ReturnIsDropped =
     (r : Read) (more out : List ℕ) → (r .notes .draft .place ≡ Returned → ⊥)
     → composedOf (bytesRead r (carriage-return ∷ newline ∷ more)) out ≡ composedOf (bytesRead r (newline ∷ more)) out
 
+-- what composing says of a file of so many bytes, whose table has streams, or whose first event stands in line 4 of its notes, or which has none
+abbrev pub saidOf : Table → List ℕ → ℕ → Composed
+saidOf t trace len = writtenBy (t .count) (if (eqb (eventsIn trace) 0) 0 (t .count + 4)) len
+
 -- What is shown of a file is composed to that file, byte for byte, whatever stood in the buffers that are lent for the trace and the file, if they have the room.
 abbrev pub ShownComposes : Type 0
 ShownComposes =
     (file buffer out : List ℕ) → Bytes file → isLaidOut file ≡ true → eventsIn (traceIn file) ≤ eventsIn buffer → length file ≤ length out
     → composedOf (bytesRead (read started buffer) (notesOf (tableIn file) (traceIn file))) out
-    ≡ filed (Written (length file)) (file ++ drop (length file) out)
+    ≡ filed (saidOf (tableIn file) (traceIn file) (length file)) (file ++ drop (length file) out)
+
+-- What a message quotes is of the wrong line, whether it ended with a newline or with the notes.
+abbrev pub HeardStays : Type 0
+HeardStays = (n : Notes) (trace : List ℕ) → ended n trace .notes .wrong ≡ true → ended n trace .notes .heard ≡ n .heard
 
 -- Where no file is written, no byte of its buffer changes.
 abbrev pub NothingElseWritten : Type 0
 NothingElseWritten =
-    (n : Notes) (trace out : List ℕ) → ((len : ℕ) → filedBy n trace out .reply ≡ Written len → ⊥) → filedBy n trace out .out ≡ out
+    (n : Notes) (trace out : List ℕ)
+    → ((len : ℕ) → filedBy n trace out .reply ≡ Written len → ⊥) → ((len event : ℕ) → filedBy n trace out .reply ≡ Streamless len event → ⊥)
+    → filedBy n trace out .out ≡ out
 
 -- what composing makes of some notes, in buffers of zeros for so many events and a file of so many bytes
 abbrev pub composedIn : ℕ → ℕ → List ℕ → Filed

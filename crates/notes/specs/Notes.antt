@@ -14,7 +14,7 @@ use Rattle.file.specs.declared.Writing.{Writing}
 use Rattle.listing.specs.Line.{newline}
 use Rattle.notes.specs.declared.Notes.{Notes}
 use Rattle.notes.specs.declared.Composed.{Composed}
-use Rattle.notes.specs.declared.Composed.the-variants.{Written, Wrong, Unfinished, Refused}
+use Rattle.notes.specs.declared.Composed.the-variants.{Written, Streamless, Wrong, Unfinished, Refused}
 use Rattle.notes.specs.declared.Expected.{Expected}
 use Rattle.notes.specs.declared.Expected.the-variants.{Worst, Span, Padding, StreamOrEvent, Event, NoMore}
 use Rattle.notes.specs.declared.line.Line.{Line}
@@ -23,30 +23,30 @@ use Rattle.notes.specs.Line.{lineOf}
 use Rattle.notes.specs.Heard.{unheard, heardWith}
 use Rattle.notes.specs.Fault.{faultBy}
 
--- notes at the start of a line: its number, how many table numbers have been read, the table so far, and how many events, each of which is in the trace
-abbrev pub noted : ℕ → ℕ → Table → ℕ → Notes
-noted line numbers table events =
-    record { line = line; numbers = numbers; table = table; events = events; draft = blank; heard = unheard; refused = 0; wrong = false }
+-- notes at the start of a line: its number, how many table numbers have been read, the table so far, and how many events, each of which is in the trace, and the line of the first, or 0
+abbrev pub noted : ℕ → ℕ → Table → ℕ → ℕ → Notes
+noted line numbers table events began =
+    record { line = line; numbers = numbers; table = table; events = events; began = began; draft = blank; heard = unheard; refused = 0; wrong = false }
 
 abbrev pub no-table : Table
 no-table = record { worst = 0; span = 0; padding = 0; count = 0; reserved = replicate streams-max 0; period = replicate streams-max 0 }
 
 abbrev pub started : Notes
-started = noted 1 0 no-table 0
+started = noted 1 0 no-table 0 0
 
 -- the same notes, of which the line that is being read is wrong
 abbrev pub stopped : Notes → Notes
 stopped n =
-    record { line = n .line; numbers = n .numbers; table = n .table; events = n .events; draft = n .draft; heard = n .heard; refused = n .refused; wrong = true }
+    record { line = n .line; numbers = n .numbers; table = n .table; events = n .events; began = n .began; draft = n .draft; heard = n .heard; refused = n .refused; wrong = true }
 
 -- the number of the line after this one; a machine's number stays at its highest
 unfoldable pub nextLine : ℕ → ℕ
 nextLine line = if (ltb line (2 ^ 64 - 1)) (line + 1) line
 
--- the notes after a right line, which has given them this many table numbers, this table and this many events
-abbrev pub advanced : Notes → ℕ → Table → ℕ → Notes
-advanced n numbers table events =
-    record { line = nextLine (n .line); numbers = numbers; table = table; events = events; draft = blank; heard = unheard; refused = n .refused; wrong = false }
+-- the notes after a right line, which has given them this many table numbers, this table and this many events, of which the first stood there
+abbrev pub advanced : Notes → ℕ → Table → ℕ → ℕ → Notes
+advanced n numbers table events began =
+    record { line = nextLine (n .line); numbers = numbers; table = table; events = events; began = began; draft = blank; heard = unheard; refused = n .refused; wrong = false }
 
 -- a table with one number set, and with a stream more
 abbrev pub withWorst : Table → ℕ → Table
@@ -74,19 +74,23 @@ withStream t e p =
 
 -- worst, span and padding, in this order and once each; then up to eight streams, then up to 4,000 events: the notes after a line
 unfoldable pub afterNumber : Notes → ℕ → Table → Notes
-afterNumber n place table = if (eqb (n .numbers) place) (advanced n (place + 1) table (n .events)) (stopped n)
+afterNumber n place table = if (eqb (n .numbers) place) (advanced n (place + 1) table (n .events) (n .began)) (stopped n)
 
 unfoldable pub afterStream : Notes → ℕ → ℕ → Notes
 afterStream n e p =
     if (eqb (n .numbers) 3 && eqb (n .events) 0 && ltb (n .table .count) streams-max)
-    (advanced n 3 (withStream (n .table) e p) 0)
+    (advanced n 3 (withStream (n .table) e p) 0 (n .began))
     (stopped n)
 
+unfoldable pub beganBy : Notes → ℕ
+beganBy n = if (eqb (n .events) 0) (n .line) (n .began)
+
 unfoldable pub afterEvent : Notes → Notes
-afterEvent n = if (eqb (n .numbers) 3 && ltb (n .events) events-max) (advanced n 3 (n .table) (n .events + 1)) (stopped n)
+afterEvent n =
+    if (eqb (n .numbers) 3 && ltb (n .events) events-max) (advanced n 3 (n .table) (n .events + 1) (beganBy n)) (stopped n)
 
 abbrev pub after : Notes → Line → Notes
-after n Line.Blank = advanced n (n .numbers) (n .table) (n .events)
+after n Line.Blank = advanced n (n .numbers) (n .table) (n .events) (n .began)
 after n (Line.Worst x) = afterNumber n 0 (withWorst (n .table) x)
 after n (Line.Span x) = afterNumber n 1 (withSpan (n .table) x)
 after n (Line.Padding x) = afterNumber n 2 (withPadding (n .table) x)
@@ -136,7 +140,7 @@ lineRefusal trace i Line.Wrong = 0
 unfoldable pub refusedBy : Notes → ℕ → Notes
 refusedBy n number =
     if (eqb number 0) n
-    (record { line = n .line; numbers = n .numbers; table = n .table; events = n .events; draft = n .draft; heard = n .heard; refused = number; wrong = n .wrong })
+    (record { line = n .line; numbers = n .numbers; table = n .table; events = n .events; began = n .began; draft = n .draft; heard = n .heard; refused = number; wrong = n .wrong })
 
 -- a line has ended: a wrong one leaves the trace as it was
 unfoldable pub lineEnded : Notes → List ℕ → Read
@@ -153,6 +157,7 @@ lengthened n byte =
       numbers = n .numbers;
       table = n .table;
       events = n .events;
+      began = n .began;
       draft = withByte (n .draft) byte;
       heard = heardWith (n .heard) (n .draft) byte;
       refused = n .refused;
@@ -178,9 +183,13 @@ pub record Filed : Type 0 where
 abbrev pub filed : Composed → List ℕ → Filed
 filed reply out = record { reply = reply; out = out }
 
-abbrev pub told : Writing → Composed
-told (Writing.Written len) = Written len
-told (Writing.Refused number) = Refused number
+-- a file whose table has no stream is written, and told as such: opening refuses it by 1
+unfoldable pub writtenBy : ℕ → ℕ → ℕ → Composed
+writtenBy streams began len = if (eqb streams 0) (Streamless len began) (Written len)
+
+abbrev pub told : ℕ → ℕ → Writing → Composed
+told streams began (Writing.Written len) = writtenBy streams began len
+told streams began (Writing.Refused number) = Refused number
 
 -- the events at the start of a trace
 abbrev pub traceOfNotes : Notes → List ℕ → List ℕ
@@ -193,7 +202,7 @@ filedBy n trace out =
     (if (ltb (n .numbers) 3) (filed (Unfinished (expectedBy n)) out)
     (if (not (eqb (n .refused) 0)) (filed (Refused (n .refused)) out)
     (if (ltb (eventsIn trace) (n .events)) (filed (Refused 17) out)
-    (filed (told (writeOf (n .table) (traceOfNotes n trace) out)) (writtenOn (n .table) (traceOfNotes n trace) out)))))
+    (filed (told (n .table .count) (n .began) (writeOf (n .table) (traceOfNotes n trace) out)) (writtenOn (n .table) (traceOfNotes n trace) out)))))
 
 -- the end of the notes ends their last line
 abbrev pub ended : Notes → List ℕ → Read

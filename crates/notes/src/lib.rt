@@ -21,15 +21,16 @@ pub use line::shown;
 use table::Table;
 ghost use mathlib.Core.Path.{_≡_};
 ghost use Prim.Native.Nat.{_<_};
-ghost use Rattle.notes.specs.Notes.{started, stopped, nextLine, advanced, withWorst, withSpan, withPadding, afterNumber, afterStream, afterEvent, after, expectedBy, lengthened, told, read, lineRefusal, refusedBy, traceAfter, lineEnded, byteRead, bytesRead, filedBy, ended};
+ghost use Rattle.notes.specs.Notes.{started, stopped, nextLine, advanced, withWorst, withSpan, withPadding, afterNumber, afterStream, beganBy, afterEvent, after, expectedBy, lengthened, writtenBy, told, read, lineRefusal, refusedBy, traceAfter, lineEnded, byteRead, bytesRead, filedBy, ended};
 
 // What has been read of some notes: the number of the line that is being read, how many of the three table numbers there are, the table so far,
-// how many events there are, the line so far and what a message can quote of it, the number by which an event was refused its place in the trace, or 0, and whether the line is wrong. Then nothing more is read.
+// how many events there are and in which line the first stands, or 0, the line so far and what a message can quote of it, the number by which an event was refused its place in the trace, or 0, and whether the line is wrong. Then nothing more is read.
 pub struct Notes {
     pub line: u64,
     pub numbers: u64,
     pub table: Table,
     pub events: usize,
+    pub began: u64,
     pub draft: Draft,
     pub heard: Heard,
     pub refused: u64,
@@ -46,9 +47,13 @@ pub enum Expected {
     NoMore,
 }
 
-// What composing says: how long the file is, which line is wrong and what with it, that the notes end too early, or the refusal of the writer.
+// What composing says: how long the file is, that its table has no stream and in which line the first event stands, or 0, which line is wrong and what with it, that the notes end too early, or the refusal of the writer.
 pub enum Composed {
     Written(usize),
+    Streamless {
+        len: usize,
+        event: u64,
+    },
     Wrong {
         line: u64,
         fault: Fault,
@@ -143,6 +148,7 @@ impl Notes {
             numbers: 0,
             table,
             events: 0,
+            began: 0,
             draft: Draft::blank(),
             heard: Heard::none(),
             refused: 0,
@@ -166,10 +172,10 @@ impl Notes {
     }
 
     fn after_blank(self) -> Notes
-        ensures { λ r. ⌜ r ≡ advanced self (self .numbers) (self .table) (self .events) ⌝ }
+        ensures { λ r. ⌜ r ≡ advanced self (self .numbers) (self .table) (self .events) (self .began) ⌝ }
     {
         let table = self.table;
-        self.advanced(self.numbers, table, self.events)
+        self.advanced(self.numbers, table, self.events, self.began)
     }
 
     fn after_worst(self, n: u32) -> Notes
@@ -202,7 +208,7 @@ impl Notes {
         ensures { λ r. ⌜ r ≡ afterNumber self place table ⌝ }
     {
         if self.numbers == place {
-            return self.advanced(place + 1, table, self.events);
+            return self.advanced(place + 1, table, self.events, self.began);
         }
         self.stopped()
     }
@@ -225,7 +231,7 @@ impl Notes {
         table.reserved[count] = reserved;
         table.period[count] = period;
         table.count = count + 1;
-        self.advanced(Notes::TABLE_NUMBERS, table, 0)
+        self.advanced(Notes::TABLE_NUMBERS, table, 0, self.began)
     }
 
     // One event more, up to 4,000.
@@ -239,18 +245,30 @@ impl Notes {
             return self.stopped();
         }
         let table = self.table;
-        self.advanced(Notes::TABLE_NUMBERS, table, self.events + 1)
+        let began = self.began_by();
+        self.advanced(Notes::TABLE_NUMBERS, table, self.events + 1, began)
+    }
+
+    // The line of the first event, if this line has one.
+    fn began_by(self) -> u64
+        ensures { λ r. ⌜ r ≡ beganBy self ⌝ }
+    {
+        if self.events == 0 {
+            return self.line;
+        }
+        self.began
     }
 
     // The notes after a right line, with what it has given them.
-    fn advanced(self, numbers: u64, table: Table, events: usize) -> Notes
-        ensures { λ r. ⌜ r ≡ advanced self numbers table events ⌝ }
+    fn advanced(self, numbers: u64, table: Table, events: usize, began: u64) -> Notes
+        ensures { λ r. ⌜ r ≡ advanced self numbers table events began ⌝ }
     {
         Notes {
             line: next_line(self.line),
             numbers,
             table,
             events,
+            began,
             draft: Draft::blank(),
             heard: Heard::none(),
             refused: self.refused,
@@ -340,7 +358,11 @@ impl Notes {
         }
         let end = Event::SIZE * events;
         let table = self.table;
-        told(file::write(table, &trace[..end], out))
+        told(
+            table.count,
+            self.began,
+            file::write(table, &trace[..end], out),
+        )
     }
 }
 
@@ -353,11 +375,22 @@ fn next_line(line: u64) -> u64
     line
 }
 
-fn told(writing: Writing) -> Composed
-    ensures { λ r. ⌜ r ≡ told writing ⌝ }
+// What is said of a file that was written, or refused.
+fn told(streams: usize, began: u64, writing: Writing) -> Composed
+    ensures { λ r. ⌜ r ≡ told streams began writing ⌝ }
 {
     match writing {
-        Writing::Written(len) => Composed::Written(len),
+        Writing::Written(len) => written_by(streams, began, len),
         Writing::Refused(number) => Composed::Refused(number),
     }
+}
+
+// A file whose table has no stream is told as such.
+fn written_by(streams: usize, began: u64, len: usize) -> Composed
+    ensures { λ r. ⌜ r ≡ writtenBy streams began len ⌝ }
+{
+    if streams == 0 {
+        return Composed::Streamless { len, event: began };
+    }
+    Composed::Written(len)
 }

@@ -21,6 +21,9 @@ returns-2 : tie.Need-returns-2
 unfolding afterEvent if
 returns-2 c = rw (eq-eqb _ 3 (c .before .before .before .if1 .left), le-ltb _ events-max (c .before .if2 .taken)) (c .stopped2 .ensures)
 
+began-by-requires : tie.Need-began-by-requires
+began-by-requires c κs = tt
+
 add-advanced : tie.Need-add-advanced
 add-advanced c = search needs
 
@@ -29,7 +32,7 @@ advanced-requires c κs = tt
 
 returns-3 : tie.Need-returns-3
 unfolding afterEvent if
-returns-3 c = rw (eq-eqb _ 3 (c .before .before .before .before .before .if1 .left), lt-ltb _ events-max (c .before .before .before .if2 .left)) (c .advanced .ensures)
+returns-3 c = rw (eq-eqb _ 3 (c .before .before .before .before .before .before .if1 .left), lt-ltb _ events-max (c .before .before .before .before .if2 .left), ← c .before .before .began-by .ensures) (c .advanced .ensures)
 
 pub after-event-spec : {M : Type 1} → statement M
 after-event-spec =
@@ -39,6 +42,7 @@ after-event-spec =
     returns
     stopped-requires-2
     returns-2
+    began-by-requires
     add-advanced
     advanced-requires
     returns-3)

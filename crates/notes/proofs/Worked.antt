@@ -11,7 +11,7 @@ use Rattle.notes.specs.Draft.{lettered, lengthens, firstLonger, secondLo
 use Rattle.notes.specs.Line.{heldAfter, wordLine, tableLine, numberLine, streamLine, pairLine, fieldsLine}
 use Rattle.notes.specs.Numbers.{isKnown, takes, fits, roomAt}
 use Rattle.notes.specs.Heard.{fieldWith, isMarked, heardIn, heardWith}
-use Rattle.notes.specs.Fault.{streamFault, eventFault, numberFault, faultBy}
+use Rattle.notes.specs.Fault.{streamFault, eventFault, numberFault, faultOf}
 use Rattle.notes.specs.Notes.{nextLine, afterNumber, afterStream, beganBy, afterEvent, expectedBy, refusedBy, lineEnded, byteRead, bytesRead, writtenBy, filedBy}
 use Rattle.notes.specs.Laws.{ListingComposes, CasesHold}
 use Rattle.notes.specs.Cases.{cases}
@@ -21,5 +21,5 @@ unfolding if allTo given _or-next_ cell numberAt entry contents streamCells tabl
 listing-composes = refl
 
 pub cases-hold : CasesHold
-unfolding if allTo given _or-next_ cell numberAt entry contents streamCells tableBody eventCells bytesOf fileOf eventOf eventFrom eventAt isTrace isWritable writeRefusal writeOf writtenOn isStorable putRefusal withEvent ascii lettered lengthens firstLonger secondLonger inField begun afterGap afterField heldAfter wordLine tableLine numberLine streamLine pairLine fieldsLine nextLine afterNumber afterStream beganBy afterEvent expectedBy refusedBy lineEnded byteRead bytesRead writtenBy filedBy isKnown takes fits roomAt fieldWith isMarked heardIn heardWith streamFault eventFault numberFault faultBy cases
+unfolding if allTo given _or-next_ cell numberAt entry contents streamCells tableBody eventCells bytesOf fileOf eventOf eventFrom eventAt isTrace isWritable writeRefusal writeOf writtenOn isStorable putRefusal withEvent ascii lettered lengthens firstLonger secondLonger inField begun afterGap afterField heldAfter wordLine tableLine numberLine streamLine pairLine fieldsLine nextLine afterNumber afterStream beganBy afterEvent expectedBy refusedBy lineEnded byteRead bytesRead writtenBy filedBy isKnown takes fits roomAt fieldWith isMarked heardIn heardWith streamFault eventFault numberFault faultOf cases
 cases-hold = refl

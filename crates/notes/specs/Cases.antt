@@ -1,17 +1,23 @@
 -- Notes on either side of each line of docs/NOTES.md, and what composing answers. The statement that covers the list is `CasesHold` of `Laws`.
 use mathlib.Core.List.{List, [], _∷_}
+use Prim.Native.Nat.{ℕ}
 use Prim.Native.String.{String}
+use Rattle.listing.specs.Line.{ascii}
 use Rattle.notes.specs.declared.Composed.{Composed}
 use Rattle.notes.specs.declared.fault.Fault.the-variants.{Return, Mark, Word, Numbers, NoNumber, TooLarge, Misplaced, NinthStream}
 use Rattle.notes.specs.declared.Composed.the-variants.{Written, Streamless, Wrong, Unfinished, Refused}
 use Rattle.notes.specs.declared.Expected.the-variants.{Worst, Span, Padding, StreamOrEvent, Event}
 
 pub record Case : Type 0 where
-  pub notes : String
+  pub notes : List ℕ
   pub answer : Composed
 
 abbrev pub gives : String → Composed → Case
-gives notes answer = record { notes = notes; answer = answer }
+gives notes answer = record { notes = ascii notes; answer = answer }
+
+-- the same behind a byte order mark
+abbrev pub marked : String → Composed → Case
+marked notes answer = record { notes = 239 ∷ 187 ∷ 191 ∷ ascii notes; answer = answer }
 
 unfoldable pub cases : List Case
 cases =
@@ -28,20 +34,22 @@ cases =
     ∷ gives "worst 1\nspan 1\npadding 1\nstream 1 1\nstream 1 1\nstream 1 1\nstream 1 1\nstream 1 1\nstream 1 1\nstream 1 1\nstream 1 1\n" (Written 106)
     ∷ gives "worst 1\nspan 1\npadding 1\nstream 1 1\nstream 1 1\nstream 1 1\nstream 1 1\nstream 1 1\nstream 1 1\nstream 1 1\nstream 1 1\nstream 1 1\n" (Wrong 12 NinthStream Event)
     ∷ gives "worst 1\nspan 1\npadding 1\narrival 255 18446744073709551615\n" (Streamless 58 4)
-    ∷ gives "worst 1\nspan 1\npadding 1\narrival 256 1\n" (Wrong 4 (TooLarge 8) StreamOrEvent)
-    ∷ gives "worst 1\nspan 1\npadding 1\narrival 1 18446744073709551616\n" (Wrong 4 (TooLarge 64) StreamOrEvent)
-    ∷ gives "worst 1\nspan 1\npadding 1\nown 1 0 0\n" (Wrong 4 (Numbers 2) StreamOrEvent)
+    ∷ gives "arrival 256 1\n" (Wrong 1 (TooLarge 8) Worst)
+    ∷ gives "arrival 1 18446744073709551616\n" (Wrong 1 (TooLarge 64) Worst)
+    ∷ gives "own 1 0 0\n" (Wrong 1 (Numbers 2) Worst)
     ∷ gives "worst\t1\nspan 1\t\n\tpadding \t 1\n\t\n" (Streamless 42 0)
     ∷ gives "worst 1\r\nspan 1 \r\npadding 1# the default\r\n\r\nturn\r" (Streamless 58 5)
-    ∷ gives "worst 1\nspan 1\npadding 1\nturn\rturn\n" (Wrong 4 Return StreamOrEvent)
-    ∷ gives "worst 1\nspan 1\npadding 1\nturn \r # sent\n" (Wrong 4 Return StreamOrEvent)
-    ∷ gives "worst 1\nspan 1\npadding 1\nturn\r\r\n" (Wrong 4 Return StreamOrEvent)
+    ∷ gives "turn\rturn\n" (Wrong 1 Return Worst)
+    ∷ gives "turn \r # sent\n" (Wrong 1 Return Worst)
+    ∷ gives "turn\r\r\n" (Wrong 1 Return Worst)
+    ∷ marked "worst 1\n" (Wrong 1 Mark Worst)
+    ∷ marked "# two streams\nworst 1\n" (Wrong 1 Mark Worst)
     ∷ gives "worst 1\nspan 1\npadding 1\nturn\nTurn\n" (Wrong 5 Word Event)
-    ∷ gives "worst 1\nspan 1\npadding 1\nstrem 1,5 1\n" (Wrong 4 Word StreamOrEvent)
-    ∷ gives "worst 1\nspan 1\npadding 1\nclockwise 1\n" (Wrong 4 Word StreamOrEvent)
-    ∷ gives "worst 1\nspan 1\npadding 1\ndone 5,000\n" (Wrong 4 NoNumber StreamOrEvent)
-    ∷ gives "worst 1\nspan 1\npadding 1\nstream 4294967296 x\n" (Wrong 4 (TooLarge 32) StreamOrEvent)
-    ∷ gives "worst 1\nspan 1\npadding 1\nturn x\n" (Wrong 4 (Numbers 0) StreamOrEvent)
+    ∷ gives "strem 1,5 1\n" (Wrong 1 Word Worst)
+    ∷ gives "clockwise 1\n" (Wrong 1 Word Worst)
+    ∷ gives "done 5,000\n" (Wrong 1 NoNumber Worst)
+    ∷ gives "stream 4294967296 x\n" (Wrong 1 (TooLarge 32) Worst)
+    ∷ gives "turn x\n" (Wrong 1 (Numbers 0) Worst)
     ∷ gives "worst 1\nspan\n" (Wrong 2 (Numbers 1) Span)
     ∷ gives "worst 1\nspan 1\npadding 1\nturn\nturn\n" (Streamless 74 4)
     ∷ gives "worst 1\nspan 1\npadding 1\nstream 1 1\n\nturn\nturn\n" (Written 82)

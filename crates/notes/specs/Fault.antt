@@ -8,6 +8,8 @@ use Rattle.notes.specs.declared.fault.Fault.{Fault}
 use Rattle.notes.specs.declared.fault.Fault.the-variants.{Return, Mark, Word, Numbers, NoNumber, TooLarge, Misplaced, NinthStream, LateEvent}
 use Rattle.notes.specs.declared.draft.Place.{Place}
 use Rattle.notes.specs.declared.draft.Place.the-variants.{Between, Within, Comment, Returned, Stray, Amiss}
+use Rattle.notes.specs.declared.draft.Draft.{Draft}
+use Rattle.notes.specs.declared.heard.Heard.{Heard}
 use Rattle.notes.specs.declared.line.Line.{Line}
 use Rattle.notes.specs.Line.{lineOf}
 use Rattle.notes.specs.Numbers.{isKnown, takes, fits, roomAt}
@@ -46,18 +48,21 @@ rightFault numbers events (Line.Call event) = eventFault numbers
 rightFault numbers events Line.Wrong = Misplaced
 
 -- behind a word of notes: no number, one too large, or too few
-unfoldable pub numberFault : Notes → Fault
-numberFault n =
-    if (isAmiss (n .draft .place) && not (n .heard .number .digits)) NoNumber
-    (if (isAmiss (n .draft .place) || not (fits (n .draft))) (TooLarge (roomAt (n .draft)))
-    (if (ltb (n .draft .fields) (takes (n .draft .word) + 1)) (Numbers (takes (n .draft .word)))
-    (rightFault (n .numbers) (n .events) (lineOf (n .draft)))))
+unfoldable pub numberFault : Draft → Bool → ℕ → ℕ → Fault
+numberFault d digits numbers events =
+    if (isAmiss (d .place) && not digits) NoNumber
+    (if (isAmiss (d .place) || not (fits d)) (TooLarge (roomAt d))
+    (if (ltb (d .fields) (takes (d .word) + 1)) (Numbers (takes (d .word)))
+    (rightFault numbers events (lineOf d))))
 
 -- a carriage return within the line, a byte order mark, no word of notes, more numbers than it takes
-unfoldable pub faultBy : Notes → Fault
-faultBy n =
-    if (isStray (n .draft .place)) Return
-    (if (isMarked (n .heard .word)) Mark
-    (if (not (isKnown (n .draft .word)) || (isAmiss (n .draft .place) && eqb (n .draft .fields) 1)) Word
-    (if (ltb (takes (n .draft .word) + 1) (n .draft .fields)) (Numbers (takes (n .draft .word)))
-    (numberFault n))))
+unfoldable pub faultOf : Draft → Heard → ℕ → ℕ → Fault
+faultOf d h numbers events =
+    if (isStray (d .place)) Return
+    (if (isMarked (h .word)) Mark
+    (if (not (isKnown (d .word)) || (isAmiss (d .place) && eqb (d .fields) 1)) Word
+    (if (ltb (takes (d .word) + 1) (d .fields)) (Numbers (takes (d .word)))
+    (numberFault d (h .number .digits) numbers events))))
+
+abbrev pub faultBy : Notes → Fault
+faultBy n = faultOf (n .draft) (n .heard) (n .numbers) (n .events)

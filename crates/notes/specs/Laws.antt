@@ -125,4 +125,4 @@ ListingComposes = composedIn 11 234 hand-written ≡ filed (Written 234) listing
 
 -- Each case of `Cases` comes out as it stands there.
 abbrev pub CasesHold : Type 0
-CasesHold = map (λ (k : Case). composedIn 2 106 (ascii (k .notes)) .reply) cases ≡ map (λ (k : Case). k .answer) cases
+CasesHold = map (λ (k : Case). composedIn 2 106 (k .notes) .reply) cases ≡ map (λ (k : Case). k .answer) cases

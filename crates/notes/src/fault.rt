@@ -1,6 +1,8 @@
 // What is wrong with a line.
 use crate::Notes;
+use crate::draft::Draft;
 use crate::draft::Place;
+use crate::heard::Heard;
 use crate::line::Line;
 use crate::line::line_of;
 use crate::numbers::fits;
@@ -8,7 +10,7 @@ use crate::numbers::is_known;
 use crate::numbers::room_at;
 use crate::numbers::takes;
 ghost use mathlib.Core.Path.{_≡_};
-ghost use Rattle.notes.specs.Fault.{isStray, isAmiss, streamFault, eventFault, rightFault, numberFault, faultBy};
+ghost use Rattle.notes.specs.Fault.{isStray, isAmiss, streamFault, eventFault, rightFault, numberFault, faultOf};
 
 // A carriage return within the line; a byte order mark; no word of notes; more or fewer numbers than the word takes; no number;
 // a number for which so many bits have no room; a line that stands where it may not; a ninth stream; an event after 4,000.
@@ -25,12 +27,10 @@ pub enum Fault {
     LateEvent,
 }
 
-// What is wrong with the line that is being read, from its start on.
-pub(crate) fn fault_of(notes: Notes) -> Fault
-    ensures { λ r. ⌜ r ≡ faultBy notes ⌝ }
+// What is wrong with a line, from its start on, after so many numbers of the table and so many events.
+pub(crate) fn fault_of(draft: Draft, heard: Heard, numbers: u64, events: usize) -> Fault
+    ensures { λ r. ⌜ r ≡ faultOf draft heard numbers events ⌝ }
 {
-    let draft = notes.draft;
-    let heard = notes.heard;
     let word = heard.word;
     let place = draft.place;
     if is_stray(place) {
@@ -47,17 +47,16 @@ pub(crate) fn fault_of(notes: Notes) -> Fault
     if takes + 1 < draft.fields {
         return Fault::Numbers(takes);
     }
-    number_fault(notes)
+    number_fault(draft, heard.number.digits, numbers, events)
 }
 
-// What is wrong behind a word of notes.
-fn number_fault(notes: Notes) -> Fault
-    ensures { λ r. ⌜ r ≡ numberFault notes ⌝ }
+// What is wrong behind a word of notes; whether the number that was heard has digits only.
+fn number_fault(draft: Draft, digits: bool, numbers: u64, events: usize) -> Fault
+    ensures { λ r. ⌜ r ≡ numberFault draft digits numbers events ⌝ }
 {
-    let draft = notes.draft;
     let place = draft.place;
     let spoilt = is_amiss(place);
-    if spoilt & !notes.heard.number.digits {
+    if spoilt & !digits {
         return Fault::NoNumber;
     }
     if spoilt | !fits(draft) {
@@ -67,10 +66,10 @@ fn number_fault(notes: Notes) -> Fault
     if draft.fields < takes + 1 {
         return Fault::Numbers(takes);
     }
-    right_fault(notes.numbers, notes.events, line_of(draft))
+    right_fault(numbers, events, line_of(draft))
 }
 
-// What is wrong with a line that is right by itself, after so many numbers of the table and so many events.
+// What is wrong with a line that is right by itself.
 fn right_fault(numbers: u64, events: usize, line: Line) -> Fault
     ensures { λ r. ⌜ r ≡ rightFault numbers events line ⌝ }
 {

@@ -337,7 +337,9 @@ impl Notes {
         ensures { λ _. ⌜ now (out .exit) ≡ filedBy self (now (trace .entry)) (now (out .entry)) .out ⌝ }
     {
         if self.wrong {
-            let fault = fault_of(self);
+            let draft = self.draft;
+            let heard = self.heard;
+            let fault = fault_of(draft, heard, self.numbers, self.events);
             let expected = self.expected();
             return Composed::Wrong {
                 line: self.line,

@@ -14,7 +14,7 @@ expected-requires : tie.Need-expected-requires
 expected-requires c κs = tt
 
 returns : tie.Need-returns
-returns c = rw (filed-wrong (c .before .before .before .before .before .args .self) (c .before .before .before .before .before .args .trace .now) (c .before .before .before .before .before .args .out .now) (c .before .before .if1 .taken), c .before .fault-of .ensures, c .expected .ensures) (refl, refl)
+returns c = rw (filed-wrong (c .before .before .before .before .before .before .before .args .self) (c .before .before .before .before .before .before .before .args .trace .now) (c .before .before .before .before .before .before .before .args .out .now) (c .before .before .before .before .if1 .taken), c .before .fault-of .ensures, c .expected .ensures) (refl, refl)
 
 expected-requires-2 : tie.Need-expected-requires-2
 expected-requires-2 c κs = tt

@@ -5,7 +5,7 @@ use native.Mathlib.Omega.{arith}
 use mathlib.Core.Path.{sym, _∙_}
 use Rattle.table.specs.Fold.{if}
 use Rattle.notes.specs.Numbers.{takes}
-use Rattle.notes.specs.Fault.{faultBy}
+use Rattle.notes.specs.Fault.{faultOf}
 use Rattle.notes.proofs.Faults.{takes-few}
 use Rattle.notes.proofs.fault.fault_of.Statement.{statement}
 use Rattle.notes.proofs.fault.fault_of.Tie as tie
@@ -14,14 +14,14 @@ is-stray-requires : tie.Need-is-stray-requires
 is-stray-requires c κs = tt
 
 returns : tie.Need-returns
-unfolding faultBy if
+unfolding faultOf if
 returns c = rw (sym (c .before .is-stray .ensures) ∙ c .if1 .taken)
 
 is-marked-requires : tie.Need-is-marked-requires
 is-marked-requires c κs = tt
 
 returns-2 : tie.Need-returns-2
-unfolding faultBy if
+unfolding faultOf if
 returns-2 c = rw (sym (c .before .before .before .is-stray .ensures) ∙ c .before .before .if1 .left, sym (c .before .is-marked .ensures) ∙ c .if2 .taken)
 
 is-known-requires : tie.Need-is-known-requires
@@ -31,25 +31,25 @@ is-amiss-requires : tie.Need-is-amiss-requires
 is-amiss-requires c κs = tt
 
 returns-3 : tie.Need-returns-3
-unfolding faultBy if
+unfolding faultOf if
 returns-3 c = rw (sym (c .before .before .before .before .before .before .before .is-stray .ensures) ∙ c .before .before .before .before .before .before .if1 .left, sym (c .before .before .before .before .before .is-marked .ensures) ∙ c .before .before .before .before .if2 .left, rw (c .before .before .before .is-known .ensures, c .before .before .is-amiss .ensures) at (c .if3 .taken))
 
 takes-requires : tie.Need-takes-requires
 takes-requires c κs = tt
 
 add-if4 : tie.Need-add-if4
-add-if4 c = omega (arith, c .takes .ensures, takes-few (c .before .before .before .before .before .before .before .before .before .before .before .before .args .notes .draft .word))
+add-if4 c = omega (arith, c .takes .ensures, takes-few (c .before .before .before .before .before .before .before .before .before .before .args .draft .word))
 
 returns-4 : tie.Need-returns-4
-unfolding faultBy if
-returns-4 c = rw (sym (c .before .before .before .before .before .before .before .before .before .before .is-stray .ensures) ∙ c .before .before .before .before .before .before .before .before .before .if1 .left, sym (c .before .before .before .before .before .before .before .before .is-marked .ensures) ∙ c .before .before .before .before .before .before .before .if2 .left, rw (c .before .before .before .before .before .before .is-known .ensures, c .before .before .before .before .before .is-amiss .ensures) at (c .before .before .before .if3 .left), lt-ltb (takes (c .before .before .before .before .before .before .before .before .before .before .before .before .before .before .args .notes .draft .word) + 1) _ (rw (c .before .before .takes .ensures) at (c .if4 .taken)), c .before .before .takes .ensures)
+unfolding faultOf if
+returns-4 c = rw (sym (c .before .before .before .before .before .before .before .before .before .before .is-stray .ensures) ∙ c .before .before .before .before .before .before .before .before .before .if1 .left, sym (c .before .before .before .before .before .before .before .before .is-marked .ensures) ∙ c .before .before .before .before .before .before .before .if2 .left, rw (c .before .before .before .before .before .before .is-known .ensures, c .before .before .before .before .before .is-amiss .ensures) at (c .before .before .before .if3 .left), lt-ltb (takes (c .before .before .before .before .before .before .before .before .before .before .before .before .args .draft .word) + 1) _ (rw (c .before .before .takes .ensures) at (c .if4 .taken)), c .before .before .takes .ensures)
 
 number-fault-requires : tie.Need-number-fault-requires
 number-fault-requires c κs = tt
 
 returns-5 : tie.Need-returns-5
-unfolding faultBy if
-returns-5 c = rw (sym (c .before .before .before .before .before .before .before .before .before .before .before .is-stray .ensures) ∙ c .before .before .before .before .before .before .before .before .before .before .if1 .left, sym (c .before .before .before .before .before .before .before .before .before .is-marked .ensures) ∙ c .before .before .before .before .before .before .before .before .if2 .left, rw (c .before .before .before .before .before .before .before .is-known .ensures, c .before .before .before .before .before .before .is-amiss .ensures) at (c .before .before .before .before .if3 .left), le-ltb (takes (c .before .before .before .before .before .before .before .before .before .before .before .before .before .before .before .args .notes .draft .word) + 1) _ (rw (c .before .before .before .takes .ensures) at (c .before .if4 .left))) (c .number-fault .ensures)
+unfolding faultOf if
+returns-5 c = rw (sym (c .before .before .before .before .before .before .before .before .before .before .before .is-stray .ensures) ∙ c .before .before .before .before .before .before .before .before .before .before .if1 .left, sym (c .before .before .before .before .before .before .before .before .before .is-marked .ensures) ∙ c .before .before .before .before .before .before .before .before .if2 .left, rw (c .before .before .before .before .before .before .before .is-known .ensures, c .before .before .before .before .before .before .is-amiss .ensures) at (c .before .before .before .before .if3 .left), le-ltb (takes (c .before .before .before .before .before .before .before .before .before .before .before .before .before .args .draft .word) + 1) _ (rw (c .before .before .before .takes .ensures) at (c .before .if4 .left))) (c .number-fault .ensures)
 
 pub fault-of-spec : {M : Type 1} → statement M
 fault-of-spec = tie.close (tie.spec is-stray-requires returns is-marked-requires returns-2 is-known-requires is-amiss-requires returns-3 takes-requires add-if4 returns-4 number-fault-requires returns-5)

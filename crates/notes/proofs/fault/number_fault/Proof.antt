@@ -15,7 +15,7 @@ is-amiss-requires c κs = tt
 
 returns : tie.Need-returns
 unfolding numberFault if
-returns c = rw (rw (c .before .before .is-amiss .ensures) at (c .if1 .taken))
+returns c = rw (rw (c .before .is-amiss .ensures) at (c .if1 .taken))
 
 fits-requires : tie.Need-fits-requires
 fits-requires c κs = tt
@@ -25,17 +25,17 @@ room-at-requires c κs = tt
 
 returns-2 : tie.Need-returns-2
 unfolding numberFault if
-returns-2 c = rw (rw (c .before .before .before .before .before .is-amiss .ensures) at (c .before .before .before .if1 .left), rw (c .before .before .fits2 .ensures, c .before .before .before .before .before .is-amiss .ensures) at (c .before .if2 .taken), c .room-at .ensures)
+returns-2 c = rw (rw (c .before .before .before .before .is-amiss .ensures) at (c .before .before .before .if1 .left), rw (c .before .before .fits2 .ensures, c .before .before .before .before .is-amiss .ensures) at (c .before .if2 .taken), c .room-at .ensures)
 
 takes-requires : tie.Need-takes-requires
 takes-requires c κs = tt
 
 add-if3 : tie.Need-add-if3
-add-if3 c = omega (arith, c .takes .ensures, takes-few (c .before .before .before .before .before .before .before .args .notes .draft .word))
+add-if3 c = omega (arith, c .takes .ensures, takes-few (c .before .before .before .before .before .args .draft .word))
 
 returns-3 : tie.Need-returns-3
 unfolding numberFault if
-returns-3 c = rw (rw (c .before .before .before .before .before .before .before .is-amiss .ensures) at (c .before .before .before .before .before .if1 .left), rw (c .before .before .before .before .fits2 .ensures, c .before .before .before .before .before .before .before .is-amiss .ensures) at (c .before .before .before .if2 .left), lt-ltb _ (takes (c .before .before .before .before .before .before .before .before .before .args .notes .draft .word) + 1) (rw (c .before .before .takes .ensures) at (c .if3 .taken)), c .before .before .takes .ensures)
+returns-3 c = rw (rw (c .before .before .before .before .before .before .is-amiss .ensures) at (c .before .before .before .before .before .if1 .left), rw (c .before .before .before .before .fits2 .ensures, c .before .before .before .before .before .before .is-amiss .ensures) at (c .before .before .before .if2 .left), lt-ltb _ (takes (c .before .before .before .before .before .before .before .args .draft .word) + 1) (rw (c .before .before .takes .ensures) at (c .if3 .taken)), c .before .before .takes .ensures)
 
 line-of-requires : tie.Need-line-of-requires
 line-of-requires c κs = tt
@@ -45,7 +45,7 @@ right-fault-requires c κs = tt
 
 returns-4 : tie.Need-returns-4
 unfolding numberFault if
-returns-4 c = rw (rw (c .before .before .before .before .before .before .before .before .before .is-amiss .ensures) at (c .before .before .before .before .before .before .before .if1 .left), rw (c .before .before .before .before .before .before .fits2 .ensures, c .before .before .before .before .before .before .before .before .before .is-amiss .ensures) at (c .before .before .before .before .before .if2 .left), le-ltb _ (takes (c .before .before .before .before .before .before .before .before .before .before .before .args .notes .draft .word) + 1) (rw (c .before .before .before .before .takes .ensures) at (c .before .before .if3 .left))) (c .right-fault .ensures ∙ ap (rightFault (c .before .before .before .before .before .before .before .before .before .before .before .args .notes .numbers) (c .before .before .before .before .before .before .before .before .before .before .before .args .notes .events)) (c .before .line-of .ensures))
+returns-4 c = rw (rw (c .before .before .before .before .before .before .before .before .is-amiss .ensures) at (c .before .before .before .before .before .before .before .if1 .left), rw (c .before .before .before .before .before .before .fits2 .ensures, c .before .before .before .before .before .before .before .before .is-amiss .ensures) at (c .before .before .before .before .before .if2 .left), le-ltb _ (takes (c .before .before .before .before .before .before .before .before .before .args .draft .word) + 1) (rw (c .before .before .before .before .takes .ensures) at (c .before .before .if3 .left))) (c .right-fault .ensures ∙ ap (rightFault (c .before .before .before .before .before .before .before .before .before .args .numbers) (c .before .before .before .before .before .before .before .before .before .args .events)) (c .before .line-of .ensures))
 
 pub number-fault-spec : {M : Type 1} → statement M
 number-fault-spec = tie.close (tie.spec is-amiss-requires returns fits-requires room-at-requires returns-2 takes-requires add-if3 returns-3 line-of-requires right-fault-requires returns-4)

@@ -14,7 +14,7 @@ use Rattle.table.specs.declared.Table.{Table}
 use Rattle.stream.specs.Stream.{arrived, without, charged, lapsed, closed, moved}
 use Rattle.session.specs.Session.{noStream, streamAt, horizon}
 use Rattle.session.specs.Calls.{Verdict, refuse, append, send, move, wait, expire, finish, set-clock, apply, replyTo}
-use Rattle.session.specs.Promise.{Moment, closes, closings, dueOf, sinceClosing, durationOf, reported, expiry, chargeOf}
+use Rattle.session.specs.History.{Moment, closes, closings, dueOf, sinceClosing, durationOf, reported, expiry, chargeOf}
 use Rattle.stream.specs.declared.Stream.{Stream}
 use Rattle.session.specs.declared.Session.{Session}
 use Rattle.calls.specs.declared.Call.{Call}

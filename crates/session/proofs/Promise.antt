@@ -17,7 +17,8 @@ use Rattle.stream.specs.Stream.{filled, closed, moved, freshStream}
 use Rattle.session.specs.Session.{streamAt, horizon, slotsAt, filledAt, someFilled, noSlot}
 use Rattle.session.specs.Calls.{Verdict, refuse, append, send, move, wait, expire, finish, set-clock, verdict, apply, overlong, replyTo, outcome, answerTo, after}
 use Rattle.session.specs.Opening.{freshSession, openingOf}
-use Rattle.session.specs.Promise.{Moment, historyFrom, historyOf, inBounds, withinBounds, replied, closes, closings, dueOf, sinceClosing, durationOf, reported, completion, expires, expiry, chargeOf, budgetOf, ClosedTruly, ClosedOnTime, Always, OnTime, Promise}
+use Rattle.session.specs.History.{Moment, historyFrom, historyOf, inBounds, withinBounds, replied, closes, closings, dueOf, sinceClosing, durationOf, reported, expires, expiry, chargeOf}
+use Rattle.session.specs.Promise.{completion, budgetOf, ClosedTruly, ClosedOnTime, Always, OnTime, Promise}
 use Rattle.time.specs.declared.Clock.{Clock}
 use Rattle.stream.specs.declared.Stream.{Stream}
 use Rattle.session.specs.declared.Session.{Session}

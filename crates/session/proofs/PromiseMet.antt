@@ -10,7 +10,8 @@ use Rattle.session.specs.Session.{streamAt}
 use Rattle.session.specs.Calls.{answerTo, after}
 use Rattle.session.specs.Opening.{openingOf}
 use Rattle.session.specs.Cases.{padded, twins}
-use Rattle.session.specs.Promise.{Moment, historyFrom, historyOf, withinBounds, closes, closings, dueOf, sinceClosing, completion, expiry, chargeOf, ClosedTruly, ClosedOnTime}
+use Rattle.session.specs.History.{Moment, historyFrom, historyOf, withinBounds, closes, closings, dueOf, sinceClosing, expiry, chargeOf}
+use Rattle.session.specs.Promise.{completion, ClosedTruly, ClosedOnTime}
 use Rattle.session.specs.declared.Session.{Session}
 use Rattle.calls.specs.declared.Call.{Call}
 use Rattle.calls.specs.declared.Call.the-variants.{Arrival, Turn, OwnTurn, Done, Clock}

@@ -7,7 +7,7 @@ use Rattle.table.proofs.Tests.{by-if}
 use Rattle.time.specs.Time.{moment, diskTime}
 use Rattle.session.specs.Session.{streamAt, someFilled, noSlot}
 use Rattle.session.specs.Calls.{Verdict, refuse, append, send, move, wait, expire, finish, set-clock, callRefusal, refusal, turnEffect, effect, verdict, overlong, late, replyTo}
-use Rattle.session.specs.Promise.{durationOf}
+use Rattle.session.specs.History.{durationOf}
 use Rattle.session.specs.declared.Session.{Session}
 use Rattle.calls.specs.declared.Call.{Call}
 use Rattle.calls.specs.declared.Reply.{Reply}

@@ -10,7 +10,8 @@ use Rattle.table.specs.declared.Table.{Table}
 use Rattle.table.proofs.Tests.{both}
 use Rattle.table.proofs.Judged.{admits-of}
 use Rattle.session.specs.Session.{streamAt}
-use Rattle.session.specs.Promise.{Moment, inBounds, withinBounds, closes, sinceClosing, reported, completion, expiry, chargeOf, budgetOf, RequestsServed}
+use Rattle.session.specs.History.{Moment, inBounds, withinBounds, closes, sinceClosing, reported, expiry, chargeOf}
+use Rattle.session.specs.Promise.{completion, budgetOf, RequestsServed}
 use Rattle.session.proofs.Promise.{AllLawful, lawful-from, within-before, promise}
 
 -- what is reported for a job, within bounds, is at most W for each of its completions

@@ -10,7 +10,7 @@ use borrow.Author.Tests.{ltb-false}
 use Rattle.stream.specs.Stream.{withQueue, arrived, without, charged, lapsed}
 use Rattle.session.specs.Session.{streamAt, horizon, latest, withStream}
 use Rattle.session.specs.Calls.{Verdict, refuse, append, send, move, wait, expire, finish, set-clock, apply, overlong, late, replyTo}
-use Rattle.session.specs.Promise.{inBounds}
+use Rattle.session.specs.History.{inBounds}
 use Rattle.stream.specs.declared.Stream.{Stream}
 use Rattle.session.specs.declared.Session.{Session}
 use Rattle.session.proofs.Sound.{Sound}

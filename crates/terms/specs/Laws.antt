@@ -6,7 +6,8 @@ use Prim.Native.Nat.{ℕ, _+_, _≤_, _<_}
 use Rattle.table.specs.Admission.{reservedAt, grantedOf, admissionOf}
 use Rattle.table.specs.declared.Table.{Table}
 use Rattle.calls.specs.declared.Call.{Call}
-use Rattle.session.specs.Promise.{Moment, historyOf, withinBounds, dueOf, chargeOf, sinceClosing, completion, expiry, EachClosed}
+use Rattle.session.specs.History.{Moment, historyOf, withinBounds, dueOf, chargeOf, sinceClosing, expiry}
+use Rattle.session.specs.Promise.{completion, EachClosed}
 use Rattle.terms.specs.declared.Terms.{Terms}
 use Rattle.terms.specs.Terms.{termsOf, verdictOf}
 

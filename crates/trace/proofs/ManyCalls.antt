@@ -12,7 +12,8 @@ use Rattle.calls.specs.Replies.{numberOf, valueOf}
 use Rattle.session.specs.Calls.{answerTo, after}
 use Rattle.session.specs.Opening.{openingOf}
 use Rattle.session.specs.Cases.{padded, table}
-use Rattle.session.specs.Promise.{Moment, historyFrom, historyOf, inBounds, withinBounds, OnTime}
+use Rattle.session.specs.History.{Moment, historyFrom, historyOf, inBounds, withinBounds}
+use Rattle.session.specs.Promise.{OnTime}
 use Rattle.session.specs.declared.Session.{Session}
 use Rattle.calls.specs.declared.Call.{Call}
 use Rattle.calls.specs.declared.Call.the-variants.{Arrival, Turn, Done, Clock}

@@ -263,6 +263,10 @@ module _ (t : Table) (calls : List Call) (admitted : admissionOf t ≡ 0) where
   within-before later m earlier e within =
       within-part (m ∷ []) earlier (within-part later (m ∷ earlier) (subst (λ (l : List Moment). withinBounds l ≡ true) (sym e) within))
 
+  -- the charge of an open job is what the history says
+  pub open-charge : (i : ℕ) → i < t .count → streamAt now i .charge .0 ≡ chargeOf t i past
+  open-charge i l = run .0 .cells i l .charge-is
+
   always : Always t now past
   always =
       record {

@@ -1,0 +1,68 @@
+-- What the tally has to do with the promise and with charges.
+use mathlib.Core.Bool.{Bool, true, false}
+use mathlib.Core.List.{List, [], _∷_, _++_}
+use mathlib.Core.Path.{_≡_, refl, ap}
+use Prim.Native.Nat.{ℕ, _+_, _*_, _≤_}
+use native.Mathlib.Omega.{arith}
+use borrow.Author.Tests.{le-ltb, eqb-true}
+use Rattle.table.proofs.Tests.{both as both-true}
+use Rattle.table.specs.Fold.{if}
+use Rattle.table.specs.declared.Table.{Table}
+use Rattle.calls.specs.Replies.{numberOf}
+use Rattle.session.specs.Session.{streamAt}
+use Rattle.session.specs.History.{Moment, closes, replied, reported, expiry, chargeOf, sinceClosing, historyOf}
+use Rattle.session.proofs.Promise.{promise, open-charge}
+use Rattle.counts.specs.Tally.{together, closesLate, added, tallyOf}
+use Rattle.counts.specs.Laws.{NoneIsLate, ChargesAddUp, closedCharges}
+
+-- what a test does not pass is not counted
+counted-none : (b : Bool) → b ≡ false → 0 + if b 1 0 ≡ 0
+unfolding if
+counted-none b e = rw e
+
+-- a history in which every closing of stream i was in time counts none late
+none-late : (i : ℕ) (past : List Moment)
+    → ((later : List Moment) (m : Moment) (earlier : List Moment) → later ++ (m ∷ earlier) ≡ past → closes i m ≡ true
+    → m .before .clock .0 ≤ streamAt (m .before) i .deadline .0)
+    → tallyOf i past .late ≡ 0
+unfolding tallyOf together added if
+none-late i [] h = refl
+none-late i (m ∷ past) h = rw (none-late i past (λ later n earlier e. h (m ∷ later) n earlier (ap (λ (l : List Moment). m ∷ l) e))) (go (closes i m) refl)
+  where
+    go : (b : Bool) → closes i m ≡ b → 0 + if (closesLate i m) 1 0 ≡ 0
+    go true e = rw e (counted-none _ (le-ltb _ _ (h [] m past refl e)))
+    go false e = rw e
+
+pub none-is-late : NoneIsLate
+none-is-late t calls admitted within i l =
+    none-late i (historyOf t calls) (λ later m earlier e closing. promise t calls admitted .1 within .closed-jobs later m earlier e i l closing .in-time)
+
+-- a call that closes a job reports nothing and loses nothing
+closing-only : (i : ℕ) (m : Moment) → closes i m ≡ true → (reported i m ≡ 0) × (expiry i m ≡ 0)
+unfolding if
+closing-only i m e =
+    let moved : numberOf (m .answer .reply) ≡ 23 = eqb-true _ 23 (both-true (replied 23 m) _ e .0) in
+    (rw moved, rw moved)
+
+-- what is counted and what is charged, over a history whose closings had the charges that it says
+charges : (t : Table) (i : ℕ) (past : List Moment)
+    → ((later : List Moment) (m : Moment) (earlier : List Moment) → later ++ (m ∷ earlier) ≡ past → closes i m ≡ true
+    → streamAt (m .before) i .charge .0 ≡ chargeOf t i earlier)
+    → tallyOf i past .time + t .worst * tallyOf i past .expired ≡ closedCharges i past + chargeOf t i past
+unfolding tallyOf together added closedCharges chargeOf sinceClosing if
+charges t i [] h = omega arith
+charges t i (m ∷ past) h =
+    go (closes i m) refl (charges t i past (λ later n earlier e. h (m ∷ later) n earlier (ap (λ (l : List Moment). m ∷ l) e)))
+  where
+    go : (b : Bool) → closes i m ≡ b
+        → tallyOf i past .time + t .worst * tallyOf i past .expired ≡ closedCharges i past + chargeOf t i past
+        → tallyOf i (m ∷ past) .time + t .worst * tallyOf i (m ∷ past) .expired ≡ closedCharges i (m ∷ past) + chargeOf t i (m ∷ past)
+    go true e before =
+        let only = closing-only i m e in
+        rw (e, only .0, only .1) (omega (arith, before, h [] m past refl e))
+    go false e before = rw e (omega (arith, before))
+
+pub charges-add-up : ChargesAddUp
+charges-add-up t calls admitted i l =
+    rw (open-charge t calls admitted i l)
+    (charges t i (historyOf t calls) (λ later m earlier e closing. promise t calls admitted .0 .closed-jobs later m earlier e i l closing .made-of))

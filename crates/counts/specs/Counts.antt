@@ -1,0 +1,85 @@
+-- The counts of a session file, and of a list of them: a tally for each of the eight stream numbers. The quotes are document 02's Req 01.
+use mathlib.Core.Bool.{Bool, true, false, _&&_, _||_}
+use mathlib.Core.List.{List, [], _∷_, _++_}
+use Prim.Native.Nat.{ℕ, zero, suc, _+_, _^_}
+use lib.Dec.{ltb, eqb}
+use lib.ListN.{getD}
+use Rattle.table.specs.Fold.{if, allTo, listTo}
+use Rattle.table.specs.Ranges.{streams-max}
+use Rattle.table.specs.Admission.{admissionOf}
+use Rattle.table.specs.declared.Table.{Table}
+use Rattle.calls.specs.declared.Call.{Call}
+use Rattle.session.specs.History.{Moment, historyOf}
+use Rattle.file.specs.Reading.{eventAt, eventsIn, tableIn, traceIn, isLaidOut}
+use Rattle.file.specs.declared.event.Event.{Event}
+use Rattle.counts.specs.Tally.{nothing, together, tallyOf}
+use Rattle.counts.specs.declared.Tally.{Tally}
+use Rattle.counts.specs.declared.Counts.{Counts}
+use Rattle.counts.specs.declared.Filed.{Filed}
+
+-- the tally of a stream, counted from 0
+abbrev pub rowAt : List Tally → ℕ → Tally
+rowAt rows i = getD rows i nothing
+
+-- a machine's number has 64 bits: where a sum passes them that is known, and no number stands
+abbrev pub small : ℕ → Bool
+small n = ltb n (2 ^ 64)
+
+unfoldable pub fits : Tally → Bool
+fits a = small (a .jobs) && small (a .late) && small (a .expired) && small (a .time)
+
+abbrev pub known : List Tally → Counts
+known rows = record { over = false; rows = rows }
+
+abbrev pub passed : Counts
+passed = record { over = true; rows = listTo (λ i. nothing) streams-max }
+
+unfoldable pub counts : (ℕ → Tally) → Counts
+counts f = if (allTo (λ i. fits (f i)) streams-max) (known (listTo f streams-max)) passed
+
+-- no files, or no calls
+abbrev pub none : Counts
+none = known (listTo (λ i. nothing) streams-max)
+
+-- two of them by "the same rule", stream number by stream number
+abbrev pub bothRows : Counts → Counts → ℕ → Tally
+bothRows a b i = together (rowAt (a .rows) i) (rowAt (b .rows) i)
+
+unfoldable pub both : Counts → Counts → Counts
+both a b = if (a .over || b .over) passed (counts (bothRows a b))
+
+-- the call of an event; an event that is not as laid out is none, and no file that was read has one
+abbrev pub callsOf : Event → List Call
+callsOf (Event.Arrival stream place) = Call.Arrival stream place ∷ []
+callsOf Event.Turn = Call.Turn ∷ []
+callsOf (Event.OwnTurn stream index) = Call.OwnTurn stream index ∷ []
+callsOf (Event.Done duration) = Call.Done duration ∷ []
+callsOf (Event.Clock time) = Call.Clock time ∷ []
+callsOf Event.Malformed = []
+
+-- those of the first n events of a trace
+unfoldable pub callsTo : List ℕ → ℕ → List Call
+callsTo trace zero = []
+callsTo trace (suc n) = callsTo trace n ++ callsOf (eventAt trace n)
+
+-- the counts of a history
+abbrev pub countsOf : List Moment → Counts
+countsOf past = counts (λ i. tallyOf i past)
+
+-- "A refused file gets its number and adds nothing."
+abbrev pub refusedFile : ℕ → Filed
+refusedFile number = record { refusal = number; count = 0; counts = none }
+
+unfoldable pub openedFile : Table → List ℕ → Filed
+openedFile t trace =
+    if (eqb (admissionOf t) 0)
+    (record { refusal = 0; count = t .count; counts = countsOf (historyOf t (callsTo trace (eventsIn trace))) })
+    (refusedFile (admissionOf t))
+
+unfoldable pub filedOf : List ℕ → Filed
+filedOf file = if (isLaidOut file) (openedFile (tableIn file) (traceIn file)) (refusedFile 16)
+
+-- "Then the same per stream number over all files"
+unfoldable pub totalsOf : List (List ℕ) → Counts
+totalsOf [] = none
+totalsOf (file ∷ rest) = both (filedOf file .counts) (totalsOf rest)

@@ -1,0 +1,49 @@
+-- What is proved of counts.
+use mathlib.Core.Bool.{true}
+use mathlib.Core.List.{List, [], _∷_, _++_}
+use mathlib.Core.Path.{_≡_}
+use Prim.Native.Nat.{ℕ, _+_, _*_, _<_}
+use Rattle.table.specs.Fold.{if}
+use Rattle.table.specs.Admission.{admissionOf}
+use Rattle.table.specs.declared.Table.{Table}
+use Rattle.calls.specs.declared.Call.{Call}
+use Rattle.session.specs.Session.{streamAt}
+use Rattle.session.specs.Calls.{after}
+use Rattle.session.specs.Opening.{openingOf}
+use Rattle.session.specs.History.{Moment, historyOf, withinBounds, closes}
+use Rattle.counts.specs.Tally.{tallyOf}
+use Rattle.counts.specs.Counts.{none, both, totalsOf}
+use Rattle.counts.specs.declared.Counts.{Counts}
+
+-- Which of two comes first, and how three are put together, makes no difference; and nothing is added by no files.
+abbrev pub BothCommutes : Type 0
+BothCommutes = (a b : Counts) → both a b ≡ both b a
+
+abbrev pub BothAssociates : Type 0
+BothAssociates = (a b c : Counts) → both (both a b) c ≡ both a (both b c)
+
+abbrev pub NoneAddsNothing : Type 0
+NoneAddsNothing = (files : List (List ℕ)) → both none (totalsOf files) ≡ totalsOf files
+
+-- "The totals of two lists, combined by the same rule, are the totals of the joined list": refused files among them or not.
+abbrev pub TotalsJoin : Type 0
+TotalsJoin = (one two : List (List ℕ)) → totalsOf (one ++ two) ≡ both (totalsOf one) (totalsOf two)
+
+-- Within the bounds of the promise no job is late.
+abbrev pub NoneIsLate : Type 0
+NoneIsLate =
+    (t : Table) (calls : List Call) → admissionOf t ≡ 0 → withinBounds (historyOf t calls) ≡ true
+    → (i : ℕ) → i < t .count → tallyOf i (historyOf t calls) .late ≡ 0
+
+-- the charges of the jobs of stream i that were closed, added up: each as it was when the job was closed
+unfoldable pub closedCharges : ℕ → List Moment → ℕ
+closedCharges i [] = 0
+closedCharges i (m ∷ earlier) = if (closes i m) (streamAt (m .before) i .charge .0) 0 + closedCharges i earlier
+
+-- Disk time, and W for each expired slot, come to the charges of the closed jobs and of the open one.
+abbrev pub ChargesAddUp : Type 0
+ChargesAddUp =
+    (t : Table) (calls : List Call) → admissionOf t ≡ 0 → (i : ℕ) → i < t .count
+    → let past = historyOf t calls in
+    tallyOf i past .time + t .worst * tallyOf i past .expired
+    ≡ closedCharges i past + streamAt (after (openingOf t .session) calls) i .charge .0

@@ -1,0 +1,4 @@
+pub mod Tally
+pub mod Counts
+pub mod Inner
+pub mod Laws

@@ -1,135 +1,7 @@
 // Reads one session file from standard input and prints its listing, or `refused N`.
-#include "engine.h"
+#include "file.h"
 
 #include <inttypes.h>
-#include <stdio.h>
-#include <string.h>
-
-// "Two bytes: number of entries, always 2. Two entries of 12 bytes: kind, offset, length, four bytes each."
-#define CONTENTS_BYTES 26
-#define ENTRIES 2
-#define KIND_TABLE 1
-#define KIND_TRACE 2
-#define TABLE_BYTES 16
-#define RESERVATION_BYTES 8
-#define EVENT_BYTES 16
-#define EVENT_MAX 4000
-#define FILE_MAX (CONTENTS_BYTES + TABLE_BYTES + STREAM_MAX * RESERVATION_BYTES + EVENT_MAX * EVENT_BYTES)
-
-enum kind { EVENT_ARRIVAL = 1, EVENT_TURN, EVENT_OWN_TURN, EVENT_DONE, EVENT_CLOCK };
-
-struct event {
-    uint8_t kind;
-    uint8_t stream;
-    uint64_t value;
-};
-
-// "numbers little-endian"
-static uint64_t number_at(const uint8_t *bytes, size_t width)
-{
-    uint64_t number = 0;
-    for (size_t i = width; i > 0; i--)
-        number = number << 8 | bytes[i - 1];
-    return number;
-}
-
-static uint32_t four_at(const uint8_t *bytes)
-{
-    return (uint32_t)number_at(bytes, 4);
-}
-
-// "Event: kind, stream, six zero bytes, eight bytes of value."
-static struct event event_at(const uint8_t *bytes)
-{
-    return (struct event){bytes[0], bytes[1], number_at(bytes + 8, 8)};
-}
-
-// "Kinds: 1 arrival, 2 turn, 3 own turn, 4 done, 5 clock. Turn has stream 0 and value 0; done and clock have stream 0."
-static bool event_sound(const uint8_t *bytes)
-{
-    struct event e = event_at(bytes);
-    if (number_at(bytes + 2, 6) != 0)
-        return false;
-    switch (e.kind) {
-    case EVENT_ARRIVAL:
-    case EVENT_OWN_TURN:
-        return true;
-    case EVENT_TURN:
-        return e.stream == 0 && e.value == 0;
-    case EVENT_DONE:
-    case EVENT_CLOCK:
-        return e.stream == 0;
-    default:
-        return false;
-    }
-}
-
-static bool entry_is(const uint8_t *entry, uint32_t kind, uint64_t offset, uint64_t length)
-{
-    return four_at(entry) == kind && four_at(entry + 4) == offset && four_at(entry + 8) == length;
-}
-
-// "Table body: W, H, k, count (0 to 8), four bytes each, then e and p of each stream, four bytes each."
-static void read_table(const uint8_t *body, struct table *t)
-{
-    memset(t, 0, sizeof *t);
-    t->worst = four_at(body);
-    t->span = four_at(body + 4);
-    t->padding = four_at(body + 8);
-    t->count = four_at(body + 12);
-    for (uint32_t i = 0; i < t->count && i < STREAM_MAX; i++) {
-        const uint8_t *r = body + TABLE_BYTES + i * RESERVATION_BYTES;
-        t->reservations[i] = (struct reservation){four_at(r), four_at(r + 4)};
-    }
-}
-
-struct trace {
-    const uint8_t *events;
-    size_t count;
-};
-
-// "Entry one is kind 1 (table), at offset 26; entry two is kind 2 (trace), right after it; the file ends with it."
-// The count tells the table's length and the file's end the trace's, so each byte of the contents has one right value.
-static enum number read_file(const uint8_t *file, size_t size, struct table *t, struct trace *trace)
-{
-    if (size < CONTENTS_BYTES + TABLE_BYTES || size > FILE_MAX)
-        return BAD_LAYOUT;
-    uint32_t count = four_at(file + CONTENTS_BYTES + 12);
-    if (count > STREAM_MAX)
-        return BAD_LAYOUT;
-    size_t table_length = TABLE_BYTES + count * RESERVATION_BYTES;
-    size_t trace_at = CONTENTS_BYTES + table_length;
-    if (size < trace_at)
-        return BAD_LAYOUT;
-    size_t trace_length = size - trace_at;
-    if (trace_length % EVENT_BYTES != 0 || trace_length / EVENT_BYTES > EVENT_MAX)
-        return BAD_LAYOUT;
-    if (number_at(file, 2) != ENTRIES || !entry_is(file + 2, KIND_TABLE, CONTENTS_BYTES, table_length)
-        || !entry_is(file + 14, KIND_TRACE, trace_at, trace_length))
-        return BAD_LAYOUT;
-    for (size_t at = trace_at; at < size; at += EVENT_BYTES)
-        if (!event_sound(file + at))
-            return BAD_LAYOUT;
-    read_table(file + CONTENTS_BYTES, t);
-    *trace = (struct trace){file + trace_at, trace_length / EVENT_BYTES};
-    return ADMITTED;
-}
-
-static struct reply run_event(struct session *s, struct event e)
-{
-    switch (e.kind) {
-    case EVENT_ARRIVAL:
-        return session_arrival(s, e.stream, e.value);
-    case EVENT_TURN:
-        return session_turn(s);
-    case EVENT_OWN_TURN:
-        return session_own_turn(s, e.stream, e.value);
-    case EVENT_DONE:
-        return session_done(s, e.value);
-    default:
-        return session_clock(s, e.value);
-    }
-}
 
 static bool refused(struct reply r)
 {
@@ -144,31 +16,19 @@ static void print_line(size_t number, struct event e, struct reply r, uint64_t c
     printf("%zu %d %" PRIu32 " %" PRIu64 " %" PRIu64 "\n", number, (int)r.number, stream, r.value, clock);
 }
 
-static int print_refused(enum number number)
-{
-    printf("refused %d\n", (int)number);
-    return 0;
-}
-
 int main(void)
 {
-    // One byte more than the longest file: what fills it is too long, however much would follow.
-    static uint8_t file[FILE_MAX + 1];
-    static struct session s;
-    struct table t;
-    struct trace trace;
-    size_t size = fread(file, 1, sizeof file, stdin);
-    enum number number = read_file(file, size, &t, &trace);
-    if (number != ADMITTED)
-        return print_refused(number);
-    number = session_open(&s, &t);
-    if (number != ADMITTED)
-        return print_refused(number);
+    static struct run run;
+    enum number number = start_run(&run, stdin);
+    if (number != ADMITTED) {
+        print_refused(number);
+        return 0;
+    }
     puts("event answer stream value clock");
-    for (size_t i = 0; i < trace.count; i++) {
-        struct event e = event_at(trace.events + i * EVENT_BYTES);
-        struct reply r = run_event(&s, e);
-        print_line(i + 1, e, r, s.clock);
+    for (size_t i = 0; i < run.count; i++) {
+        struct event e = run_event_at(&run, i);
+        struct reply r = run_event(&run.session, e);
+        print_line(i + 1, e, r, run.session.clock);
     }
     return 0;
 }

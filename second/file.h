@@ -1,0 +1,43 @@
+// The session file of document 01 and its run, for every program of this folder.
+#ifndef SECOND_FILE_H
+#define SECOND_FILE_H
+
+#include "engine.h"
+
+#include <stdio.h>
+
+// "Two bytes: number of entries, always 2. Two entries of 12 bytes: kind, offset, length, four bytes each."
+#define CONTENTS_BYTES 26
+#define TABLE_BYTES 16
+#define RESERVATION_BYTES 8
+#define EVENT_BYTES 16
+#define EVENT_MAX 4000
+#define FILE_MAX (CONTENTS_BYTES + TABLE_BYTES + STREAM_MAX * RESERVATION_BYTES + EVENT_MAX * EVENT_BYTES)
+
+struct event {
+    uint8_t kind;
+    uint8_t stream;
+    uint64_t value;
+};
+
+// A session file in memory, the session that it opens, and its trace of so many events.
+// The file has one byte more than the longest: what fills it is too long, however much would follow.
+struct run {
+    uint8_t file[FILE_MAX + 1];
+    struct session session;
+    const uint8_t *trace;
+    size_t count;
+};
+
+// Reads a file and opens its session: ADMITTED, or the number that reading or opening refuses it by.
+enum number start_run(struct run *run, FILE *in);
+
+// An event of the trace, by its index from 0.
+struct event run_event_at(const struct run *run, size_t index);
+
+struct reply run_event(struct session *s, struct event e);
+
+// "If reading or opening refuses it prints `refused N`, nothing more."
+void print_refused(enum number number);
+
+#endif

@@ -1,16 +1,14 @@
 -- Texts: the line at their start, and the room for it.
 use mathlib.Core.Path.{_≡_, refl, sym, ap, _∙_}
-use mathlib.Core.List.{List, [], _∷_, _++_, map}
-use Prim.Native.Nat.{ℕ, zero, suc, _+_, _-_, _*_, _^_, _≤_, _<_}
+use mathlib.Core.List.{List, [], _∷_, _++_}
+use Prim.Native.Nat.{ℕ, zero, suc, _+_, _-_, _*_, _≤_}
 use native.Mathlib.Omega.{arith}
 use native.Mathlib.Nat.{sub-zero, zero-sub, suc-sub-suc}
 use lib.ListN.{length, take, drop, replicate, length-append, length-replicate}
 use lib.Seq.{take-at}
 use Rattle.cells.proofs.Runs.{sets-start, Wrote}
-use Rattle.listing.specs.Line.{decimal, onward, rendered, text-size, textOf, Within}
+use Rattle.listing.specs.Line.{onward, rendered, text-size, textHolding, textOf, Within}
 use Rattle.listing.specs.Laws.{Each, Short, TextHoldsLine}
-use Rattle.listing.proofs.Each.{each-map}
-use Rattle.listing.proofs.Decimal.{decimal-is-short}
 
 -- ---- room
 
@@ -31,10 +29,6 @@ fields-have-room [] p few = omega arith
 fields-have-room (field ∷ rest) p few =
     rw (length-append field (onward rest)) (omega (arith, p .0, onward-room rest (p .1), few))
 
-pub numbers-have-room : (numbers : List ℕ) → Each (λ n. n < 2 ^ 64) numbers → length (map decimal numbers) ≤ 6 → length (rendered (map decimal numbers)) ≤ text-size
-numbers-have-room numbers p few =
-    fields-have-room (map decimal numbers) (each-map (λ n. n < 2 ^ 64) Short decimal decimal-is-short numbers p) few
-
 -- ---- the line at the start
 
 drop-replicate : (n m byte : ℕ) → drop n (replicate m byte) ≡ replicate (m - n) byte
@@ -42,31 +36,33 @@ drop-replicate zero m byte = rw sub-zero
 drop-replicate (suc n) zero byte = rw zero-sub
 drop-replicate (suc n) (suc m) byte = rw suc-sub-suc (drop-replicate n m byte)
 
-module _ (fields : List (List ℕ)) (room : length (rendered fields) ≤ text-size) where
-  abbrev line : List ℕ
-  line = rendered fields
-
-  text-length : length (textOf fields .bytes) ≡ text-size
-  unfolding textOf
+module _ (line : List ℕ) (room : length line ≤ text-size) where
+  text-length : length (textHolding line .bytes) ≡ text-size
   text-length =
       rw (length-append line (replicate (text-size - length line) 0), length-replicate (text-size - length line) zero) (omega (arith, room))
 
-  text-line : take (textOf fields .len) (textOf fields .bytes) ≡ line
-  unfolding textOf
+  text-line : take (textHolding line .len) (textHolding line .bytes) ≡ line
   text-line = take-at line (replicate (text-size - length line) 0) (length line) refl
 
   -- the text of a buffer of zeros after the line was written to it
-  pub written : {len : ℕ} {bytes : List ℕ} → Wrote (replicate text-size 0) line len bytes
-      → (record { bytes = bytes; len = len } ≡ textOf fields) × Within (record { bytes = bytes; len = len })
-  unfolding textOf
-  written {len} {bytes} w =
+  pub held : {len : ℕ} {bytes : List ℕ} → Wrote (replicate text-size 0) line len bytes
+      → (record { bytes = bytes; len = len } ≡ textHolding line) × Within (record { bytes = bytes; len = len })
+  held {len} {bytes} w =
       let stored : bytes ≡ line ++ replicate (text-size - length line) 0 =
       w .holds
       ∙ sets-start line (replicate text-size 0) (omega (arith, room, length-replicate text-size zero))
       ∙ ap (λ rest. line ++ rest) (drop-replicate (length line) text-size 0) in
       rw (stored, w .next) (refl, (omega (arith, room, text-length), sym (ap length text-line)))
 
+-- and that of some fields after their line was
+pub written : (fields : List (List ℕ)) → length (rendered fields) ≤ text-size
+    → {len : ℕ} {bytes : List ℕ} → Wrote (replicate text-size 0) (rendered fields) len bytes
+    → (record { bytes = bytes; len = len } ≡ textOf fields) × Within (record { bytes = bytes; len = len })
+unfolding textOf
+written fields room w = held (rendered fields) room w
+
 pub text-holds-line : TextHoldsLine
+unfolding textOf
 text-holds-line fields short few =
     let room = fields-have-room fields short few in
-    (text-length fields room, text-line fields room)
+    (text-length (rendered fields) room, text-line (rendered fields) room)

@@ -4,7 +4,7 @@ use mathlib.Core.List.{List, [], _∷_, map}
 use Prim.Native.Nat.{ℕ, zero, suc, _+_, _^_, min, _≤_, _<_}
 use native.Mathlib.Omega.{arith}
 use lib.ListN.{length, getD, take, length-take}
-use lib.Seq.{take-nil}
+use lib.Seq.{take-nil, take-all}
 use Rattle.listing.specs.Line.{decimal, onward, rendered, wordedFields, text-size}
 use Rattle.listing.specs.Laws.{Each, Short}
 use Rattle.listing.proofs.Each.{each-map}
@@ -31,16 +31,28 @@ first-fit zero l fits = tt
 first-fit (suc n) [] fits = tt
 first-fit (suc n) (x ∷ l) fits = (fits 0, first-fit n l (λ i. fits (suc i)))
 
-pub worded-room : (word numbers : List ℕ) → ((i : ℕ) → getD numbers i 0 < 2 ^ 64) → length (rendered (wordedFields word numbers)) ≤ text-size
-unfolding Each wordedFields
-worded-room word numbers fits =
-    fields-have-room (take 20 word ∷ map decimal (take 5 numbers))
-    (omega (arith, length-take 20 word), each-map (λ n. n < 2 ^ 64) Short decimal decimal-is-short (take 5 numbers) (first-fit 5 numbers fits))
+map-length : (l : List ℕ) → length (map decimal l) ≡ length l
+map-length [] = refl
+map-length (x ∷ l) = ap suc (map-length l)
+
+-- the room for a short field and the first five numbers behind it
+pub first-room : (field numbers : List ℕ) → Short field → ((i : ℕ) → getD numbers i 0 < 2 ^ 64) → length (rendered (field ∷ map decimal (take 5 numbers))) ≤ text-size
+unfolding Each
+first-room field numbers short fits =
+    fields-have-room (field ∷ map decimal (take 5 numbers))
+    (short, each-map (λ n. n < 2 ^ 64) Short decimal decimal-is-short (take 5 numbers) (first-fit 5 numbers fits))
     (omega (arith, length-take 5 numbers, map-length (take 5 numbers)))
-  where
-    map-length : (l : List ℕ) → length (map decimal l) ≡ length l
-    map-length [] = refl
-    map-length (x ∷ l) = ap suc (map-length l)
+
+pub worded-room : (word numbers : List ℕ) → ((i : ℕ) → getD numbers i 0 < 2 ^ 64) → length (rendered (wordedFields word numbers)) ≤ text-size
+unfolding wordedFields
+worded-room word numbers fits = first-room (take 20 word) numbers (omega (arith, length-take 20 word)) fits
+
+-- and for a number and up to five others
+pub numbered-room : (first : ℕ) (others : List ℕ) → first < 2 ^ 64 → ((i : ℕ) → getD others i 0 < 2 ^ 64) → length others ≤ 5
+    → length (rendered (map decimal (first ∷ others))) ≤ text-size
+numbered-room first others small fits few =
+    let all : take 5 others ≡ others = take-all 5 others few in
+    rw all at (first-room (decimal first) others (decimal-is-short first small) fits)
 
 -- the room behind the word
 pub numbers-room : (word numbers : List ℕ) → ((i : ℕ) → getD numbers i 0 < 2 ^ 64)

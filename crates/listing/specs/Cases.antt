@@ -1,8 +1,8 @@
--- Document 01's printed lines: the fields of each, beside what the document shows. The statement that covers the list is `CasesHold`.
+-- Document 01's printed lines, and those of a tally: the fields of each, beside what the document shows. The statement that covers the list is `CasesHold`.
 use mathlib.Core.List.{List, [], _∷_}
 use Prim.Native.Nat.{ℕ}
 use Prim.Native.String.{String}
-use Rattle.listing.specs.Line.{headerFields, eventFields, refusedFields}
+use Rattle.listing.specs.Line.{headerFields, eventFields, refusedFields, tallyHeaderFields, tallyFields, totalFields}
 
 pub record Case : Type 0 where
   pub fields : List (List ℕ)
@@ -11,7 +11,7 @@ pub record Case : Type 0 where
 abbrev pub prints : List (List ℕ) → String → Case
 prints fields document = record { fields = fields; document = document }
 
--- listing (P), and a refusal; then numbers at the ends of their range
+-- listing (P), and a refusal; then numbers at the ends of their range; and the lines of a tally
 unfoldable pub cases : List Case
 cases =
     prints headerFields "event answer stream value clock\n"
@@ -30,4 +30,7 @@ cases =
     ∷ prints
     (eventFields 4_000 21 8 18_446_744_073_709_551_615 1_000_000_000_000)
     "4000 21 8 18446744073709551615 1000000000000\n"
+    ∷ prints tallyHeaderFields "stream jobs late expired time largest\n"
+    ∷ prints (tallyFields 1 12 0 3 300_000 25_000) "1 12 0 3 300000 25000\n"
+    ∷ prints totalFields "total\n"
     ∷ []

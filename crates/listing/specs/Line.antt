@@ -1,4 +1,4 @@
--- What the program prints, as bytes: "a header, then a line per event, fields parted by one space, numbers in decimal, each line ended by a newline", or one line that says `refused N`.
+-- What the program prints, as bytes: "a header, then a line per event, fields parted by one space, numbers in decimal, each line ended by a newline", or one line that says `refused N`; and the lines of a tally.
 use mathlib.Core.List.{List, [], _∷_, _++_, map}
 use mathlib.Core.Path.{_≡_}
 use Prim.Native.Nat.{ℕ, zero, suc, _+_, _-_, _/_, _%_, _≤_}
@@ -65,14 +65,28 @@ refusedWord = ascii "refused"
 unfoldable pub refusedFields : ℕ → List (List ℕ)
 refusedFields number = wordedFields refusedWord (number ∷ [])
 
--- the line of some fields as the code hands it over: at the start of a fixed number of bytes, zeros after it
+-- A tally (document 02's Req 01) has a header, and a line per stream: its number, "jobs closed, jobs closed after their deadline, slots expired, total disk time, and the largest single completion".
+unfoldable pub tallyHeaderFields : List (List ℕ)
+tallyHeaderFields = map ascii ("stream" ∷ "jobs" ∷ "late" ∷ "expired" ∷ "time" ∷ "largest" ∷ [])
+
+unfoldable pub tallyFields : ℕ → ℕ → ℕ → ℕ → ℕ → ℕ → List (List ℕ)
+tallyFields stream jobs late expired time largest =
+    map decimal (stream ∷ jobs ∷ late ∷ expired ∷ time ∷ largest ∷ [])
+
+-- the line before the totals over all files
+abbrev pub totalFields : List (List ℕ)
+totalFields = wordedFields (ascii "total") []
+
+-- a line as the code hands it over: at the start of a fixed number of bytes, zeros after it
 abbrev pub text-size : ℕ
 text-size = 128
 
+abbrev pub textHolding : List ℕ → Text
+textHolding line = record { bytes = line ++ replicate (text-size - length line) 0; len = length line }
+
+-- the line of some fields, handed over so
 unfoldable pub textOf : List (List ℕ) → Text
-textOf fields =
-    let line = rendered fields in
-    record { bytes = line ++ replicate (text-size - length line) 0; len = length line }
+textOf fields = textHolding (rendered fields)
 
 -- the part that is used lies within a text; both parts follow from the contract's equation, and are said so that a caller may hand on `&bytes[..len]` without a proof
 abbrev pub Within : Text → Type 0

@@ -1,10 +1,10 @@
-// The lines that the program prints, as bytes. Any numbers have a line.
+// The lines that the programs print, as bytes. Any numbers have a line.
 ghost use mathlib.Core.Path.{_≡_};
-ghost use mathlib.Core.List.{map};
+ghost use mathlib.Core.List.{_∷_, map};
 ghost use Prim.Native.Nat.{_+_, _≤_, min};
 ghost use lib.ListN.{length};
 ghost use lib.Seq.{sets};
-ghost use Rattle.listing.specs.Line.{decimal, onward, headerFields, eventFields, wordedFields, refusedFields, textOf, Within};
+ghost use Rattle.listing.specs.Line.{decimal, onward, headerFields, eventFields, wordedFields, refusedFields, tallyHeaderFields, tallyFields, totalFields, text-size, textHolding, textOf, Within};
 
 // A printed line: the first `len` bytes. Those after them are 0.
 pub struct Text {
@@ -28,12 +28,7 @@ pub fn header() -> Text
     ensures { λ r. ⌜ Within r ⌝ }
 {
     let words = b"event answer stream value clock\n";
-    let mut bytes = [0u8; Text::SIZE];
-    cells::put_bytes(&mut bytes, 0, words);
-    Text {
-        bytes,
-        len: words.len(),
-    }
+    holding(words)
 }
 
 // The line of an event: its number, the reply, the stream, the value and the clock afterwards.
@@ -41,11 +36,8 @@ pub fn line(number: u64, answer: u64, stream: u64, value: u64, clock: u64) -> Te
     ensures { λ r. ⌜ r ≡ textOf (eventFields number answer stream value clock) ⌝ }
     ensures { λ r. ⌜ Within r ⌝ }
 {
-    let mut bytes = [0u8; Text::SIZE];
-    let end = put_decimal(&mut bytes, 0, number);
     let others = [answer, stream, value, clock];
-    let len = put_onward(&mut bytes, end, &others);
-    Text { bytes, len }
+    numbered(number, &others)
 }
 
 // The line that says by which number a file was refused.
@@ -55,6 +47,33 @@ pub fn refused(number: u64) -> Text
 {
     let numbers = [number];
     worded(b"refused", &numbers)
+}
+
+// The header of the lines of a tally.
+pub fn tally_header() -> Text
+    ensures { λ r. ⌜ r ≡ textOf tallyHeaderFields ⌝ }
+    ensures { λ r. ⌜ Within r ⌝ }
+{
+    let words = b"stream jobs late expired time largest\n";
+    holding(words)
+}
+
+// The line of a stream in a tally: its number, and what was counted of it.
+pub fn tally_line(stream: u64, jobs: u64, late: u64, expired: u64, time: u64, largest: u64) -> Text
+    ensures { λ r. ⌜ r ≡ textOf (tallyFields stream jobs late expired time largest) ⌝ }
+    ensures { λ r. ⌜ Within r ⌝ }
+{
+    let others = [jobs, late, expired, time, largest];
+    numbered(stream, &others)
+}
+
+// The line before the totals of a tally.
+pub fn total() -> Text
+    ensures { λ r. ⌜ r ≡ textOf totalFields ⌝ }
+    ensures { λ r. ⌜ Within r ⌝ }
+{
+    let none = [0u64; 0];
+    worded(b"total", &none)
 }
 
 // The line of a word and numbers behind it; of a word or numbers too long for a text, the first ones.
@@ -67,6 +86,32 @@ pub fn worded(word: &[u8], numbers: &[u64]) -> Text
     let mut bytes = [0u8; Text::SIZE];
     cells::put_bytes(&mut bytes, 0, &word[..end]);
     let len = put_onward(&mut bytes, end, &numbers[..few]);
+    Text { bytes, len }
+}
+
+// The text of a line that is there already.
+fn holding(words: &[u8]) -> Text
+    requires { ⌜ length (now words) ≤ text-size ⌝ }
+    ensures { λ r. ⌜ r ≡ textHolding (now (words .entry)) ⌝ }
+    ensures { λ r. ⌜ Within r ⌝ }
+{
+    let mut bytes = [0u8; Text::SIZE];
+    cells::put_bytes(&mut bytes, 0, words);
+    Text {
+        bytes,
+        len: words.len(),
+    }
+}
+
+// The line of a number and up to five others behind it.
+fn numbered(first: u64, others: &[u64]) -> Text
+    requires { ⌜ length (now others) ≤ 5 ⌝ }
+    ensures { λ r. ⌜ r ≡ textOf (map decimal (first ∷ now (others .entry))) ⌝ }
+    ensures { λ r. ⌜ Within r ⌝ }
+{
+    let mut bytes = [0u8; Text::SIZE];
+    let end = put_decimal(&mut bytes, 0, first);
+    let len = put_onward(&mut bytes, end, others);
     Text { bytes, len }
 }
 

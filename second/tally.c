@@ -129,13 +129,15 @@ static void take_file(struct totals *totals, const char *name)
             totals->passed = true;
 }
 
+// An empty line is no name.
 static void take_names(struct totals *totals)
 {
     char *name = NULL;
     size_t room = 0;
     while (getline(&name, &room, stdin) != -1) {
         name[strcspn(name, "\n")] = '\0';
-        take_file(totals, name);
+        if (name[0] != '\0')
+            take_file(totals, name);
     }
     free(name);
 }

@@ -10,7 +10,7 @@ use Rattle.table.proofs.Lists.{getD-listTo}
 use Rattle.file.specs.Reading.{isLaidOut, tableIn}
 use Rattle.counts.specs.Tally.{nothing, together}
 use Rattle.counts.specs.Counts.{fits, counts, none, both, filedOf, openedFile, totalsOf}
-use Rattle.counts.specs.Laws.{NoneAddsNothing, TotalsJoin}
+use Rattle.counts.specs.Laws.{NoneAddsNothing, TotalsJoin, OneFileMore}
 use Rattle.counts.specs.declared.Tally.{Tally}
 use Rattle.counts.specs.declared.Counts.{Counts}
 use Rattle.counts.specs.declared.Filed.{Filed}
@@ -51,3 +51,9 @@ unfolding totalsOf
 totals-join [] two = sym (none-adds-nothing two)
 totals-join (file ∷ one) two =
     ap (both (filedOf file .counts)) (totals-join one two) ∙ sym (both-associates (filedOf file .counts) (totalsOf one) (totalsOf two))
+
+pub one-file-more : OneFileMore
+unfolding totalsOf
+one-file-more files file =
+    totals-join files (file ∷ [])
+    ∙ ap (both (totalsOf files)) (both-commutes (filedOf file .counts) none ∙ none-file file)

@@ -12,7 +12,7 @@ use Rattle.session.specs.Calls.{after}
 use Rattle.session.specs.Opening.{openingOf}
 use Rattle.session.specs.History.{Moment, historyOf, withinBounds, closes}
 use Rattle.counts.specs.Tally.{tallyOf}
-use Rattle.counts.specs.Counts.{none, both, totalsOf}
+use Rattle.counts.specs.Counts.{none, both, filedOf, totalsOf}
 use Rattle.counts.specs.declared.Counts.{Counts}
 
 -- Which of two comes first, and how three are put together, makes no difference; and nothing is added by no files.
@@ -28,6 +28,11 @@ NoneAddsNothing = (files : List (List ℕ)) → both none (totalsOf files) ≡ t
 -- "The totals of two lists, combined by the same rule, are the totals of the joined list": refused files among them or not.
 abbrev pub TotalsJoin : Type 0
 TotalsJoin = (one two : List (List ℕ)) → totalsOf (one ++ two) ≡ both (totalsOf one) (totalsOf two)
+
+-- So the totals may be kept while files are read, one after the other.
+abbrev pub OneFileMore : Type 0
+OneFileMore =
+    (files : List (List ℕ)) (file : List ℕ) → totalsOf (files ++ (file ∷ [])) ≡ both (totalsOf files) (filedOf file .counts)
 
 -- Within the bounds of the promise no job is late.
 abbrev pub NoneIsLate : Type 0

@@ -35,7 +35,7 @@ pub struct Filed {
 }
 
 impl Tally {
-    pub fn nothing() -> Tally
+    pub(crate) fn nothing() -> Tally
         ensures { λ r. ⌜ r ≡ nothing ⌝ }
     {
         Tally {

@@ -99,13 +99,13 @@ static void print_tallies(const struct tally *streams, uint32_t count)
     }
 }
 
-// A file that cannot be opened, or not be read on, is one that is not as laid out, and is told besides.
+// A file that cannot be opened or read is one that is not as laid out, and is told besides.
 static enum number open_run(struct run *run, const char *name)
 {
     FILE *in = fopen(name, "rb");
     enum number number = in == NULL ? BAD_LAYOUT : start_run(run, in);
     if (in == NULL || ferror(in))
-        fprintf(stderr, "tally: cannot open %s\n", name);
+        fprintf(stderr, "tally: cannot read %s\n", name);
     if (in != NULL)
         fclose(in);
     return number;

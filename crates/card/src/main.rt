@@ -51,7 +51,7 @@ fn print_card(table: Table) {
 
 fn print_load(found: Finding) {
     say(b"admitted: the load is ");
-    print_number(found.given, 0);
+    print_number(found.value, 0);
     say(b" of the span ");
     print_number(found.limit, 0);
     say(b", and ");
@@ -73,12 +73,12 @@ fn print_refusal(table: Table, verdict: Verdict) {
         say(b"the period does not divide the span ");
         print_number(table.span as u64, 0);
         say(b", of which ");
-        print_number(found.given, 0);
+        print_number(found.value, 0);
         say(b" are left over\n");
         return;
     }
     say_what(verdict.number, found);
-    print_number(found.given, 0);
+    print_number(found.value, 0);
     say(b", ");
     print_difference(found);
     say_limit(verdict.number, found);
@@ -95,7 +95,7 @@ fn say_what(number: u64, found: Finding) {
         4 => say(b"the padding k is "),
         5 => say(b"the period is "),
         6 => {
-            if found.given < found.limit {
+            if found.value < found.limit {
                 say(b"the reserved time is ");
             } else {
                 say(b"the granted budget is ");
@@ -107,7 +107,7 @@ fn say_what(number: u64, found: Finding) {
 
 // Beyond which limit it is.
 fn say_limit(number: u64, found: Finding) {
-    if found.given < found.limit {
+    if found.value < found.limit {
         say(b" below the least, ");
         return;
     }
@@ -120,12 +120,12 @@ fn say_limit(number: u64, found: Finding) {
 
 // How far apart a number and its limit are.
 fn print_difference(found: Finding) {
-    let given = found.given;
+    let value = found.value;
     let limit = found.limit;
-    if given < limit {
-        print_number(limit - given, 0);
+    if value < limit {
+        print_number(limit - value, 0);
     } else {
-        print_number(given - limit, 0);
+        print_number(value - limit, 0);
     }
 }
 
@@ -133,7 +133,7 @@ fn print_streams(table: Table) {
     say(b"\nworst-case request time W ");
     print_number(table.worst as u64, 0);
     say(b"; all times in microseconds\n\n");
-    say(b"stream     reserved       period  padding      granted  of the disk\n");
+    say(b"stream       reserved         period  padding        granted  of the disk\n");
     let reserved = table.reserved;
     let period = table.period;
     let mut i: usize = 0;
@@ -148,10 +148,14 @@ fn print_streams(table: Table) {
 }
 
 fn print_row(terms: Terms, reserved: u32, period: u32) {
-    print_number(reserved as u64, 13);
-    print_number(period as u64, 13);
+    print_number(reserved as u64, 15);
+    print_number(period as u64, 15);
     print_number(terms.padding as u64, 9);
-    print_number(terms.granted, 13);
+    print_number(terms.granted, 15);
+    if (period as u64) < terms.granted {
+        say(b"  above 100 %\n");
+        return;
+    }
     let share = terms::hundredths(terms.granted, period);
     print_number(share / 100, 8);
     say(b".");

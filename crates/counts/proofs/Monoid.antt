@@ -11,7 +11,7 @@ use Rattle.table.specs.Ranges.{streams-max}
 use Rattle.table.proofs.Folds.{all-at, all-of}
 use Rattle.table.proofs.Lists.{getD-listTo}
 use Rattle.counts.specs.Tally.{nothing, together}
-use Rattle.counts.specs.Counts.{rowAt, small, fits, known, passed, counts, none, bothRows, both}
+use Rattle.counts.specs.Counts.{rowAt, small, fits, known, passed, counts, bothRows, both}
 use Rattle.counts.specs.Laws.{BothCommutes, BothAssociates}
 use Rattle.counts.specs.declared.Tally.{Tally}
 use Rattle.counts.specs.declared.Counts.{Counts}

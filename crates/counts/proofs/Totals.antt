@@ -3,6 +3,8 @@ use mathlib.Core.List.{List, [], _∷_}
 use mathlib.Core.Path.{_≡_, refl, sym, _∙_, ap, subst}
 use Prim.Native.Nat.{ℕ}
 use lib.Dec.{eqb}
+use mathlib.Core.Bool.{Bool, true, false}
+use Rattle.table.specs.Fold.{if, allTo, listTo}
 use Rattle.table.specs.Ranges.{streams-max}
 use Rattle.table.specs.Admission.{admissionOf}
 use Rattle.table.proofs.Tests.{by-if}
@@ -10,7 +12,11 @@ use Rattle.table.proofs.Lists.{getD-listTo}
 use Rattle.file.specs.Reading.{isLaidOut, tableIn}
 use Rattle.counts.specs.Tally.{nothing, together}
 use Rattle.counts.specs.Counts.{fits, counts, none, both, filedOf, openedFile, totalsOf}
-use Rattle.counts.specs.Laws.{NoneAddsNothing, TotalsJoin, OneFileMore}
+use Rattle.counts.specs.Laws.{NoneAddsNothing, TotalsJoin, OneFile, RefusedAddsNothing, CallsAgree, SumsEnd, OneFileMore}
+use Rattle.listing.specs.Line.{rendered, refusedFields}
+use Rattle.trace.specs.Trace.{called, applied, runOf, listingOf}
+use Rattle.session.specs.Calls.{after}
+use Rattle.file.specs.declared.event.Event.{Event}
 use Rattle.counts.specs.declared.Tally.{Tally}
 use Rattle.counts.specs.declared.Counts.{Counts}
 use Rattle.counts.specs.declared.Filed.{Filed}
@@ -51,6 +57,34 @@ unfolding totalsOf
 totals-join [] two = sym (none-adds-nothing two)
 totals-join (file ∷ one) two =
     ap (both (filedOf file .counts)) (totals-join one two) ∙ sym (both-associates (filedOf file .counts) (totalsOf one) (totalsOf two))
+
+pub one-file : OneFile
+unfolding totalsOf
+one-file file = both-commutes (filedOf file .counts) none ∙ none-file file
+
+-- a refused file adds nothing, and is told as `replay` tells it
+pub refused-adds-nothing : RefusedAddsNothing
+unfolding filedOf openedFile listingOf runOf if
+refused-adds-nothing file some = go (isLaidOut file) (eqb (admissionOf (tableIn file)) 0) refl refl
+  where
+    go : (laid admitted : Bool) → isLaidOut file ≡ laid → eqb (admissionOf (tableIn file)) 0 ≡ admitted
+        → (filedOf file .counts ≡ none) × (listingOf file ≡ rendered (refusedFields (filedOf file .refusal)))
+    go false admitted e f = (rw e, rw e)
+    go true false e f = (rw (e, f), rw (e, f))
+    go true true e f = absurd (some (rw (e, f)))
+
+pub calls-agree : CallsAgree
+unfolding applied called after
+calls-agree s n (Event.Arrival stream place) = refl
+calls-agree s n Event.Turn = refl
+calls-agree s n (Event.OwnTurn stream index) = refl
+calls-agree s n (Event.Done duration) = refl
+calls-agree s n (Event.Clock time) = refl
+calls-agree s n Event.Malformed = refl
+
+pub sums-end : SumsEnd
+unfolding both counts fits together allTo listTo if
+sums-end = (refl, refl)
 
 pub one-file-more : OneFileMore
 unfolding totalsOf

@@ -21,7 +21,7 @@ use Rattle.counts.specs.declared.Filed.{Filed}
 abbrev pub rowAt : List Tally → ℕ → Tally
 rowAt rows i = getD rows i nothing
 
--- a machine's number has 64 bits: where a sum passes them that is known, and no number stands
+-- a machine's number has 64 bits: where a sum passes them that is known, and no number stands. The largest is no sum, and so cannot pass.
 abbrev pub small : ℕ → Bool
 small n = ltb n (2 ^ 64)
 

@@ -2,17 +2,22 @@
 use mathlib.Core.Bool.{true}
 use mathlib.Core.List.{List, [], _∷_, _++_}
 use mathlib.Core.Path.{_≡_}
-use Prim.Native.Nat.{ℕ, _+_, _*_, _<_}
-use Rattle.table.specs.Fold.{if}
+use Prim.Native.Nat.{ℕ, _+_, _-_, _*_, _^_, _<_}
+use Rattle.table.specs.Fold.{if, listTo}
+use Rattle.table.specs.Ranges.{streams-max}
 use Rattle.table.specs.Admission.{admissionOf}
 use Rattle.table.specs.declared.Table.{Table}
 use Rattle.calls.specs.declared.Call.{Call}
 use Rattle.session.specs.Session.{streamAt}
+use Rattle.session.specs.declared.Session.{Session}
 use Rattle.session.specs.Calls.{after}
 use Rattle.session.specs.Opening.{openingOf}
 use Rattle.session.specs.History.{Moment, historyOf, withinBounds, closes}
-use Rattle.counts.specs.Tally.{tallyOf}
-use Rattle.counts.specs.Counts.{none, both, filedOf, totalsOf}
+use Rattle.file.specs.declared.event.Event.{Event}
+use Rattle.listing.specs.Line.{rendered, refusedFields}
+use Rattle.trace.specs.Trace.{applied, listingOf}
+use Rattle.counts.specs.Tally.{tally, tallyOf}
+use Rattle.counts.specs.Counts.{known, passed, none, both, callsOf, filedOf, totalsOf}
 use Rattle.counts.specs.declared.Counts.{Counts}
 
 -- Which of two comes first, and how three are put together, makes no difference; and nothing is added by no files.
@@ -28,6 +33,27 @@ NoneAddsNothing = (files : List (List ℕ)) → both none (totalsOf files) ≡ t
 -- "The totals of two lists, combined by the same rule, are the totals of the joined list": refused files among them or not.
 abbrev pub TotalsJoin : Type 0
 TotalsJoin = (one two : List (List ℕ)) → totalsOf (one ++ two) ≡ both (totalsOf one) (totalsOf two)
+
+-- The totals of one file are its own counts. "A refused file gets its number and adds nothing", and the number is in the line that `replay` prints of it.
+abbrev pub OneFile : Type 0
+OneFile = (file : List ℕ) → totalsOf (file ∷ []) ≡ filedOf file .counts
+
+abbrev pub RefusedAddsNothing : Type 0
+RefusedAddsNothing =
+    (file : List ℕ) → (filedOf file .refusal ≡ 0 → ⊥)
+    → (filedOf file .counts ≡ none) × (listingOf file ≡ rendered (refusedFields (filedOf file .refusal)))
+
+-- The call of an event is the one that `replay` makes of it.
+abbrev pub CallsAgree : Type 0
+CallsAgree = (s : Session) (n : ℕ) (event : Event) → applied s n event .session ≡ after s (callsOf event)
+
+-- A time of 2^64 - 1 stands, and one more passes.
+abbrev pub timed : ℕ → Counts
+timed n = known (listTo (λ i. tally 0 0 0 n 0) streams-max)
+
+abbrev pub SumsEnd : Type 0
+SumsEnd =
+    (both (timed (2 ^ 64 - 1)) (timed 0) ≡ timed (2 ^ 64 - 1)) × (both (timed (2 ^ 64 - 1)) (timed 1) ≡ passed)
 
 -- So the totals may be kept while files are read, one after the other.
 abbrev pub OneFileMore : Type 0

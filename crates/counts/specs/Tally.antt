@@ -21,7 +21,7 @@ unfoldable pub together : Tally → Tally → Tally
 together a b =
     tally (a .jobs + b .jobs) (a .late + b .late) (a .expired + b .expired) (a .time + b .time) (max (a .largest) (b .largest))
 
--- a job is closed "after their deadline": the clock was above it
+-- "closed after their deadline": the clock was above the deadline
 abbrev pub closesLate : ℕ → Moment → Bool
 closesLate i m = closes i m && ltb (streamAt (m .before) i .deadline .0) (m .before .clock .0)
 

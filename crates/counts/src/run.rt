@@ -11,6 +11,7 @@ ghost use mathlib.Core.Path.{_≡_};
 ghost use mathlib.Core.List.{[]};
 ghost use Prim.Native.Nat.{_<_};
 ghost use Rattle.table.specs.Fold.{if};
+ghost use Rattle.table.specs.Ranges.{streams-max};
 ghost use Rattle.session.specs.History.{durationOf, historyFrom};
 ghost use Rattle.counts.specs.Counts.{callsOf, callsTo, countsOf};
 ghost use Rattle.counts.specs.Inner.{toldBy, addedBy, countsBy, steppedBy, stepsBy};
@@ -115,7 +116,7 @@ impl Told {
 
     // What is added to the tally of a stream, counted from 0, whose deadline this is.
     fn of(self, deadline: Clock, i: usize) -> Tally
-        requires { ⌜ i < 8 ⌝ }
+        requires { ⌜ i < streams-max ⌝ }
         ensures { λ r. ⌜ r ≡ addedBy self (deadline .0) i ⌝ }
     {
         let horizon = self.horizon;

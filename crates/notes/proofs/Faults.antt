@@ -1,5 +1,4 @@
 -- A word takes up to two numbers.
-use mathlib.Core.Bool.{true, false}
 use Prim.Native.Nat.{ℕ, _≤_}
 use native.Mathlib.Omega.{arith}
 use Rattle.table.specs.Fold.{if}

@@ -6,7 +6,7 @@ use crate::draft::is_gap;
 use crate::numbers::fits;
 ghost use mathlib.Core.Bool.{false};
 ghost use mathlib.Core.Path.{_≡_};
-ghost use Rattle.notes.specs.Heard.{fieldOf, no-field, fieldWith, isMarked, heardOf, unheard, heardIn, opensAt, isEnd, heardWith};
+ghost use Rattle.notes.specs.Heard.{no-field, fieldWith, isMarked, heardOf, unheard, heardIn, opensAt, isEnd, heardWith};
 
 // A field: its first bytes, how many there are, and whether each is a digit. One that is longer than what is kept counts as one byte longer.
 pub struct Field {

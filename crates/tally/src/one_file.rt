@@ -23,7 +23,7 @@ pub fn tally_file(totals: Counts, name: &[u8], file: &mut [u8]) -> Counts {
     totals.and(counts)
 }
 
-// Reads a file, and answers how many bytes it has. A read that fails at once, as that of a folder, or on the way fails again behind them.
+// Reads a file, and answers how many bytes it has. Where a read failed, at once as of a folder or later, one more read fails too, and shows it.
 fn read_file(name: &[u8], file: &mut [u8]) -> usize
     ensures { λ r. ⌜ LengthIn r (now (file .exit)) ⌝ }
 {
@@ -41,11 +41,11 @@ fn read_file(name: &[u8], file: &mut [u8]) -> usize
     len
 }
 
-// Says that a file cannot be opened or read, and answers 0: it is refused by 16, as one that has no bytes.
+// Says that a file cannot be read, and answers 0: it is refused by 16, as one that has no bytes.
 fn unread(name: &[u8]) -> usize
     ensures { λ r. ⌜ r ≡ 0 ⌝ }
 {
-    say(b"tally: cannot open ");
+    say(b"tally: cannot read ");
     say(name);
     say(b"\n");
     0

@@ -1,5 +1,4 @@
 -- The first number of some that is not 0, and where it stands.
-use mathlib.Core.Bool.{not}
 use mathlib.Core.Path.{_≡_, refl}
 use mathlib.Core.Logic.{_⊎_, inl, inr}
 use Prim.Native.Nat.{ℕ, zero, suc, _+_, _<_}

@@ -1,5 +1,4 @@
 -- The terms are those that the promise keeps.
-use mathlib.Core.Path.{_≡_, sym}
 use native.Mathlib.Omega.{arith}
 use Rattle.table.specs.Admission.{reservedAt}
 use Rattle.session.proofs.Promise.{promise}

@@ -23,7 +23,7 @@ NothingCut =
 abbrev pub termsAt : Table → ℕ → Terms
 termsAt t i = termsOf (t .worst) (t .padding) (reservedAt t i)
 
--- The terms of a stream are kept by a job that was closed: in time, charged with more than the disk time, with as many completions and expired slots as requests.
+-- The terms of a stream are kept by a job that was closed: in time, charged with more than the disk time, and its completions and expired slots come to at least the requests.
 pub record Kept (t : Table) (i : ℕ) (m : Moment) (earlier : List Moment) : Type 0 where
   pub in-time : m .before .clock .0 ≤ dueOf t i earlier
   pub more : termsAt t i .above < chargeOf t i earlier

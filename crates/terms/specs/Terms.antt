@@ -21,15 +21,15 @@ termsOf worst k e =
 unfoldable pub hundredthsOf : ℕ → ℕ → ℕ
 hundredthsOf part whole = if (ltb part whole) (part * 10_000 / whole) 10_000
 
--- a number that was given, and the limit that it was held to
+-- a number of the table, or one that is worked out from it, and the limit that it is held to
 abbrev pub found : ℕ → ℕ → Finding
-found n limit = record { given = n; limit = limit }
+found n limit = record { value = n; limit = limit }
 
 -- a number outside its range, and the end of the range that it is beyond
 unfoldable pub beyond : ℕ → ℕ → ℕ → Finding
 beyond low high n = found n (if (ltb n low) low high)
 
--- which of the table's numbers 1 to 4 speak of
+-- the number of the table that the refusal 1, 2, 3 or 4 speaks of
 unfoldable pub numbersFinding : Table → ℕ → Finding
 numbersFinding t number =
     if (eqb number 1) (beyond 1 streams-max (t .count))
@@ -48,10 +48,11 @@ budgetFinding worst k e p = if (eqb e 0) (found e 1) (found (grantedOf worst k e
 unfoldable pub streamFinding : ℕ → ℕ → ℕ → ℕ → ℕ → ℕ → Finding
 streamFinding number worst span k e p = if (eqb number 5) (periodFinding span p) (budgetFinding worst k e p)
 
--- the first stream that has a refusal of its own, counted from 1; 0 where none has
+-- the number of stream i, counted from 1, where f has a refusal for it; else 0
 unfoldable pub numbered : (ℕ → ℕ) → ℕ → ℕ
 numbered f i = given (not (eqb (f i) 0)) (i + 1)
 
+-- the first stream that has a refusal of its own, counted from 1; 0 where none has
 unfoldable pub refusedStream : Table → ℕ
 refusedStream t = firstTo (numbered (streamRefusalAt t)) (t .count)
 
@@ -59,15 +60,17 @@ refusedStream t = firstTo (numbered (streamRefusalAt t)) (t .count)
 abbrev pub verdict : ℕ → ℕ → Finding → Verdict
 verdict number stream finding = record { number = number; stream = stream; finding = finding }
 
--- "Opening: 1, 2, 3, 4, then 5 and 6 stream by stream, then 7": where no number and no stream refuses, the load is found beside H
+-- what refuses stream i, and what was found of it
 unfoldable pub streamVerdict : Table → ℕ → Verdict
 streamVerdict t i =
     let number = streamRefusalAt t i in
     verdict number (i + 1) (streamFinding number (t .worst) (t .span) (t .padding) (reservedAt t i) (periodAt t i))
 
+-- the load beside H, and 7 where it is above
 unfoldable pub loadVerdict : Table → Verdict
 loadVerdict t = verdict (given (ltb (t .span) (loadOf t)) 7) 0 (found (loadOf t) (t .span))
 
+-- "Opening: 1, 2, 3, 4, then 5 and 6 stream by stream, then 7"
 unfoldable pub verdictOf : Table → Verdict
 verdictOf t =
     if (not (eqb (numbersRefusal t) 0)) (verdict (numbersRefusal t) 0 (numbersFinding t (numbersRefusal t)))

@@ -7,7 +7,7 @@ ghost use Rattle.table.specs.Admission.{numbersRefusal, streamsRefusal};
 use table::Padding;
 use table::Table;
 
-// The terms of a stream: the padding that k stands for, the granted budget, the disk time that a period has more than, and the requests that it has at least.
+// The terms of a stream: the padding that k stands for, the granted budget, the disk time that each period gets more than, and the least number of requests.
 pub struct Terms {
     pub padding: u32,
     pub granted: u64,
@@ -15,9 +15,9 @@ pub struct Terms {
     pub requests: u64,
 }
 
-// A number that was given, and the limit that it was held to.
+// A number of the table, or one that is worked out from it, and the limit that it is held to.
 pub struct Finding {
-    pub given: u64,
+    pub value: u64,
     pub limit: u64,
 }
 
@@ -115,7 +115,7 @@ fn beyond(low: u64, high: u64, n: u64) -> Finding
     ensures { λ r. ⌜ r ≡ beyond low high n ⌝ }
 {
     Finding {
-        given: n,
+        value: n,
         limit: if n < low { low } else { high },
     }
 }
@@ -173,7 +173,7 @@ fn period_finding(span: u32, p: u32) -> Finding
         return beyond(Table::PERIOD_MIN as u64, Table::PERIOD_MAX as u64, p as u64);
     }
     Finding {
-        given: (span % p) as u64,
+        value: (span % p) as u64,
         limit: 0,
     }
 }
@@ -183,10 +183,10 @@ fn budget_finding(worst: u32, k: u32, e: u32, p: u32) -> Finding
     ensures { λ r. ⌜ r ≡ budgetFinding worst k e p ⌝ }
 {
     if e == 0 {
-        return Finding { given: 0, limit: 1 };
+        return Finding { value: 0, limit: 1 };
     }
     Finding {
-        given: table::granted(worst, k, e),
+        value: table::granted(worst, k, e),
         limit: p as u64,
     }
 }
@@ -202,7 +202,7 @@ fn load_verdict(t: Table) -> Verdict
         number: if span < load { 7 } else { 0 },
         stream: 0,
         finding: Finding {
-            given: load,
+            value: load,
             limit: span,
         },
     }

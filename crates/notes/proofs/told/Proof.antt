@@ -1,6 +1,5 @@
 -- `told` hands on what the writer says.
 use mathlib.Core.Path.{sym, ap, _∙_}
-use Rattle.file.specs.declared.Writing.{Writing}
 use Rattle.notes.specs.Notes.{told}
 use Rattle.notes.proofs.told.Statement.{statement}
 use Rattle.notes.proofs.told.Tie as tie

@@ -1,5 +1,4 @@
 -- `is_end` asks for each byte that ends a field.
-use Rattle.notes.specs.Heard.{isEnd}
 use Rattle.notes.proofs.heard.is_end.Statement.{statement}
 use Rattle.notes.proofs.heard.is_end.Tie as tie
 

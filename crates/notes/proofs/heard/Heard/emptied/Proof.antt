@@ -1,5 +1,4 @@
 -- `emptied` forgets the number.
-use Rattle.notes.specs.Heard.{no-field}
 use Rattle.notes.proofs.heard.Heard.emptied.Statement.{statement}
 use Rattle.notes.proofs.heard.Heard.emptied.Tie as tie
 

@@ -1,5 +1,4 @@
 -- `none` has no byte of either.
-use Rattle.notes.specs.Heard.{unheard}
 use Rattle.notes.proofs.heard.Heard.none.Statement.{statement}
 use Rattle.notes.proofs.heard.Heard.none.Tie as tie
 

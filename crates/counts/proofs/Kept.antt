@@ -1,19 +1,60 @@
 -- What the tally has to do with the promise and with charges.
 use mathlib.Core.Bool.{Bool, true, false}
 use mathlib.Core.List.{List, [], _∷_, _++_}
-use mathlib.Core.Path.{_≡_, refl, ap}
-use Prim.Native.Nat.{ℕ, _+_, _*_, _≤_}
+use mathlib.Core.Logic.{_⊎_, inl, inr}
+use mathlib.Core.Path.{_≡_, refl, ap, subst}
+use Prim.Native.Nat.{ℕ, suc, _+_, _*_, _≤_, _<_}
 use native.Mathlib.Omega.{arith}
 use borrow.Author.Tests.{le-ltb, eqb-true}
-use Rattle.table.proofs.Tests.{both as both-true}
+use Rattle.table.proofs.Tests.{both as both-true, le-or-lt}
 use Rattle.table.specs.Fold.{if}
 use Rattle.table.specs.declared.Table.{Table}
 use Rattle.calls.specs.Replies.{numberOf}
 use Rattle.session.specs.Session.{streamAt}
-use Rattle.session.specs.History.{Moment, closes, replied, reported, expiry, chargeOf, sinceClosing, historyOf}
+use Rattle.session.specs.History.{Moment, closes, closings, replied, reported, expiry, chargeOf, sinceClosing, historyOf}
 use Rattle.session.proofs.Promise.{promise, open-charge}
 use Rattle.counts.specs.Tally.{together, closesLate, added, tallyOf}
-use Rattle.counts.specs.Laws.{NoneIsLate, ChargesAddUp, closedCharges}
+use Rattle.counts.specs.Laws.{Reported, JobsAreClosings, LargestIsReported, NoneIsLate, ChargesAddUp, closedCharges}
+
+-- each closing is a job
+pub jobs-are-closings : JobsAreClosings
+unfolding tallyOf together added closings if
+jobs-are-closings i [] = refl
+jobs-are-closings i (m ∷ past) = rw (jobs-are-closings i past) (go (closes i m))
+  where
+    go : (b : Bool) → closings i past + if b 1 0 ≡ if b (suc (closings i past)) (closings i past)
+    go true = omega arith
+    go false = omega arith
+
+-- the largest is one of the completions, and no smaller than any
+largest-among : (i : ℕ) (past : List Moment) → (tallyOf i past .largest ≡ 0) ⊎ Reported i (tallyOf i past .largest) past
+unfolding tallyOf together added
+largest-among i [] = inl refl
+largest-among i (m ∷ past) = go (largest-among i past) (le-or-lt (tallyOf i past .largest) (reported i m))
+  where
+    go : (tallyOf i past .largest ≡ 0) ⊎ Reported i (tallyOf i past .largest) past
+        → (tallyOf i past .largest ≤ reported i m) ⊎ (reported i m < tallyOf i past .largest)
+        → (tallyOf i (m ∷ past) .largest ≡ 0) ⊎ Reported i (tallyOf i (m ∷ past) .largest) (m ∷ past)
+    go k (inl here) = inr (record { later = []; m = m; earlier = past; stands = refl; is = omega (arith, here) })
+    go (inl none) (inr before) = absurd (let never : reported i m < 0 = rw none at before in omega arith)
+    go (inr k) (inr before) =
+        inr
+        (record {
+          later = m ∷ k .later;
+          m = k .m;
+          earlier = k .earlier;
+          stands = ap (λ (l : List Moment). m ∷ l) (k .stands);
+          is = omega (arith, k .is, before);
+        })
+
+largest-low : (i : ℕ) (later : List Moment) (m : Moment) (earlier : List Moment) → reported i m ≤ tallyOf i (later ++ (m ∷ earlier)) .largest
+unfolding tallyOf together added
+largest-low i [] m earlier = omega arith
+largest-low i (n ∷ later) m earlier = omega (arith, largest-low i later m earlier)
+
+pub largest-is-reported : LargestIsReported
+largest-is-reported i past =
+    (largest-among i past, λ later m earlier e. subst (λ (l : List Moment). reported i m ≤ tallyOf i l .largest) e (largest-low i later m earlier))
 
 -- what a test does not pass is not counted
 counted-none : (b : Bool) → b ≡ false → 0 + if b 1 0 ≡ 0

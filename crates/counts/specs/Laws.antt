@@ -1,8 +1,9 @@
 -- What is proved of counts.
 use mathlib.Core.Bool.{true}
 use mathlib.Core.List.{List, [], _∷_, _++_}
+use mathlib.Core.Logic.{_⊎_}
 use mathlib.Core.Path.{_≡_}
-use Prim.Native.Nat.{ℕ, _+_, _-_, _*_, _^_, _<_}
+use Prim.Native.Nat.{ℕ, _+_, _-_, _*_, _^_, _≤_, _<_}
 use Rattle.table.specs.Fold.{if, listTo}
 use Rattle.table.specs.Ranges.{streams-max}
 use Rattle.table.specs.Admission.{admissionOf}
@@ -12,7 +13,7 @@ use Rattle.session.specs.Session.{streamAt}
 use Rattle.session.specs.declared.Session.{Session}
 use Rattle.session.specs.Calls.{after}
 use Rattle.session.specs.Opening.{openingOf}
-use Rattle.session.specs.History.{Moment, historyOf, withinBounds, closes}
+use Rattle.session.specs.History.{Moment, historyOf, withinBounds, closes, closings, reported}
 use Rattle.file.specs.declared.event.Event.{Event}
 use Rattle.listing.specs.Line.{rendered, refusedFields}
 use Rattle.trace.specs.Trace.{applied, listingOf}
@@ -34,10 +35,16 @@ NoneAddsNothing = (files : List (List ℕ)) → both none (totalsOf files) ≡ t
 abbrev pub TotalsJoin : Type 0
 TotalsJoin = (one two : List (List ℕ)) → totalsOf (one ++ two) ≡ both (totalsOf one) (totalsOf two)
 
--- The totals of one file are its own counts. "A refused file gets its number and adds nothing", and the number is in the line that `replay` prints of it.
+-- The totals of one file are its own counts.
 abbrev pub OneFile : Type 0
 OneFile = (file : List ℕ) → totalsOf (file ∷ []) ≡ filedOf file .counts
 
+-- So the totals may be kept while files are read, one after the other.
+abbrev pub OneFileMore : Type 0
+OneFileMore =
+    (files : List (List ℕ)) (file : List ℕ) → totalsOf (files ++ (file ∷ [])) ≡ both (totalsOf files) (filedOf file .counts)
+
+-- "A refused file gets its number and adds nothing", and the number is in the line that `replay` prints of it.
 abbrev pub RefusedAddsNothing : Type 0
 RefusedAddsNothing =
     (file : List ℕ) → (filedOf file .refusal ≡ 0 → ⊥)
@@ -55,10 +62,22 @@ abbrev pub SumsEnd : Type 0
 SumsEnd =
     (both (timed (2 ^ 64 - 1)) (timed 0) ≡ timed (2 ^ 64 - 1)) × (both (timed (2 ^ 64 - 1)) (timed 1) ≡ passed)
 
--- So the totals may be kept while files are read, one after the other.
-abbrev pub OneFileMore : Type 0
-OneFileMore =
-    (files : List (List ℕ)) (file : List ℕ) → totalsOf (files ++ (file ∷ [])) ≡ both (totalsOf files) (filedOf file .counts)
+-- The jobs of a tally are those that the promise speaks of: as many as it says were closed.
+abbrev pub JobsAreClosings : Type 0
+JobsAreClosings = (i : ℕ) (past : List Moment) → tallyOf i past .jobs ≡ closings i past
+
+-- The largest completion is one that was reported, or 0 where none was, and none is larger.
+pub record Reported (i n : ℕ) (past : List Moment) : Type 0 where
+  pub later : List Moment
+  pub m : Moment
+  pub earlier : List Moment
+  pub stands : later ++ (m ∷ earlier) ≡ past
+  pub is : reported i m ≡ n
+
+abbrev pub LargestIsReported : Type 0
+LargestIsReported =
+    (i : ℕ) (past : List Moment) → ((tallyOf i past .largest ≡ 0) ⊎ Reported i (tallyOf i past .largest) past)
+    × ((later : List Moment) (m : Moment) (earlier : List Moment) → later ++ (m ∷ earlier) ≡ past → reported i m ≤ tallyOf i past .largest)
 
 -- Within the bounds of the promise no job is late.
 abbrev pub NoneIsLate : Type 0

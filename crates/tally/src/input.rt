@@ -6,13 +6,13 @@ ghost use Prim.Native.Nat.{_≤_};
 ghost use lib.ListN.{length};
 
 // The names so far: how much of the next one is in its buffer, and what was counted of the files before it.
-pub struct Names {
+pub(crate) struct Names {
     pub len: usize,
     pub totals: Counts,
 }
 
 // The names so far, and whether there may be more of them.
-pub struct Input {
+pub(crate) struct Input {
     pub names: Names,
     pub more: bool,
     pub failed: bool,
@@ -20,7 +20,7 @@ pub struct Input {
 
 // Tallies the files that standard input names.
 // A proved loop has to end, and nothing says that an input does. So the loop counts its turns down, from a number that no run uses up.
-pub fn tally_input(file: &mut [u8]) -> Input {
+pub(crate) fn tally_input(file: &mut [u8]) -> Input {
     let mut name = io::buffer();
     let totals = Counts::none();
     let names = Names { len: 0, totals };

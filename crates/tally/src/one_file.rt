@@ -8,7 +8,7 @@ ghost use mathlib.Core.Path.{_≡_};
 ghost use Rattle.io.specs.Counts.{Counts as LengthIn};
 
 // Prints what is counted of a file, and adds it to the totals.
-pub fn tally_file(totals: Counts, name: &[u8], file: &mut [u8]) -> Counts {
+pub(crate) fn tally_file(totals: Counts, name: &[u8], file: &mut [u8]) -> Counts {
     io::write_all(STDOUT_FILENO, b"file ");
     io::write_all(STDOUT_FILENO, name);
     io::write_all(STDOUT_FILENO, b"\n");

@@ -8,7 +8,7 @@ use table::Table;
 ghost use Rattle.listing.specs.Line.{Within};
 
 // Prints the totals, or says that there are none.
-pub fn print_totals(totals: Counts) {
+pub(crate) fn print_totals(totals: Counts) {
     if totals.over {
         say(b"tally: a total passes 64 bits\n");
         return;
@@ -18,7 +18,7 @@ pub fn print_totals(totals: Counts) {
 }
 
 // Prints the header, and the line of each of the first streams. Where a sum has passed 64 bits there is no number to print.
-pub fn print_counts(counts: Counts, count: usize) {
+pub(crate) fn print_counts(counts: Counts, count: usize) {
     if counts.over {
         return;
     }
@@ -44,7 +44,7 @@ fn print_row(stream: u64, row: Tally) {
     ));
 }
 
-pub fn print(text: Text)
+pub(crate) fn print(text: Text)
     requires { ⌜ Within text ⌝ }
 {
     let bytes = text.bytes;
@@ -52,6 +52,6 @@ pub fn print(text: Text)
     io::write_all(STDOUT_FILENO, &bytes[..len]);
 }
 
-pub fn say(words: &[u8]) {
+pub(crate) fn say(words: &[u8]) {
     io::write_all(STDERR_FILENO, words);
 }

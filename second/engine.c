@@ -27,7 +27,7 @@ static struct reply refusal(enum number number)
 // --- Reservation table ---
 
 // "Zero stands for the default, which is 1."
-static uint32_t padding_of(const struct table *t)
+uint32_t padding_of(const struct table *t)
 {
     return t->padding == 0 ? PADDING_DEFAULT : t->padding;
 }

@@ -114,6 +114,7 @@ struct reply session_clock(struct session *s, uint64_t time);
 uint64_t session_horizon(const struct session *s);
 uint64_t session_latest_safe(const struct session *s);
 uint64_t session_filled(const struct session *s, uint64_t stream);
+uint32_t padding_of(const struct table *t);
 uint64_t granted_budget(const struct table *t, const struct reservation *r);
 
 #endif

@@ -1,7 +1,9 @@
-"""Events and session files as docs/FORMAT.md lays them out, for the project's scripts."""
+"""Events and session files as docs/FORMAT.md lays them out, and what a padding stands for, for the project's scripts."""
 import struct
 
 TURN = (2, 0, 0)
+# What a padding of 0 stands for.
+PADDING_DEFAULT = 1
 
 
 def arrival(stream, place):
@@ -18,6 +20,11 @@ def done(duration):
 
 def clock(time):
     return (5, 0, time)
+
+
+def padding_meant(k):
+    """The padding that a table's k stands for."""
+    return k or PADDING_DEFAULT
 
 
 def session_file(worst, span, padding, streams, events):

@@ -5,7 +5,7 @@ but that a move closes every job whose deadline is the horizon.
 """
 import struct
 
-from session_file import parts
+from session_file import padding_meant, parts
 
 ARRIVAL, TURN, OWN_TURN, DONE, CLOCK = range(1, 6)
 CALLS = {ARRIVAL: "arrival", TURN: "turn", OWN_TURN: "own turn", DONE: "done", CLOCK: "clock"}
@@ -82,7 +82,7 @@ class Session:
         self.arrivals, self.requests, self.expired, self.refusals, self.reports, self.moves = [], [], [], [], [], []
         self.waits, self.waiting = [], []
         self.sent, self.closed = None, []
-        self.jobs = [Job(i + 1, 1, reserved + (self.padding or 1) * self.worst, period, 0) for i, (reserved, period) in enumerate(streams)]
+        self.jobs = [Job(i + 1, 1, reserved + padding_meant(self.padding) * self.worst, period, 0) for i, (reserved, period) in enumerate(streams)]
         takers = {ARRIVED: self.arrivals.append, SENT: self.send, EXPIRED: self.expire, MOVED: self.move, WAIT: self.waiting.append,
                   FINISHED: self.finish, OVERLONG: self.finish, TOLD: self.reports.append, LATE: self.reports.append}
         for line in lines:

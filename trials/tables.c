@@ -36,11 +36,6 @@ static bool make_periods(struct chance *c, struct table *t)
     return true;
 }
 
-static uint64_t padding_meant(const struct table *t)
-{
-    return t->padding == 0 ? PADDING_DEFAULT : t->padding;
-}
-
 // A worst-case time that leaves each stream 1 µs, or a whole worst-case time, besides its padding; 0 if none does.
 static uint64_t make_worst(struct chance *c, const struct table *t, bool whole)
 {
@@ -53,7 +48,7 @@ static uint64_t make_worst(struct chance *c, const struct table *t, bool whole)
         most = times > most ? times : most;
     }
     uint64_t room = whole ? t->span : t->span < sum ? 0 : t->span - sum;
-    uint64_t worst = room / (most + (padding_meant(t) + (whole ? 1 : 0)) * sum);
+    uint64_t worst = room / (most + (padding_of(t) + (whole ? 1 : 0)) * sum);
     if (worst > WORST_MAX)
         worst = percent(c, 70) ? WORST_MAX : worst % WORST_MAX + 1;
     uint64_t part = ONE_OF(c, parts);
@@ -169,7 +164,7 @@ static void named_case(struct chance *c, struct table *t)
 static void spoil_stream(struct chance *c, struct table *t)
 {
     struct reservation *r = &t->reservations[below(c, t->count)];
-    uint32_t padded = (uint32_t)(padding_meant(t) * t->worst);
+    uint32_t padded = (uint32_t)(padding_of(t) * t->worst);
     uint32_t periods[] = {0, PERIOD_MIN - 1, PERIOD_MIN, PERIOD_MAX, PERIOD_MAX + 1, r->period + 1, r->period * 2, t->span,
         r->period / 2, UINT32_MAX};
     uint32_t budgets[] = {0, 0, r->period - padded, r->period - padded + 1, r->period - t->worst, UINT32_MAX};

@@ -38,7 +38,7 @@ cases =
     ∷ gives "arrival 1 18446744073709551616\n" (Wrong 1 (TooLarge 64) Worst)
     ∷ gives "own 1 0 0\n" (Wrong 1 (Numbers 2) Worst)
     ∷ gives "worst\t1\nspan 1\t\n\tpadding \t 1\n\t\n" (Streamless 42 0)
-    ∷ gives "worst 1\r\nspan 1 \r\npadding 1# the default\r\n\r\nturn\r" (Streamless 58 5)
+    ∷ gives "worst 1\r\nspan 1 \r\npadding 1# as the card says\r\n\r\nturn\r" (Streamless 58 5)
     ∷ gives "turn\rturn\n" (Wrong 1 Return Worst)
     ∷ gives "turn \r # sent\n" (Wrong 1 Return Worst)
     ∷ gives "turn\r\r\n" (Wrong 1 Return Worst)

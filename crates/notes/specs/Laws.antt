@@ -118,7 +118,7 @@ composedIn events size notes = composedOf (bytesRead (read started (replicate (e
 -- Notes of listing (P), as they might be written by hand, are composed to the 234 bytes of its file.
 abbrev pub hand-written : List ℕ
 hand-written =
-    ascii "# listing (P)\nworst 25000\n  span  1000000\npadding 1 # the default\n\nstream 25000 250000\nstream 175000 500000\narrival 1 100\nturn\ndone 5000\nturn#\nclock 0105000\nturn\narrival 2 900\nturn\nclock 106000\ndone 25000 \nclock 160000"
+    ascii "# listing (P)\nworst 25000\n  span  1000000\npadding 1 # as the card says\n\nstream 25000 250000\nstream 175000 500000\narrival 1 100\nturn\ndone 5000\nturn#\nclock 0105000\nturn\narrival 2 900\nturn\nclock 106000\ndone 25000 \nclock 160000"
 
 abbrev pub ListingComposes : Type 0
 ListingComposes = composedIn 11 234 hand-written ≡ filed (Written 234) listing-file

@@ -6,6 +6,7 @@ use lib.Dec.{ltb, eqb}
 use lib.ListN.{take, replicate, set}
 use Rattle.table.specs.Fold.{if}
 use Rattle.table.specs.Ranges.{streams-max}
+use Rattle.table.specs.Admission.{withPadding}
 use Rattle.table.specs.declared.Table.{Table}
 use Rattle.file.specs.File.{events-max, event-size}
 use Rattle.file.specs.Reading.{eventsIn}
@@ -48,7 +49,7 @@ abbrev pub advanced : Notes → ℕ → Table → ℕ → ℕ → Notes
 advanced n numbers table events began =
     record { line = nextLine (n .line); numbers = numbers; table = table; events = events; began = began; draft = blank; heard = unheard; refused = n .refused; wrong = false }
 
--- a table with one number set, and with a stream more
+-- a table with one number set (`withPadding` is of `Admission`), and with a stream more
 abbrev pub withWorst : Table → ℕ → Table
 withWorst t x =
     record { worst = x; span = t .span; padding = t .padding; count = t .count; reserved = t .reserved; period = t .period }
@@ -56,10 +57,6 @@ withWorst t x =
 abbrev pub withSpan : Table → ℕ → Table
 withSpan t x =
     record { worst = t .worst; span = x; padding = t .padding; count = t .count; reserved = t .reserved; period = t .period }
-
-abbrev pub withPadding : Table → ℕ → Table
-withPadding t x =
-    record { worst = t .worst; span = t .span; padding = x; count = t .count; reserved = t .reserved; period = t .period }
 
 abbrev pub withStream : Table → ℕ → ℕ → Table
 withStream t e p =

@@ -21,7 +21,8 @@ pub use line::shown;
 use table::Table;
 ghost use mathlib.Core.Path.{_≡_};
 ghost use Prim.Native.Nat.{_<_};
-ghost use Rattle.notes.specs.Notes.{started, stopped, nextLine, advanced, withWorst, withSpan, withPadding, afterNumber, afterStream, beganBy, afterEvent, after, expectedBy, lengthened, writtenBy, told, read, lineRefusal, refusedBy, traceAfter, lineEnded, byteRead, bytesRead, filedBy, ended};
+ghost use Rattle.table.specs.Admission.{withPadding};
+ghost use Rattle.notes.specs.Notes.{started, stopped, nextLine, advanced, withWorst, withSpan, afterNumber, afterStream, beganBy, afterEvent, after, expectedBy, lengthened, writtenBy, told, read, lineRefusal, refusedBy, traceAfter, lineEnded, byteRead, bytesRead, filedBy, ended};
 
 // What has been read of some notes: the number of the line that is being read, how many of the three table numbers there are, the table so far,
 // how many events there are and in which line the first stands, or 0, the line so far and what a message can quote of it, the number by which an event was refused its place in the trace, or 0, and whether the line is wrong. Then nothing more is read.

@@ -1,4 +1,4 @@
--- Document 01's worked cases, one line each: what the rules give, beside what the document says. Those marked P and the others stand in two lists; the statements that cover them are `MarkedCasesHold` and `OtherCasesHold` of `Laws`.
+-- The documents' worked cases, one line each: what the rules give, beside what the document says. Those marked P and the others stand in two lists; the statements that cover them are `MarkedCasesHold` and `OtherCasesHold` of `Laws`.
 use mathlib.Core.List.{List, [], _∷_, _++_, map}
 use Prim.Native.Nat.{ℕ, zero, suc, _/_, _%_}
 use lib.ListN.{length, replicate, take}
@@ -42,6 +42,11 @@ admits t n = record { rules = (admissionOf t ∷ []) ∷ []; document = (n ∷ [
 -- "one stream, H = p = 1,000,000, W 25,000", with a padding k and a reserved time e
 abbrev pub alone : ℕ → ℕ → Table
 alone k e = table 25_000 1_000_000 k (e ∷ []) (1_000_000 ∷ [])
+
+-- what admission says of that stream with a padding of 0, and with one of 1
+abbrev pub byZeroAndOne : ℕ → ℕ → ℕ → Case
+byZeroAndOne e by-zero by-one =
+    record { rules = (admissionOf (alone 0 e) ∷ admissionOf (alone 1 e) ∷ []) ∷ []; document = (by-zero ∷ by-one ∷ []) ∷ [] }
 
 -- "g 50,000, p 250,000, W 25,000, release 0", after completions of the given durations
 unfoldable pub completed : List ℕ → Stream → Stream
@@ -166,7 +171,7 @@ markedCases =
     ∷ answers listed (replicate 17 (Arrival 1 5)) (replicate 16 20 ++ (9 ∷ []))
     ∷ []
 
--- the lines of the document that are not marked, and what else a reader may ask: a duration of W, W + 1, 0, 10,000,000 and 10,000,001; a clock at L = 200,000, at L + 1, and at the present time past L; two streams that share a deadline both close; a padding of 0 is one of 1; stream 1's 6 comes before stream 2's 5
+-- the lines of the document that are not marked, and what else a reader may ask: a duration of W, W + 1, 0, 10,000,000 and 10,000,001; a clock at L = 200,000, at L + 1, and at the present time past L; two streams that share a deadline both close; stream 1's 6 comes before stream 2's 5; document 02, Req 02, "A padding of 0 in a table now stands for 3": the lines of k 3 are those of k 0, and two tables that opened with 0 while it stood for 1 give 7 and 6 now
 unfoldable pub otherCases : List Case
 otherCases =
     answers single (oneRequest 25_000) (20 ∷ 21 ∷ 25 ∷ [])
@@ -179,7 +184,11 @@ otherCases =
     ∷ answers twins bothUsedUp (20 ∷ 21 ∷ 26 ∷ 20 ∷ 21 ∷ 26 ∷ 23 ∷ [])
     ∷ records twins bothUsedUp 0 (50_000 ∷ 100_000 ∷ 250_000 ∷ 0 ∷ [])
     ∷ records twins bothUsedUp 1 (50_000 ∷ 100_000 ∷ 250_000 ∷ 0 ∷ [])
-    ∷ admits (alone 0 950_000) 0
-    ∷ admits (alone 0 950_001) 7
     ∷ admits (table 25_000 1_000_000 1 (0 ∷ 25_000 ∷ []) (250_000 ∷ 300_000 ∷ [])) 6
+    ∷ admits (alone 0 900_000) 0
+    ∷ admits (alone 0 900_001) 7
+    ∷ admits (alone 0 925_000) 7
+    ∷ admits (alone 0 925_001) 6
+    ∷ byZeroAndOne 920_000 7 0
+    ∷ byZeroAndOne 950_000 6 0
     ∷ []

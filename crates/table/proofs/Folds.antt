@@ -9,7 +9,7 @@ use lib.Dec.{leb, eqb}
 use borrow.Author.Tests.{le-leb, ne-eqb}
 use Rattle.table.specs.Fold.{if, sumTo, smallestTo, largestTo, allTo, someTo, countTo}
 use Rattle.table.specs.Refusal.{_or-next_, firstTo}
-use Rattle.table.proofs.Tests.{le-or-lt, both, neither, or-next-none, or-next-first}
+use Rattle.table.proofs.Tests.{le-or-lt, both, neither, or-next-none, or-next-is, or-next-first}
 
 -- a fold's last step, or one before it
 pub at-or-below : (P : ℕ → Type 0) {n : ℕ} (i : ℕ) → i < suc n → P n → (i < n → P i) → P i
@@ -110,6 +110,12 @@ smallest-is P f n pos h = go n (h 0 pos) h
     go : (n : ℕ) → P (f 0) → ((i : ℕ) → i < n → P (f i)) → P (smallestTo f n)
     go zero first h = first
     go (suc n) first h = pick (smallestTo f n) (f n) (go n first (λ i l. h i (omega arith))) (h n (omega arith))
+
+-- what 0 and each refusal passes, the first of them passes
+pub first-is : (P : ℕ → Type 0) → P 0 → (f : ℕ → ℕ) (n : ℕ) → ((i : ℕ) → i < n → P (f i)) → P (firstTo f n)
+unfolding firstTo
+first-is P none f zero h = none
+first-is P none f (suc n) h = or-next-is P (firstTo f n) (f n) (first-is P none f n (λ i l. h i (omega arith))) (h n (omega arith))
 
 -- where nothing is refused before i, and i is refused, that is the first refusal
 pub first-at : (f : ℕ → ℕ) (n i : ℕ) → i < n → firstTo f i ≡ 0 → (f i ≡ 0 → ⊥) → firstTo f n ≡ f i

@@ -2,6 +2,7 @@ pub mod Tests
 pub mod Folds
 pub mod Lists
 pub mod Judged
+pub mod Paddings
 pub mod LentTables
 pub mod Taking
 pub mod Loops

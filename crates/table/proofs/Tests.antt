@@ -69,6 +69,12 @@ unfolding _or-next_
 or-next-high zero m top l k = k
 or-next-high (suc n) m top l k = l
 
+-- what each of two refusals passes, the first of them passes
+pub or-next-is : (P : ℕ → Type 0) (n m : ℕ) → P n → P m → P (n or-next m)
+unfolding _or-next_
+or-next-is P zero m pn pm = pm
+or-next-is P (suc n) m pn pm = pn
+
 -- the first refusal stands
 pub or-next-first : (n m : ℕ) → (n ≡ 0 → ⊥) → n or-next m ≡ n
 unfolding _or-next_

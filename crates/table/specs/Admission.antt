@@ -17,7 +17,12 @@ reservedAt t i = getD (t .reserved) i 0
 abbrev pub periodAt : Table → ℕ → ℕ
 periodAt t i = getD (t .period) i 0
 
--- "k, the padding, 0 to 3. Zero stands for the default, which is 1."
+-- the same table with another padding
+abbrev pub withPadding : Table → ℕ → Table
+withPadding t k =
+    record { worst = t .worst; span = t .span; padding = k; count = t .count; reserved = t .reserved; period = t .period }
+
+-- "Zero stands for the default"
 unfoldable pub paddingOf : ℕ → ℕ
 paddingOf k = if (eqb k 0) padding-default k
 

@@ -1,12 +1,13 @@
 -- What is proved of tables.
 use mathlib.Core.Bool.{true}
 use mathlib.Core.List.{List}
+use mathlib.Core.Logic.{_⊎_}
 use mathlib.Core.Path.{_≡_}
 use Prim.Native.Nat.{ℕ, _*_, _/_, _<_}
 use lib.ListN.{length}
 use Rattle.table.specs.Ranges.{streams-max}
 use Rattle.table.specs.Refusal.{outside}
-use Rattle.table.specs.Admission.{periodAt, smallestPeriod, numbersRefusal, streamsRefusal, admissionOf}
+use Rattle.table.specs.Admission.{periodAt, withPadding, smallestPeriod, numbersRefusal, streamsRefusal, admissionOf}
 use Rattle.table.specs.Reservations.{lentTable}
 use Rattle.table.specs.declared.Table.{Table}
 use Rattle.table.specs.declared.reservations.Reservation.{Reservation}
@@ -17,6 +18,18 @@ LoadIsExact =
     (t : Table) → numbersRefusal t ≡ 0 → streamsRefusal t ≡ 0
     → ((i : ℕ) → i < t .count → t .span / periodAt t i * periodAt t i ≡ t .span)
     × (t .span / smallestPeriod t * smallestPeriod t ≡ t .span)
+
+-- Document 02, Req 02: "A padding of 0 in a table now stands for 3.": it is admitted, or refused by the same number, as with 3.
+abbrev pub ZeroStandsForThree : Type 0
+ZeroStandsForThree = (t : Table) → admissionOf (withPadding t 0) ≡ admissionOf (withPadding t 3)
+
+-- "Tables that relied on the old meaning must say 1. [...] Admission with 0 gets stricter, so files once opened may now give 7 or 6.": what is admitted with 0 is admitted with 1, and what is admitted with 1 is with 0 admitted, or refused by 7 or by 6.
+abbrev pub ZeroIsStricter : Type 0
+ZeroIsStricter =
+    (t : Table)
+    → let by-zero = admissionOf (withPadding t 0) in
+    let by-one = admissionOf (withPadding t 1) in
+    (by-zero ≡ 0 → by-one ≡ 0) × (by-one ≡ 0 → (by-zero ≡ 0) ⊎ (by-zero ≡ 7) ⊎ (by-zero ≡ 6))
 
 -- 1 "no stream, or more than 8": a slice with no record, and one with more than eight, are refused by 1, whatever else there is.
 abbrev pub LengthRefused : Type 0

@@ -1,4 +1,4 @@
--- The ranges of a table's numbers, in document 01's words.
+-- The ranges of a table's numbers, in document 01's words, and the padding that 0 stands for, in document 02's.
 use Prim.Native.Nat.{ℕ}
 
 -- "up to eight streams"
@@ -19,12 +19,13 @@ span-min = 1_000
 abbrev pub span-max : ℕ
 span-max = 600_000_000
 
--- "k, the padding, 0 to 3. Zero stands for the default, which is 1."
+-- "k, the padding, 0 to 3."
 abbrev pub padding-max : ℕ
 padding-max = 3
 
+-- document 02, Req 02: "A padding of 0 in a table now stands for 3."
 abbrev pub padding-default : ℕ
-padding-default = 1
+padding-default = 3
 
 -- "period p (1,000 to 60,000,000, dividing H)"
 abbrev pub period-min : ℕ

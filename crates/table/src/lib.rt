@@ -72,7 +72,7 @@ impl Table {
 pub struct Padding(pub u32);
 
 impl Padding {
-    pub const DEFAULT: u32 = 1;
+    pub const DEFAULT: u32 = 3;
 
     pub const MAX: u32 = 3;
 

@@ -1,4 +1,5 @@
 -- `Padding::of` gives the padding that k stands for, by the two cases of its test.
+use mathlib.Core.Path.{refl}
 use borrow.Author.Tests.{eq-eqb, ne-eqb}
 use Rattle.table.specs.Fold.{if}
 use Rattle.table.specs.Admission.{paddingOf}
@@ -7,7 +8,7 @@ use Rattle.table.proofs.Padding.of.Tie as tie
 
 returns : tie.Need-returns
 unfolding paddingOf if
-returns c = rw (eq-eqb _ _ (c .if1 .taken))
+returns c = rw (eq-eqb _ _ (c .if1 .taken)) refl
 
 returns-2 : tie.Need-returns-2
 unfolding paddingOf if

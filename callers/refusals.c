@@ -156,11 +156,15 @@ static void openings(void)
     } tried[] = {
         {100, 20000, 1, 0, 1}, {0, 0, UINT32_MAX, 0, 1}, {100, 20000, 1, 9, 1}, {0, 20000, 1, 8, 2}, {UINT32_MAX, 20000, 1, 8, 2},
         {100, 999, 1, 8, 3}, {100, UINT32_MAX, 1, 8, 3}, {100, 20000, 4, 8, 4}, {100, 30000, 1, 8, 5}, {1000000, 20000, 1, 8, 6}, {5000, 20000, 1, 8, 7}, {100, 20000, 1, 8, 0},
+        /* 0 stands for 3: the load is 160 + 25 W, and g is 20 + 3 W; with 1 they are 160 + 9 W and 20 + W */
+        {793, 20000, 0, 8, 0}, {794, 20000, 0, 8, 7}, {794, 20000, 3, 8, 7}, {794, 20000, 1, 8, 0},
+        {6660, 20000, 0, 1, 7}, {6661, 20000, 0, 1, 6}, {6661, 20000, 3, 1, 6}, {6661, 20000, 1, 1, 0},
     };
     for (size_t i = 0; i < sizeof tried / sizeof tried[0]; i++) {
         struct yerbagunt_opening o = yerbagunt_open(tried[i].worst, tried[i].span, tried[i].padding, (struct yerbagunt_reservations){table, tried[i].length});
         hold(o.number == tried[i].number, "opening answers by number", i);
         hold(o.number == 0 || memcmp(&o.session, &zero, sizeof zero) == 0, "a refused opening stands beside the all-zero session", i);
+        hold(o.number != 0 || o.session.padding == tried[i].padding, "a session keeps its padding as given", i);
     }
 }
 

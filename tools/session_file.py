@@ -3,7 +3,7 @@ import struct
 
 TURN = (2, 0, 0)
 # What a padding of 0 stands for.
-PADDING_DEFAULT = 1
+PADDING_DEFAULT = 3
 
 
 def arrival(stream, place):

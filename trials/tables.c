@@ -130,7 +130,7 @@ void make_far_table(struct chance *c, struct table *t)
     memset(t, 0, sizeof *t);
     t->worst = WORST_MAX - (uint32_t)below(c, 3);
     t->span = SPAN_MAX;
-    t->padding = (uint32_t)below(c, 2);
+    t->padding = 1;
     t->count = 1 + (uint32_t)below(c, 2);
     for (uint32_t i = 0; i < t->count; i++) {
         t->reservations[i].reserved = 1 + (uint32_t)below(c, t->worst - 1);
@@ -150,11 +150,11 @@ static void limit_case(struct chance *c, struct table *t)
     *t = (struct table){worst, period * times, padding, 1, {{reserved, period}}};
 }
 
-// The cases that document 01 names, one stream with H = p = 1,000,000 and W 25,000.
+// The cases that document 01 names, one stream with H = p = 1,000,000 and W 25,000; and with k 0, which stands for 3.
 static void named_case(struct chance *c, struct table *t)
 {
     static const uint32_t cases[][2] = {{1, 950000}, {1, 950001}, {1, 975000}, {1, 975001}, {3, 900000}, {3, 900001},
-        {0, 950000}, {0, 950001}};
+        {0, 900000}, {0, 900001}, {0, 925000}, {0, 925001}, {0, 950000}};
     const uint32_t *one = ONE_OF(c, cases);
     *t = (struct table){25000, 1000000, one[0], 1, {{one[1], 1000000}}};
     if (percent(c, 15))

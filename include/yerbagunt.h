@@ -24,8 +24,8 @@
 /* The version of this header and of its library. Another major number: the layout of a struct or an answer changed; read what changed, and
  * compile anew. Another minor number: something was added, and programs go on as they are. Another patch: neither.
  * The numbers of replies keep their meaning through all of them. */
-#define YERBAGUNT_VERSION "1.0.0"
-#define YERBAGUNT_VERSION_MAJOR 1
+#define YERBAGUNT_VERSION "2.0.0"
+#define YERBAGUNT_VERSION_MAJOR 2
 #define YERBAGUNT_VERSION_MINOR 0
 #define YERBAGUNT_VERSION_PATCH 0
 
@@ -98,7 +98,8 @@ struct yerbagunt_stream {
 
 /* A session. Read its cells as you like; a call answers 31 to one whose cells were changed into what no session is. */
 struct yerbagunt_session {
-    uint32_t worst, span, padding;
+    uint32_t worst, span;
+    uint32_t padding; /* k as it was given; 0 stands for 3 */
     uint32_t order; /* 0, nearest first; any other number is answered 31 */
     uint64_t count, clock, head;
     uint64_t served; /* the stream whose request is at the disk, or 0 */
@@ -183,7 +184,8 @@ struct yerbagunt_written {
     uint64_t number, length;
 };
 
-/* Opens a session with W, H, k and the records of a table, of any length: 1 to 7. */
+/* Opens a session with W, H, k and the records of a table, of any length: 1 to 7.
+ * A stream's granted budget g is e and k times W, where a k of 0 stands for 3. */
 struct yerbagunt_opening yerbagunt_open(uint32_t worst, uint32_t span, uint32_t padding, struct yerbagunt_reservations table);
 
 /* Puts a request at the end of a stream's queue: 31, 8, 9; 20. */

@@ -6,7 +6,7 @@
 #![allow(dead_code)]
 
 /// The version of this wrapper and its library, that of `yerbagunt.h`.
-pub const VERSION: &str = "1.0.0";
+pub const VERSION: &str = "2.0.0";
 
 pub const STREAMS_MAX: usize = 8;
 pub const QUEUE_MAX: usize = 16;
@@ -73,6 +73,7 @@ pub struct Stream {
 pub struct Session {
     pub worst: u32,
     pub span: u32,
+    /// k as it was given; 0 stands for 3.
     pub padding: u32,
     pub order: u32,
     pub count: u64,
@@ -191,7 +192,7 @@ unsafe extern "C" {
 // Each call is safe. What `yerbagunt.h` asks of a caller holds of Rust's references: they are valid and aligned, what one may change overlaps
 // with no other, and one thread at a time has it.
 impl Session {
-    /// Opens a session with W, H, k and a table of any length; or the number of the refusal, 1 to 7.
+    /// Opens a session with W, H, k, where 0 stands for 3, and a table of any length; or the number of the refusal, 1 to 7.
     pub fn open(worst: u32, span: u32, padding: u32, table: &[Reservation]) -> Result<Session, u64> {
         let opening = unsafe { yerbagunt_open(worst, span, padding, lent(table)) };
         if opening.number == number::OK { Ok(opening.session) } else { Err(opening.number) }

@@ -2,24 +2,24 @@
 use mathlib.Core.Bool.{Bool, true, false, not, _||_, false≢true}
 use mathlib.Core.Logic.{_⊎_, inl, inr}
 use mathlib.Core.Path.{_≡_, refl, sym}
-use Prim.Native.Nat.{ℕ, _+_, _*_, _/_, _%_, _≤_, _<_}
+use Prim.Native.Nat.{ℕ, _/_, _%_, _≤_, _<_}
 use native.Mathlib.Nat.{mul-le-mul-right, le-trans}
 use native.Mathlib.Omega.{arith}
 use lib.Dec.{ltb, eqb}
-use borrow.Author.Tests.{ltb-false, le-ltb}
+use borrow.Author.Tests.{le-ltb}
 use Rattle.table.specs.Ranges.{period-min, period-max}
-use Rattle.table.specs.Fold.{if, sumTo}
+use Rattle.table.specs.Fold.{if}
 use Rattle.table.specs.Refusal.{given, _or-next_, outside}
 use Rattle.table.specs.Admission.{reservedAt, periodAt, withPadding, paddingOf, grantedOf, shareOf, shareAt, sharesOf, smallestPeriod, loadOf, numbersRefusal, streamRefusal, streamRefusalAt, streamsRefusal, admissionOf}
 use Rattle.table.specs.Laws.{ZeroStandsForThree, ZeroIsStricter}
 use Rattle.table.specs.declared.Table.{Table}
-use Rattle.table.proofs.Tests.{given-none, or-next-none}
+use Rattle.table.proofs.Tests.{or-next-none}
 use Rattle.table.proofs.Judged.{admits-of}
 use Rattle.table.proofs.Folds.{sum-le, first-none, first-all, first-is}
 
 pub zero-stands-for-three : ZeroStandsForThree
 unfolding admissionOf numbersRefusal streamsRefusal streamRefusal loadOf sharesOf shareOf smallestPeriod grantedOf paddingOf if
-zero-stands-for-three t = refl
+zero-stands-for-three = (λ worst e. refl, λ t. refl)
 
 -- 6 is judged behind 5, by e and the budget: where neither refuses, another budget is refused by nothing where it fits the period, and by 6 or nothing whatever it is
 other-budget : (five nothing above other : Bool) → given five 5 or-next given (nothing || above) 6 ≡ 0
@@ -54,10 +54,10 @@ load-le t j k le =
           (λ i l. mul-le-mul-right (t .span / periodAt t i) (granted-le (t .worst) j k (reservedAt t i) le)),
     )
 
--- of a table that is admitted: its numbers are in range, and each stream is as it would be with another padding
-pub record Again (t : Table) (j k : ℕ) : Type 0 where
-  pub numbers : numbersRefusal (withPadding t k) ≡ 0
-  pub each : (i : ℕ) → i < t .count → let again = streamRefusalAt (withPadding t j) i in
+-- a table that is admitted with k, with j in its place: no number refuses it with k, and each stream is refused by nothing where its budget fits, and by 6 otherwise
+record Again (t : Table) (j k : ℕ) : Type 0 where
+  numbers : numbersRefusal (withPadding t k) ≡ 0
+  each : (i : ℕ) → i < t .count → let again = streamRefusalAt (withPadding t j) i in
       (grantedOf (t .worst) j (reservedAt t i) ≤ periodAt t i → again ≡ 0) × ((again ≡ 0) ⊎ (again ≡ 6))
 
 again : (t : Table) (j k : ℕ) → admissionOf (withPadding t k) ≡ 0 → Again t j k

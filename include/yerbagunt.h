@@ -21,8 +21,8 @@
 #include <stddef.h>
 #include <stdint.h>
 
-/* The version of this header and of its library. Another major number: the layout of a struct or an answer changed; read what changed, and
- * compile anew. Another minor number: something was added, and programs go on as they are. Another patch: neither.
+/* The version of this header and of its library. Another major number: the layout of a struct changed, or the answer to some input; read what
+ * changed, and compile anew. Another minor number: something was added, and programs go on as they are. Another patch: neither.
  * The numbers of replies keep their meaning through all of them. */
 #define YERBAGUNT_VERSION "2.0.0"
 #define YERBAGUNT_VERSION_MAJOR 2
@@ -100,7 +100,7 @@ struct yerbagunt_stream {
 struct yerbagunt_session {
     uint32_t worst, span;
     uint32_t padding; /* k as it was given; 0 stands for 3 */
-    uint32_t order; /* 0, nearest first; any other number is answered 31 */
+    uint32_t order;   /* 0, nearest first; any other number is answered 31 */
     uint64_t count, clock, head;
     uint64_t served; /* the stream whose request is at the disk, or 0 */
     uint64_t place;  /* and the place of that request */
@@ -168,7 +168,7 @@ struct yerbagunt_closing {
     struct yerbagunt_job job;
 };
 
-/* The table of a session file. */
+/* The table of a session file; a padding of 0 is handed over as 0. */
 struct yerbagunt_table {
     uint32_t worst, span, padding;
     uint64_t count;

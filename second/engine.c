@@ -26,7 +26,7 @@ static struct reply refusal(enum number number)
 
 // --- Reservation table ---
 
-// "Zero stands for the default", and by document 02, Req 02, "a padding of 0 in a table now stands for 3."
+// "Zero stands for the default"; document 02, Req 02: "A padding of 0 in a table now stands for 3."
 uint32_t padding_of(const struct table *t)
 {
     return t->padding == 0 ? PADDING_DEFAULT : t->padding;

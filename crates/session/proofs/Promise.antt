@@ -18,6 +18,7 @@ use Rattle.session.specs.Session.{streamAt, horizon, slotsAt, filledAt, 
 use Rattle.session.specs.Calls.{Verdict, refuse, append, send, move, wait, expire, finish, set-clock, verdict, apply, overlong, replyTo, outcome, answerTo, after}
 use Rattle.session.specs.Opening.{freshSession, openingOf}
 use Rattle.session.specs.History.{Moment, historyFrom, historyOf, inBounds, withinBounds, replied, closes, closings, dueOf, sinceClosing, durationOf, reported, expires, expiry, chargeOf}
+use Rattle.session.specs.Laws.{NumbersAreKept}
 use Rattle.session.specs.Promise.{completion, budgetOf, ClosedTruly, ClosedOnTime, Always, OnTime, Promise}
 use Rattle.time.specs.declared.Clock.{Clock}
 use Rattle.stream.specs.declared.Stream.{Stream}
@@ -41,6 +42,7 @@ momentOf s k v = record { before = s; call = k; answer = outcome s v }
 -- a session that holds what its history tells
 pub record Kept (t : Table) (s : Session) (past : List Moment) : Type 0 where
   pub worst-is : s .worst ≡ t .worst
+  pub span-is : s .span ≡ t .span
   pub padding-is : s .padding ≡ t .padding
   pub count-is : s .count ≡ t .count
   pub cells : (i : ℕ) → i < t .count → Holds t i past (streamAt s i)
@@ -64,16 +66,16 @@ at-most-once true a worst le = omega arith
 at-most-once false a worst le = omega arith
 
 -- no call changes the table's numbers
-table-same : (s : Session) (v : Verdict) → (apply s v .worst ≡ s .worst) × (apply s v .padding ≡ s .padding) × (apply s v .count ≡ s .count)
+table-same : (s : Session) (v : Verdict) → (apply s v .worst ≡ s .worst) × (apply s v .span ≡ s .span) × (apply s v .padding ≡ s .padding) × (apply s v .count ≡ s .count)
 unfolding apply
-table-same s (refuse n) = (refl, refl, refl)
-table-same s (append i place) = (refl, refl, refl)
-table-same s (send i j) = (refl, refl, refl)
-table-same s move = (refl, refl, refl)
-table-same s wait = (refl, refl, refl)
-table-same s (expire i) = (refl, refl, refl)
-table-same s (finish i a) = (refl, refl, refl)
-table-same s (set-clock t) = (refl, refl, refl)
+table-same s (refuse n) = (refl, refl, refl, refl)
+table-same s (append i place) = (refl, refl, refl, refl)
+table-same s (send i j) = (refl, refl, refl, refl)
+table-same s move = (refl, refl, refl, refl)
+table-same s wait = (refl, refl, refl, refl)
+table-same s (expire i) = (refl, refl, refl, refl)
+table-same s (finish i a) = (refl, refl, refl, refl)
+table-same s (set-clock t) = (refl, refl, refl, refl)
 
 -- what the record of a job says as it closes
 record-written : (now : Clock) (x : Stream)
@@ -143,8 +145,9 @@ module _ (t : Table) (s : Session) (past : List Moment) (kept : Kept t s past) w
       let same = table-same s v in
       record {
         worst-is = same .0 ∙ kept .worst-is;
-        padding-is = same .1 ∙ kept .padding-is;
-        count-is = same .2 ∙ kept .count-is;
+        span-is = same .1 ∙ kept .span-is;
+        padding-is = same .2 ∙ kept .padding-is;
+        count-is = same .3 ∙ kept .count-is;
         cells = λ i l.
             holds-on t i past m (streamAt s i) (streamAt (apply s v) i) (kept .cells i l)
             (subst (λ (worst : ℕ). Follows (closes i m) (reported i m) (expiry i m) worst (streamAt s i) (streamAt (apply s v) i))
@@ -217,6 +220,7 @@ fresh-kept t admitted =
     let q = fresh-sound t admitted in
     record {
       worst-is = refl;
+      span-is = refl;
       padding-is = refl;
       count-is = refl;
       cells = λ i l.
@@ -288,6 +292,11 @@ module _ (t : Table) (calls : List Call) (admitted : admissionOf t ≡ 0) where
             omega (arith, bounded now q i here .ahead, clock-not-past now q (now .clock .0) (safe .room) (safe .time));
         closed-jobs = λ later m earlier e i l closing. lawful-from later m earlier e .0 .closing i l closing .1 (within-before later m earlier e within);
       }
+
+pub numbers-are-kept : NumbersAreKept
+numbers-are-kept t calls admitted =
+    let kept = run t calls admitted .0 in
+    (kept .worst-is, kept .span-is, kept .padding-is, kept .count-is)
 
 pub promise : Promise
 promise t calls admitted = (always t calls admitted, on-time t calls admitted)

@@ -44,6 +44,13 @@ NeverUnsound =
     (t : Table) (before : List Call) (k : Call) → admissionOf t ≡ 0
     → numberOf (answerTo (after (openingOf t .session) before) k .reply) ≡ 31 → ⊥
 
+-- A session keeps its table's numbers as they were given, whatever calls are made: a padding of 0 stays 0.
+abbrev pub NumbersAreKept : Type 0
+NumbersAreKept =
+    (t : Table) (calls : List Call) → admissionOf t ≡ 0
+    → let s = after (openingOf t .session) calls in
+    (s .worst ≡ t .worst) × (s .span ≡ t .span) × (s .padding ≡ t .padding) × (s .count ≡ t .count)
+
 -- "the present time changes nothing": a clock report of it hands back the session as it was, whatever the reply
 abbrev pub PresentTimeChangesNothing : Type 0
 PresentTimeChangesNothing = (s : Session) → answerTo s (Call.Clock (s .clock .0)) .session ≡ s

@@ -1,25 +1,29 @@
--- Tables with one padding and another: 0 stands for 3, and with a larger padding admission is stricter, by 7 or by 6.
+-- Paddings, and tables with one and another: 0 stands for 3 and any other k for itself, and with a larger padding admission is stricter, by 7 or by 6.
 use mathlib.Core.Bool.{Bool, true, false, not, _||_, false≢true}
 use mathlib.Core.Logic.{_⊎_, inl, inr}
-use mathlib.Core.Path.{_≡_, refl, sym}
-use Prim.Native.Nat.{ℕ, _/_, _%_, _≤_, _<_}
+use mathlib.Core.Path.{_≡_, refl, sym, ap}
+use Prim.Native.Nat.{ℕ, _+_, _*_, _/_, _%_, _≤_, _<_}
 use native.Mathlib.Nat.{mul-le-mul-right, le-trans}
 use native.Mathlib.Omega.{arith}
 use lib.Dec.{ltb, eqb}
-use borrow.Author.Tests.{le-ltb}
-use Rattle.table.specs.Ranges.{period-min, period-max}
+use borrow.Author.Tests.{le-ltb, ne-eqb}
+use Rattle.table.specs.Ranges.{padding-default, period-min, period-max}
 use Rattle.table.specs.Fold.{if}
 use Rattle.table.specs.Refusal.{given, _or-next_, outside}
 use Rattle.table.specs.Admission.{reservedAt, periodAt, withPadding, paddingOf, grantedOf, shareOf, shareAt, sharesOf, smallestPeriod, loadOf, numbersRefusal, streamRefusal, streamRefusalAt, streamsRefusal, admissionOf}
-use Rattle.table.specs.Laws.{ZeroStandsForThree, ZeroIsStricter}
+use Rattle.table.specs.Laws.{GrantedAsTold, ZeroStandsForThree, ZeroIsStricter}
 use Rattle.table.specs.declared.Table.{Table}
 use Rattle.table.proofs.Tests.{or-next-none}
 use Rattle.table.proofs.Judged.{admits-of}
 use Rattle.table.proofs.Folds.{sum-le, first-none, first-all, first-is}
 
+pub granted-as-told : GrantedAsTold
+unfolding grantedOf paddingOf if
+granted-as-told = (λ worst e. refl, λ worst k e told. ap (λ (b : Bool). e + if b padding-default k * worst) (ne-eqb k 0 told))
+
 pub zero-stands-for-three : ZeroStandsForThree
 unfolding admissionOf numbersRefusal streamsRefusal streamRefusal loadOf sharesOf shareOf smallestPeriod grantedOf paddingOf if
-zero-stands-for-three = (λ worst e. refl, λ t. refl)
+zero-stands-for-three t = refl
 
 -- 6 is judged behind 5, by e and the budget: where neither refuses, another budget is refused by nothing where it fits the period, and by 6 or nothing whatever it is
 other-budget : (five nothing above other : Bool) → given five 5 or-next given (nothing || above) 6 ≡ 0

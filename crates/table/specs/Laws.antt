@@ -3,7 +3,7 @@ use mathlib.Core.Bool.{true}
 use mathlib.Core.List.{List}
 use mathlib.Core.Logic.{_⊎_}
 use mathlib.Core.Path.{_≡_}
-use Prim.Native.Nat.{ℕ, _*_, _/_, _<_}
+use Prim.Native.Nat.{ℕ, _+_, _*_, _/_, _<_}
 use lib.ListN.{length}
 use Rattle.table.specs.Ranges.{streams-max}
 use Rattle.table.specs.Refusal.{outside}
@@ -19,11 +19,15 @@ LoadIsExact =
     → ((i : ℕ) → i < t .count → t .span / periodAt t i * periodAt t i ≡ t .span)
     × (t .span / smallestPeriod t * smallestPeriod t ≡ t .span)
 
--- Document 02, Req 02: "A padding of 0 in a table now stands for 3.": the granted budgets are those of 3, and a table is admitted, or refused by the same number, as with 3.
+-- "Granted budget g = e + k × W", and by document 02, Req 02, "Padding of three unless told otherwise": with 3 where k is 0, and with any other k as it is told.
+abbrev pub GrantedAsTold : Type 0
+GrantedAsTold =
+    ((worst e : ℕ) → grantedOf worst 0 e ≡ e + 3 * worst)
+    × ((worst k e : ℕ) → (k ≡ 0 → ⊥) → grantedOf worst k e ≡ e + k * worst)
+
+-- "A padding of 0 in a table now stands for 3.": the table is admitted, or refused by the same number, as with 3.
 abbrev pub ZeroStandsForThree : Type 0
-ZeroStandsForThree =
-    ((worst e : ℕ) → grantedOf worst 0 e ≡ grantedOf worst 3 e)
-    × ((t : Table) → admissionOf (withPadding t 0) ≡ admissionOf (withPadding t 3))
+ZeroStandsForThree = (t : Table) → admissionOf (withPadding t 0) ≡ admissionOf (withPadding t 3)
 
 -- "Tables that relied on the old meaning must say 1. [...] Admission with 0 gets stricter, so files once opened may now give 7 or 6.": what is admitted with 0 is admitted with 1, and what is admitted with 1 is with 0 admitted, or refused by 7 or by 6.
 abbrev pub ZeroIsStricter : Type 0

@@ -1,4 +1,5 @@
-// The rules of document 01, each from its own sentence, with exact fractions and plain lists.
+// The rules of document 01, and of document 02 where it changes them, each from its own sentence, with exact fractions
+// and plain lists.
 #include "engine.h"
 
 typedef unsigned __int128 wide;
@@ -166,14 +167,15 @@ static bool queue_sound(const struct stream *m)
 }
 
 // "d = r + p", "all deadlines are at most 1,000,000,000,000", "each charge is at most g + 10,000,000 and at least
-// W × the expired count". No sum wraps, whatever the cells hold.
+// W × the expired count"; "What a later request adds to the state joins this rule": with the start of Req 03, at least
+// the start and W × the expired count together. No sum wraps, whatever the cells hold.
 static bool stream_sound(const struct session *s, uint32_t i)
 {
     const struct stream *m = &s->streams[i];
     const struct reservation *r = &s->table.reservations[i];
     return m->granted == granted_budget(&s->table, r)
         && m->deadline <= SESSION_END && m->release <= m->deadline && m->deadline - m->release == r->period
-        && m->charge <= m->granted + DURATION_MAX && (wide)s->table.worst * m->expired <= m->charge
+        && m->charge <= m->granted + DURATION_MAX && m->start + (wide)s->table.worst * m->expired <= m->charge
         && queue_sound(m);
 }
 
@@ -183,8 +185,8 @@ static bool stream_zero(const struct session *s, uint32_t i)
     const struct stream *m = &s->streams[i];
     const struct reservation *r = &s->table.reservations[i];
     return (r->reserved | r->period) == 0
-        && (m->granted | m->release | m->deadline | m->charge | m->expired | m->length) == 0
-        && (m->last.charge | m->last.clock | m->last.deadline | m->last.expired) == 0
+        && (m->granted | m->release | m->deadline | m->charge | m->expired | m->start | m->length) == 0
+        && (m->last.charge | m->last.clock | m->last.deadline | m->last.expired | m->last.start) == 0
         && queue_sound(m);
 }
 
@@ -304,23 +306,34 @@ static struct choice choose(const struct session *s, uint64_t horizon)
     return best;
 }
 
-// "Every stream with d = h closes its job: the record is written, r becomes d, d grows by p, charge and expired count
-// become 0. The others keep theirs."
+// Document 02, Req 03: "From now on the new job starts with the old charge less the granted budget, or zero if that is
+// negative."
+static uint64_t carried(const struct stream *m)
+{
+    return m->charge > m->granted ? m->charge - m->granted : 0;
+}
+
+// "closes its job: the record is written, r becomes d, d grows by p, charge and expired count become 0", where by Req 03
+// the charge becomes what is carried, and the record "also keeps what the job started with"
+static void close_job(struct stream *m, uint64_t clock, uint64_t period)
+{
+    m->last = (struct record){m->charge, clock, m->deadline, m->expired, m->start};
+    m->release = m->deadline;
+    m->deadline += period;
+    m->start = carried(m);
+    m->charge = m->start;
+    m->expired = 0;
+}
+
+// "Every stream with d = h closes its job .. The others keep theirs."
 static struct reply move(struct session *s, uint64_t horizon)
 {
     for (uint32_t i = 0; i < s->table.count; i++)
         if (s->streams[i].deadline == horizon && horizon + s->table.reservations[i].period > SESSION_END)
             return refusal(PAST_END);
-    for (uint32_t i = 0; i < s->table.count; i++) {
-        struct stream *m = &s->streams[i];
-        if (m->deadline != horizon)
-            continue;
-        m->last = (struct record){m->charge, s->clock, m->deadline, m->expired};
-        m->release = m->deadline;
-        m->deadline += s->table.reservations[i].period;
-        m->charge = 0;
-        m->expired = 0;
-    }
+    for (uint32_t i = 0; i < s->table.count; i++)
+        if (s->streams[i].deadline == horizon)
+            close_job(&s->streams[i], s->clock, s->table.reservations[i].period);
     return answer(MOVED, 0, session_horizon(s));
 }
 

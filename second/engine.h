@@ -1,4 +1,5 @@
-// The session of document 01 in place, written a second time: the trials compare it with the crates.
+// The session of document 01, as document 02 changes it, in place and written a second time: the trials compare it with
+// the crates.
 #ifndef SECOND_ENGINE_H
 #define SECOND_ENGINE_H
 
@@ -65,20 +66,24 @@ struct table {
     struct reservation reservations[STREAM_MAX];
 };
 
-// "a record of the last closed job (charge, closing clock, deadline, expired count; all zero before the first)"
+// "a record of the last closed job (charge, closing clock, deadline, expired count; all zero before the first)"; document
+// 02, Req 03: "The last-job record also keeps what the job started with."
 struct record {
     uint64_t charge;
     uint64_t clock;
     uint64_t deadline;
     uint64_t expired;
+    uint64_t start;
 };
 
+// The start is what the open job started with, 0 at first.
 struct stream {
     uint64_t granted;
     uint64_t release;
     uint64_t deadline;
     uint64_t charge;
     uint64_t expired;
+    uint64_t start;
     uint64_t length;
     uint64_t places[QUEUE_MAX];
     struct record last;

@@ -1,7 +1,7 @@
 """What a listing tells of a session: each thing that happened, with its times, and every job with its charge.
 
 Answers, values and clocks are the listing's; the table and the calls are the file's. No rule of the dispatcher is worked out again,
-but that a move closes every job whose deadline is the horizon.
+but that a move closes every job whose deadline is the horizon, and that the next job starts with what it was charged above its granted budget.
 """
 import struct
 
@@ -28,14 +28,15 @@ class Line:
 
 
 class Job:
-    """A job of a stream: it is charged from the closing of the one before it until its own."""
+    """A job of a stream: it is charged from the closing of the one before it until its own, on top of what it starts with."""
 
-    def __init__(self, stream, number, granted, period, opened):
+    def __init__(self, stream, number, granted, period, opened, start=0):
         self.stream, self.number, self.granted, self.period = stream, number, granted, period
         self.deadline = number * period
-        self.opened, self.closed, self.above = opened, None, None
-        self.charge = self.requests = self.expired = 0
-        self.curve = [(opened, 0)]
+        self.opened, self.closed, self.above = opened, None, opened if start > granted else None
+        self.start = self.charge = start
+        self.requests = self.expired = 0
+        self.curve = [(opened, start)]
 
     def charged(self, start, end, charge):
         """The charge grew to this one between two clocks, and perhaps passed the granted budget."""
@@ -60,10 +61,10 @@ class Job:
         return [*first, *points, (end, self.charge_at(end))]
 
     def close(self, clock):
-        """Closes the job, and gives the one that follows it."""
+        """Closes the job, and gives the one that follows it, which starts with what is left above the granted budget."""
         self.closed = clock
         self.curve.append((clock, self.charge))
-        return Job(self.stream, self.number + 1, self.granted, self.period, clock)
+        return Job(self.stream, self.number + 1, self.granted, self.period, clock, max(0, self.charge - self.granted))
 
     def late(self):
         """By how much it was closed after its deadline."""
@@ -123,6 +124,10 @@ class Session:
                 self.jobs[i] = job.close(line.before)
                 self.closed.append(job)
         self.moves.append(line)
+
+    def carries(self):
+        """Whether some job starts with what the one before it was charged above its granted budget."""
+        return any(job.start for job in (*self.closed, *self.jobs))
 
     def end(self):
         """The last moment worth drawing: the first deadline that is not past, or what reaches beyond it, unless that is far away."""

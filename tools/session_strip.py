@@ -233,20 +233,32 @@ def overlong(request):
     return request[1] is not None and request[1].answer == OVERLONG
 
 
+def charge_words(job, charge):
+    """A charge as a part of the granted budget, where there is room from what the job began with."""
+    of = f"{millis(charge)} of {millis(job.granted)}"
+    return (f"from {millis(job.start)} to {of}", of) if job.start else (of,)
+
+
 def closed_words(job):
-    of, late = f"{millis(job.charge)} of {millis(job.granted)}", millis(job.late())
-    if job.late():
-        return f"job {job.number}: {of} ms, {late} ms late", f"{of}, {late} late", f"{late} late"
-    return f"job {job.number}: {of} ms", f"{of} ms", of
+    late, choices = millis(job.late()), []
+    for of in charge_words(job, job.charge):
+        if job.late():
+            choices += [f"job {job.number}: {of} ms, {late} ms late", f"{of}, {late} late"]
+        else:
+            choices += [f"job {job.number}: {of} ms", f"{of} ms", of]
+    return [*choices, f"{late} late"] if job.late() else choices
 
 
 def open_words(job, charge, late):
-    of, so_far = f"{millis(charge)} of {millis(job.granted)}", "so far, late" if late else "so far"
-    return f"job {job.number}: {of} ms {so_far}", f"{of} ms {so_far}", of
+    so_far, choices = "so far, late" if late else "so far", []
+    for of in charge_words(job, charge):
+        choices += [f"job {job.number}: {of} ms {so_far}", f"{of} ms {so_far}", of]
+    return choices
 
 
 def job_title(job):
-    title = f"stream {job.stream}, job {job.number}: charged {millis(job.charge)} of {millis(job.granted)} ms, "
+    began = f"began with {millis(job.start)} ms, " if job.start else ""
+    title = f"stream {job.stream}, job {job.number}: {began}charged {millis(job.charge)} of {millis(job.granted)} ms, "
     if job.closed is None:
         title += f"open at the end, with the deadline {millis(job.deadline)} ms"
     else:

@@ -70,13 +70,23 @@ static uint64_t duration_to_edge(struct run *r)
     return left - n * r->s.table.worst + below(r->c, 3) - 1;
 }
 
+// A duration after which the charge stands just at, below or past so many granted budgets, and so carries nothing or is
+// carried over several closings; or one worst-case time below it, so that the last of those jobs has a slot.
+static uint64_t duration_to_budgets(struct run *r)
+{
+    const struct stream *m = &r->s.streams[r->s.disk_stream - 1];
+    uint64_t budgets = 1 + below(r->c, 5);
+    uint64_t slot = budgets > 1 && percent(r->c, 30) ? r->s.table.worst : 0;
+    return budgets * m->granted - m->charge - slot + below(r->c, 3) - 1;
+}
+
 static uint64_t pick_duration(struct run *r)
 {
     uint64_t worst = r->s.table.worst;
     uint64_t to_end = SESSION_END - r->s.clock;
     if (to_end <= DURATION_MAX && percent(r->c, 30))
         return to_end + below(r->c, 2);
-    uint64_t edge = duration_to_edge(r);
+    uint64_t edge = percent(r->c, 40) ? duration_to_budgets(r) : duration_to_edge(r);
     if (edge > 0 && edge <= DURATION_MAX && percent(r->c, 40) && (edge <= worst || percent(r->c, r->lean.overlong)))
         return edge;
     if (percent(r->c, r->lean.overlong)) {

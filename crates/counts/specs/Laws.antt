@@ -9,6 +9,7 @@ use Rattle.table.specs.Ranges.{streams-max}
 use Rattle.table.specs.Admission.{admissionOf}
 use Rattle.table.specs.declared.Table.{Table}
 use Rattle.calls.specs.declared.Call.{Call}
+use Rattle.stream.specs.declared.Stream.{Stream}
 use Rattle.session.specs.Session.{streamAt}
 use Rattle.session.specs.declared.Session.{Session}
 use Rattle.session.specs.Calls.{after}
@@ -85,15 +86,23 @@ NoneIsLate =
     (t : Table) (calls : List Call) → admissionOf t ≡ 0 → withinBounds (historyOf t calls) ≡ true
     → (i : ℕ) → i < t .count → tallyOf i (historyOf t calls) .late ≡ 0
 
--- the charges of the jobs of stream i that were closed, added up: each as it was when the job was closed
-unfoldable pub closedCharges : ℕ → List Moment → ℕ
-closedCharges i [] = 0
-closedCharges i (m ∷ earlier) = if (closes i m) (streamAt (m .before) i .charge .0) 0 + closedCharges i earlier
+-- a number of each job of stream i that was closed, added up: each as it was when the job was closed
+unfoldable pub closedSum : (Stream → ℕ) → ℕ → List Moment → ℕ
+closedSum number i [] = 0
+closedSum number i (m ∷ earlier) = if (closes i m) (number (streamAt (m .before) i)) 0 + closedSum number i earlier
 
--- Disk time, and W for each expired slot, come to the charges of the closed jobs and of the open one.
+-- their charges, and what they started with
+abbrev pub closedCharges : ℕ → List Moment → ℕ
+closedCharges = closedSum (λ x. x .charge .0)
+
+abbrev pub closedStarts : ℕ → List Moment → ℕ
+closedStarts = closedSum (λ x. x .start .0)
+
+-- Disk time, W for each expired slot, and what the jobs started with come to the charges, of the closed jobs and of the open one. What was carried over is in two charges, and in the time of one.
 abbrev pub ChargesAddUp : Type 0
 ChargesAddUp =
     (t : Table) (calls : List Call) → admissionOf t ≡ 0 → (i : ℕ) → i < t .count
     → let past = historyOf t calls in
-    tallyOf i past .time + t .worst * tallyOf i past .expired
-    ≡ closedCharges i past + streamAt (after (openingOf t .session) calls) i .charge .0
+    let now = streamAt (after (openingOf t .session) calls) i in
+    tallyOf i past .time + t .worst * tallyOf i past .expired + (closedStarts i past + now .start .0)
+    ≡ closedCharges i past + now .charge .0

@@ -70,7 +70,7 @@ module _ (s : Session) (q : Sound s) (i : ℕ) (l : i < s .count) (charge expire
       ap (λ (f : ℕ → ℕ). smallestTo f (s .count)) (fun-ext (set-alike (s .streams) i new noStream (λ x. x .deadline .0) refl))
 
   -- such a stream at i keeps a session sound, if its charge, its queue and the disk are in order
-  pub stream-kept : charge ≤ streamAt s i .granted .0 + duration-max → s .worst * expired ≤ charge → Queue new
+  pub stream-kept : charge ≤ streamAt s i .granted .0 + duration-max → streamAt s i .start .0 + s .worst * expired ≤ charge → Queue new
       → soundDisk (withStream s i new) ≡ true → Sound (withStream s i new)
   stream-kept high low queue disk =
       let x = q .each i l in
@@ -107,11 +107,11 @@ module _ (s : Session) (q : Sound s) (i : ℕ) (l : i < s .count) where
       → Sound (withStream s i (withQueue old queued places))
   queue-kept queued places queue =
       let o = q .each i l in
-      stream-kept s q i l (old .charge .0) (old .expired) queued places (o .charge-high) (o .expiries) queue
+      stream-kept s q i l (old .charge .0) (old .expired) queued places (o .charge-high) (o .started) queue
       (disk-kept s q i l (old .charge .0) (old .expired) queued places refl)
 
   -- another charge, while the disk is idle
-  pub charge-kept : (charge expired : ℕ) → charge ≤ old .granted .0 + duration-max → s .worst * expired ≤ charge → s .served ≡ 0
+  pub charge-kept : (charge expired : ℕ) → charge ≤ old .granted .0 + duration-max → old .start .0 + s .worst * expired ≤ charge → s .served ≡ 0
       → Sound (withStream s i (withCharge old charge expired))
   unfolding soundQueue
   charge-kept charge expired high low idle =

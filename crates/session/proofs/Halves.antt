@@ -71,7 +71,7 @@ module _ (s : Session) (q : Sound s) where
     abbrev x : Stream
     x = streamAt s i
 
-    whole : s .span / x .period * x .period ≡ s .span
+    pub whole : s .span / x .period * x .period ≡ s .span
     whole = omega (arith, div-add-mod' (s .span) (x .period), reservation s q i l .divides)
 
     -- a stream with a slot has room for W more

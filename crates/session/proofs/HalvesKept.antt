@@ -1,7 +1,7 @@
 -- Each effect keeps both halves of the promise's invariant: one lemma for a changed stream, one for a move, one for a clock report.
 use mathlib.Core.List.{List}
 use mathlib.Core.Path.{_≡_, refl, sym, _∙_, ap, subst}
-use Prim.Native.Nat.{ℕ, zero, suc, _+_, _-_, _*_, _≤_, _<_}
+use Prim.Native.Nat.{ℕ, zero, suc, _+_, _-_, _*_, _/_, _≤_, _<_}
 use native.Mathlib.Nat.{mul-le-mul-left, mul-le-mul-right, not-suc-le-zero}
 use native.Mathlib.Omega.{arith}
 use lib.ListN.{length}
@@ -11,7 +11,7 @@ use Rattle.table.specs.Fold.{sumTo}
 use Rattle.table.proofs.Tests.{by-if}
 use Rattle.table.proofs.Folds.{at-or-below, sum-le, sum-agree}
 use Rattle.table.proofs.Lists.{set-each}
-use Rattle.stream.specs.Stream.{closed, moved}
+use Rattle.stream.specs.Stream.{carry, closed, moved}
 use Rattle.session.specs.Session.{noStream, streamAt, horizon, scaledPart, latest, withStream}
 use Rattle.stream.specs.declared.Stream.{Stream}
 use Rattle.session.specs.declared.Session.{Session}
@@ -19,7 +19,7 @@ use Rattle.session.proofs.Sound.{Sound, of-sound, admits, bounded}
 use Rattle.session.proofs.Latest.{latest-rounds-once}
 use Rattle.session.proofs.Changes.{worked, horizon-kept}
 use Rattle.session.proofs.MoveKept.{moved-keeps, moving, next, moved-at, horizon-later}
-use Rattle.session.proofs.Halves.{rate, used, rateAt, usedAt, Room, InTime, rates-high}
+use Rattle.session.proofs.Halves.{rate, used, rateAt, usedAt, Room, InTime, rates-high, whole, due-most}
 
 -- two sums whose terms differ at i alone
 sum-but-one : (f g : ℕ → ℕ) (i : ℕ) → ((j : ℕ) → (j ≡ i → ⊥) → f j ≡ g j) → (n : ℕ) → i < n → sumTo f n + g i ≡ sumTo g n + f i
@@ -78,7 +78,13 @@ module _ (s : Session) (q : Sound s) (i : ℕ) (l : i < s .count) (charge expire
       (sumTo (usedAt s) (s .count)) (sumTo (usedAt changed) (s .count)) ahead
       (omega (arith, summed (rate (s .span)))) (omega (arith, summed (used (s .span)), new-used)) le time
 
--- a move: a job that closes has used all of its rate up to the horizon, so what is used does not fall
+-- a job that closes and one that follows it: with H = w × p, a period's use is g × H, and what was used above it is carried
+carried-on : (r g p w span c : ℕ) → w * p ≡ span → r * (g * w) + c * span ≤ (r + p) * (g * w) + carry c g * span
+carried-on r g p w span c all =
+    let most : c ≤ g + carry c g = omega arith in
+    omega (arith, mul-le-mul-right span most, ap (λ (z : ℕ). g * z) all)
+
+-- a move: a job that closes has used its rate up to the horizon or what it did not use is lost, so what is used does not fall
 later-in-time : (t h next span rates useds more : ℕ) → h ≤ next → rates ≤ span → useds ≤ more
     → t * span + h * rates ≤ h * span + useds → t * span + next * rates ≤ next * span + more
 later-in-time t h next span rates useds more later fits grows time =
@@ -87,38 +93,45 @@ later-in-time t h next span rates useds more later fits grows time =
     omega (arith, mul-le-mul-left k fits, ap (λ (z : ℕ). z * rates) sum, ap (λ (z : ℕ). z * span) sum)
 
 module _ (s : Session) (q : Sound s) where
+  -- with room up to the horizon nothing is carried
   moved-room : (later : ℕ) (x : Stream) → horizon s ≤ later → used (s .span) x ≤ horizon s * rate (s .span) x
-      → used (s .span) (moving s q x) ≤ later * rate (s .span) (moving s q x)
+      → (x .deadline .0 ≡ horizon s → x .charge .0 ≤ x .granted .0) → used (s .span) (moving s q x) ≤ later * rate (s .span) (moving s q x)
   unfolding moved closed
-  moved-room later x le room =
+  moved-room later x le room most =
       by-if (λ y. used (s .span) y ≤ later * rate (s .span) y) _ (closed (s .clock) x) x
       (λ due.
       let d : x .deadline .0 ≡ horizon s = eqb-true (x .deadline .0) (horizon s) due in
-      omega (arith, mul-le-mul-right (rate (s .span) x) le, ap (λ (z : ℕ). z * rate (s .span) x) d))
+      let none : carry (x .charge .0) (x .granted .0) ≡ 0 = omega (arith, most d) in
+      omega (arith, mul-le-mul-right (rate (s .span) x) le, ap (λ (z : ℕ). z * rate (s .span) x) d, ap (λ (z : ℕ). z * s .span) none))
       (λ other. omega (arith, room, mul-le-mul-right (rate (s .span) x) le))
 
-  moved-more : (x : Stream) → used (s .span) x ≤ horizon s * rate (s .span) x → used (s .span) x ≤ used (s .span) (moving s q x)
+  -- what is used does not fall, with room or without
+  moved-more : (i : ℕ) → i < s .count → usedAt s i ≤ used (s .span) (moving s q (streamAt s i))
   unfolding moved closed
-  moved-more x room =
+  moved-more i l =
+      let x = streamAt s i in
       by-if (λ y. used (s .span) x ≤ used (s .span) y) _ (closed (s .clock) x) x
       (λ due.
-      let d : x .deadline .0 ≡ horizon s = eqb-true (x .deadline .0) (horizon s) due in
-      omega (arith, room, ap (λ (z : ℕ). z * rate (s .span) x) d))
+      omega (
+        arith,
+        carried-on (x .release .0) (x .granted .0) (x .period) (s .span / x .period) (s .span) (x .charge .0) (whole s q i l),
+        ap (λ (z : ℕ). z * rate (s .span) x) (q .each i l .due),
+      ))
       (λ other. omega arith)
 
   pub move-keeps-room : Room s → Room (next s q)
   move-keeps-room room i l =
       subst (λ (x : Stream). used (s .span) x ≤ horizon (next s q) * rate (s .span) x) (sym (moved-at s q i))
-      (moved-room (horizon (next s q)) (streamAt s i) (horizon-later s q) (room i l))
+      (moved-room (horizon (next s q)) (streamAt s i) (horizon-later s q) (room i l) (λ due. due-most s q i l due room))
 
-  pub move-keeps-time : (t : ℕ) → Room s → InTime s t → InTime (next s q) t
+  pub move-keeps-time : (t : ℕ) → InTime s t → InTime (next s q) t
   unfolding closed
-  move-keeps-time t room time =
+  move-keeps-time t time =
       let n = s .count in
       let rates = sum-agree (rateAt (next s q)) (rateAt s) n
       (λ i l. ap (rate (s .span)) (moved-at s q i) ∙ moved-keeps (s .clock) (horizon s) (rate (s .span)) (λ x. refl) (streamAt s i)) in
       let useds = sum-le (usedAt s) (usedAt (next s q)) n
-      (λ i l. subst (λ (x : Stream). usedAt s i ≤ used (s .span) x) (sym (moved-at s q i)) (moved-more (streamAt s i) (room i l))) in
+      (λ i l. subst (λ (x : Stream). usedAt s i ≤ used (s .span) x) (sym (moved-at s q i)) (moved-more i l)) in
       subst (λ (sum : ℕ). t * s .span + horizon (next s q) * sum ≤ horizon (next s q) * s .span + sumTo (usedAt (next s q)) n) (sym rates)
       (later-in-time t (horizon s) (horizon (next s q)) (s .span) (sumTo (rateAt s) n) (sumTo (usedAt s) n) (sumTo (usedAt (next s q)) n)
       (horizon-later s q) (rates-high s q) useds time)

@@ -9,12 +9,12 @@ use lib.Dec.{eqb}
 use lib.Seq.{getD-set-same, getD-set-other}
 use borrow.Author.Tests.{eqb-true, eqb-false, eq-eqb, ne-eqb}
 use Rattle.table.specs.Fold.{if}
-use Rattle.table.specs.Admission.{reservedAt, periodAt}
+use Rattle.table.specs.Admission.{periodAt}
 use Rattle.table.specs.declared.Table.{Table}
-use Rattle.stream.specs.Stream.{arrived, without, charged, lapsed, closed, moved}
+use Rattle.stream.specs.Stream.{arrived, without, charged, lapsed, carry, closed, moved}
 use Rattle.session.specs.Session.{noStream, streamAt, horizon}
 use Rattle.session.specs.Calls.{Verdict, refuse, append, send, move, wait, expire, finish, set-clock, apply, replyTo}
-use Rattle.session.specs.History.{Moment, closes, closings, dueOf, sinceClosing, durationOf, reported, expiry, chargeOf}
+use Rattle.session.specs.History.{Moment, closes, closings, dueOf, sinceClosing, durationOf, reported, expiry, addedOf, budgetOf, startOf, chargeOf}
 use Rattle.stream.specs.declared.Stream.{Stream}
 use Rattle.session.specs.declared.Session.{Session}
 use Rattle.calls.specs.declared.Call.{Call}
@@ -27,9 +27,10 @@ use Rattle.session.proofs.Reasons.{Reasons, done-or-overlong, clock-or-
 
 -- how a stream's cells go on where its job is closed or not, with so much reported and so many slots expired
 pub record Follows (closing : Bool) (lasted lost worst : ℕ) (x y : Stream) : Type 0 where
-  pub reserved-same : y .reserved ≡ x .reserved
+  pub granted-same : y .granted .0 ≡ x .granted .0
   pub period-same : y .period ≡ x .period
-  pub charge-next : y .charge .0 ≡ if closing 0 (x .charge .0 + lasted + worst * lost)
+  pub charge-next : y .charge .0 ≡ if closing (carry (x .charge .0) (x .granted .0)) (x .charge .0 + lasted + worst * lost)
+  pub start-next : y .start .0 ≡ if closing (carry (x .charge .0) (x .granted .0)) (x .start .0)
   pub expired-next : y .expired ≡ if closing 0 (x .expired + lost)
   pub deadline-next : y .deadline .0 ≡ if closing (x .deadline .0 + x .period) (x .deadline .0)
 
@@ -39,7 +40,7 @@ worked-on : (lasted lost worst : ℕ) (x : Stream) (charge expired queued : ℕ)
     → Follows false lasted lost worst x (worked x charge expired queued places)
 unfolding if
 worked-on lasted lost worst x charge expired queued places charge-is expired-is =
-    record { reserved-same = refl; period-same = refl; charge-next = charge-is; expired-next = expired-is; deadline-next = refl }
+    record { granted-same = refl; period-same = refl; charge-next = charge-is; start-next = refl; expired-next = expired-is; deadline-next = refl }
 
 -- the streams after one is changed: that one, and the others
 set-at : (P : Stream → Type 0) (xs : List Stream) (j : ℕ) (y : Stream) → j < length xs → (i : ℕ)
@@ -101,7 +102,7 @@ module _ (s : Session) (q : Sound s) (k : Call) (i : ℕ) where
       (go (eqb (x .deadline .0) (horizon s)))
     where
       go : (b : Bool) → Follows b 0 0 (s .worst) x (if b (closed (s .clock) x) x)
-      go true = record { reserved-same = refl; period-same = refl; charge-next = refl; expired-next = refl; deadline-next = refl }
+      go true = record { granted-same = refl; period-same = refl; charge-next = refl; start-next = refl; expired-next = refl; deadline-next = refl }
       go false = quiet
 
   expire-told : (j : ℕ) → j < s .count → Tells (expire j)
@@ -144,18 +145,26 @@ module _ (s : Session) (q : Sound s) (k : Call) (i : ℕ) where
 
 -- the cells of stream i hold what the history tells
 pub record Holds (t : Table) (i : ℕ) (past : List Moment) (x : Stream) : Type 0 where
-  pub reserved-is : x .reserved ≡ reservedAt t i
+  pub granted-is : x .granted .0 ≡ budgetOf t i
   pub period-is : x .period ≡ periodAt t i
   pub charge-is : x .charge .0 ≡ chargeOf t i past
+  pub start-is : x .start .0 ≡ startOf t i past
   pub expired-is : x .expired ≡ sinceClosing expiry i past
   pub deadline-is : x .deadline .0 ≡ dueOf t i past
 
--- how the three sums over the history go on
-charge-adds-up : (b : Bool) (next charge lasted lasted-before lost lost-before worst : ℕ) → next ≡ if b 0 (charge + lasted + worst * lost)
-    → charge ≡ lasted-before + worst * lost-before → next ≡ if b 0 (lasted + lasted-before) + worst * if b 0 (lost + lost-before)
+-- how the sums over the history go on, and what is handed on with them
+charge-adds-up : (b : Bool) (next charge budget start lasted lasted-before lost lost-before worst : ℕ)
+    → next ≡ if b (carry charge budget) (charge + lasted + worst * lost)
+    → charge ≡ start + (lasted-before + worst * lost-before)
+    → next ≡ if b (carry (start + (lasted-before + worst * lost-before)) budget) start + (if b 0 (lasted + lasted-before) + worst * if b 0 (lost + lost-before))
 unfolding if
-charge-adds-up true next charge lasted lasted-before lost lost-before worst e f = omega arith
-charge-adds-up false next charge lasted lasted-before lost lost-before worst e f = omega arith
+charge-adds-up true next charge budget start lasted lasted-before lost lost-before worst e f = omega arith
+charge-adds-up false next charge budget start lasted lasted-before lost lost-before worst e f = omega arith
+
+start-goes-on : (b : Bool) (next charge budget start before total : ℕ) → next ≡ if b (carry charge budget) start → charge ≡ total → start ≡ before
+    → next ≡ if b (carry total budget) before
+unfolding if
+start-goes-on b next charge budget start before total e f g = rw (e, f, g)
 
 expired-adds-up : (b : Bool) (next expired lost lost-before : ℕ) → next ≡ if b 0 (expired + lost) → expired ≡ lost-before
     → next ≡ if b 0 (lost + lost-before)
@@ -172,13 +181,17 @@ deadline-adds-up false next deadline period closings e f = omega arith
 -- so the cells go on holding it
 pub holds-on : (t : Table) (i : ℕ) (past : List Moment) (m : Moment) (x y : Stream) → Holds t i past x
     → Follows (closes i m) (reported i m) (expiry i m) (t .worst) x y → Holds t i (m ∷ past) y
-unfolding chargeOf sinceClosing dueOf closings
+unfolding chargeOf addedOf startOf sinceClosing dueOf closings
 holds-on t i past m x y held f =
     record {
-      reserved-is = f .reserved-same ∙ held .reserved-is;
+      granted-is = f .granted-same ∙ held .granted-is;
       period-is = f .period-same ∙ held .period-is;
-      charge-is = charge-adds-up (closes i m) (y .charge .0) (x .charge .0) (reported i m) (sinceClosing reported i past) (expiry i m) (sinceClosing expiry i past)
-          (t .worst) (f .charge-next) (held .charge-is);
+      charge-is = charge-adds-up (closes i m) (y .charge .0) (x .charge .0) (budgetOf t i) (startOf t i past)
+          (reported i m) (sinceClosing reported i past) (expiry i m) (sinceClosing expiry i past) (t .worst)
+          (subst (λ (g : ℕ). y .charge .0 ≡ if (closes i m) (carry (x .charge .0) g) (x .charge .0 + reported i m + t .worst * expiry i m)) (held .granted-is) (f .charge-next))
+          (held .charge-is);
+      start-is = start-goes-on (closes i m) (y .start .0) (x .charge .0) (budgetOf t i) (x .start .0) (startOf t i past) (chargeOf t i past)
+          (subst (λ (g : ℕ). y .start .0 ≡ if (closes i m) (carry (x .charge .0) g) (x .start .0)) (held .granted-is) (f .start-next)) (held .charge-is) (held .start-is);
       expired-is = expired-adds-up (closes i m) (y .expired) (x .expired) (expiry i m) (sinceClosing expiry i past) (f .expired-next) (held .expired-is);
       deadline-is = deadline-adds-up (closes i m) (y .deadline .0) (x .deadline .0) (periodAt t i) (closings i past)
           (subst (λ (p : ℕ). y .deadline .0 ≡ if (closes i m) (x .deadline .0 + p) (x .deadline .0)) (held .period-is) (f .deadline-next)) (held .deadline-is);

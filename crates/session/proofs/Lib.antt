@@ -26,6 +26,7 @@ pub mod Reasons
 pub mod Within
 pub mod Histories
 pub mod Promise
+pub mod Carried
 pub mod Served
 pub mod PromiseMet
 pub mod Parameters

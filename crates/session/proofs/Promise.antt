@@ -1,5 +1,5 @@
 -- The promise: any calls of a session that was opened keep what is told of it, and within bounds are in time.
-use mathlib.Core.Bool.{Bool, true, false, false≢true}
+use mathlib.Core.Bool.{Bool, true, false, not, false≢true}
 use mathlib.Core.List.{List, [], _∷_, _++_}
 use mathlib.Core.Path.{_≡_, refl, sym, _∙_, ap, subst}
 use Prim.Native.Nat.{ℕ, _+_, _*_, _≤_, _<_}
@@ -14,14 +14,16 @@ use Rattle.table.proofs.Tests.{both}
 use Rattle.table.proofs.Folds.{all-at, some-none}
 use Rattle.time.specs.Time.{moment, diskTime}
 use Rattle.stream.specs.Stream.{filled, closed, moved, freshStream}
+use Rattle.stream.specs.Laws.{CarriedOn}
 use Rattle.session.specs.Session.{streamAt, horizon, slotsAt, filledAt, someFilled, noSlot}
 use Rattle.session.specs.Calls.{Verdict, refuse, append, send, move, wait, expire, finish, set-clock, verdict, apply, overlong, replyTo, outcome, answerTo, after}
 use Rattle.session.specs.Opening.{freshSession, openingOf}
-use Rattle.session.specs.History.{Moment, historyFrom, historyOf, inBounds, withinBounds, replied, closes, closings, dueOf, sinceClosing, durationOf, reported, expires, expiry, chargeOf}
+use Rattle.session.specs.History.{Moment, historyFrom, historyOf, inBounds, withinBounds, never, replied, closes, closings, dueOf, sinceClosing, durationOf, reported, expires, expiry, addedOf, budgetOf, startOf, chargeOf}
 use Rattle.session.specs.Laws.{NumbersAreKept}
-use Rattle.session.specs.Promise.{completion, budgetOf, ClosedTruly, ClosedOnTime, Always, OnTime, Promise}
+use Rattle.session.specs.Promise.{completion, ClosedTruly, ClosedOnTime, Always, OnTime, Promise}
 use Rattle.time.specs.declared.Clock.{Clock}
 use Rattle.stream.specs.declared.Stream.{Stream}
+use Rattle.stream.proofs.Carried.{closed-is-carried-on}
 use Rattle.session.specs.declared.Session.{Session}
 use Rattle.calls.specs.declared.Call.{Call}
 use Rattle.calls.specs.declared.Reply.{Reply}
@@ -30,9 +32,9 @@ use Rattle.session.proofs.Grounds.{Grounds, verdict-grounds}
 use Rattle.session.proofs.Keeps.{effect-kept}
 use Rattle.session.proofs.MoveKept.{moved-at}
 use Rattle.session.proofs.Openings.{fresh-at, fresh-sound, never-unsound}
-use Rattle.session.proofs.Halves.{rate, used, rates-high, due-most, due-least, clock-not-past}
+use Rattle.session.proofs.Halves.{rate, used, Room, InTime, rates-high, due-most, due-least, clock-not-past}
 use Rattle.session.proofs.Reasons.{Reasons, verdict-reasons, done-or-overlong, clock-or-late}
-use Rattle.session.proofs.Within.{Safe, effect-safe}
+use Rattle.session.proofs.Within.{within-never, effect-room, effect-time}
 use Rattle.session.proofs.Histories.{Follows, told, Holds, holds-on}
 
 -- a call that comes to a verdict
@@ -47,11 +49,14 @@ pub record Kept (t : Table) (s : Session) (past : List Moment) : Type 0 where
   pub count-is : s .count ≡ t .count
   pub cells : (i : ℕ) → i < t .count → Holds t i past (streamAt s i)
   pub orderly : Sound s
-  pub safe : withinBounds past ≡ true → Safe s
+  pub room : never 26 past ≡ true → Room s
+  pub time : never 28 past ≡ true → InTime s (s .clock .0)
 
--- what is promised of one moment, and of each of a history. Within bounds, what is reported of a completion is at most W.
+-- what is promised of one moment, and of each of a history; and that while no completion ran over a job is charged at most its budget. Within bounds, what is reported of a completion is at most W.
 pub record Lawful (t : Table) (m : Moment) (earlier : List Moment) : Type 0 where
   pub closing : (i : ℕ) → i < t .count → closes i m ≡ true → ClosedTruly t i m earlier × (withinBounds earlier ≡ true → ClosedOnTime t i m earlier)
+  pub sparing : (i : ℕ) → i < t .count → closes i m ≡ true → never 26 earlier ≡ true → streamAt (m .before) i .charge .0 ≤ budgetOf t i
+  pub handing : (i : ℕ) → i < t .count → closes i m ≡ true → CarriedOn (budgetOf t i) (streamAt (m .before) i) (streamAt (m .answer .session) i)
   pub losing : (i : ℕ) → expires i m ≡ true → streamAt (m .before) i .queued ≡ 0
   pub short : inBounds (m .answer .reply) ≡ true → (i : ℕ) → reported i m ≤ t .worst * completion i m
 
@@ -79,37 +84,48 @@ table-same s (set-clock t) = (refl, refl, refl, refl)
 
 -- what the record of a job says as it closes
 record-written : (now : Clock) (x : Stream)
-    → closed now x .last ≡ record { charge = x .charge; closed = now; deadline = x .deadline; expired = x .expired }
+    → closed now x .last ≡ record { charge = x .charge; closed = now; deadline = x .deadline; expired = x .expired; start = x .start }
 unfolding closed
 record-written now x = refl
 
 module _ (t : Table) (s : Session) (past : List Moment) (kept : Kept t s past) where
-  -- the budget of the session is that of the table as it was opened
-  budget-is : (i : ℕ) → i < t .count → streamAt s i .granted .0 ≡ budgetOf t i
-  budget-is i l =
-      let here : i < s .count = omega (arith, kept .count-is) in
-      rw (kept .orderly .each i here .budget, kept .worst-is, kept .padding-is, kept .cells i l .reserved-is)
+  -- a stream that is due at the horizon is the closed one after a move
+  closed-at : (i : ℕ) → streamAt s i .deadline .0 ≡ horizon s → streamAt (apply s move) i ≡ closed (s .clock) (streamAt s i)
+  unfolding apply moved if
+  closed-at i due =
+      let x = streamAt s i in
+      moved-at s (kept .orderly) i ∙ ap (λ (b : Bool). if b (closed (s .clock) x) x) (eq-eqb (x .deadline .0) (horizon s) due)
 
   -- a move closes a job as told
   closed-truly : (k : Call) (i : ℕ) → i < t .count → streamAt s i .deadline .0 ≡ horizon s → ClosedTruly t i (momentOf s k move) past
-  unfolding apply moved if
   closed-truly k i l due =
-      let x = streamAt s i in
       let held = kept .cells i l in
       record {
         due = held .deadline-is;
         made-of = held .charge-is;
         recorded =
-            ap (λ (y : Stream). y .last) (moved-at s (kept .orderly) i)
-            ∙ ap (λ (b : Bool). if b (closed (s .clock) x) x .last) (eq-eqb (x .deadline .0) (horizon s) due)
-            ∙ record-written (s .clock) x
+            ap (λ (y : Stream). y .last) (closed-at i due)
+            ∙ record-written (s .clock) (streamAt s i)
             ∙ λ j. record {
               charge = diskTime (held .charge-is j);
               closed = s .clock;
               deadline = moment (held .deadline-is j);
               expired = held .expired-is j;
+              start = diskTime (held .start-is j);
             };
       }
+
+  -- and hands on what is above its budget
+  carried-on : (i : ℕ) → i < t .count → streamAt s i .deadline .0 ≡ horizon s → CarriedOn (budgetOf t i) (streamAt s i) (streamAt (apply s move) i)
+  carried-on i l due =
+      subst (CarriedOn (budgetOf t i) (streamAt s i)) (sym (closed-at i due))
+      (subst (λ (g : ℕ). CarriedOn g (streamAt s i) (closed (s .clock) (streamAt s i))) (kept .cells i l .granted-is) (closed-is-carried-on (s .clock) (streamAt s i)))
+
+  -- while no completion ran over, with at most its budget
+  closed-sparing : never 26 past ≡ true → (i : ℕ) → i < t .count → streamAt s i .deadline .0 ≡ horizon s → streamAt s i .charge .0 ≤ budgetOf t i
+  closed-sparing short i l due =
+      let here : i < s .count = omega (arith, kept .count-is) in
+      omega (arith, kept .cells i l .granted-is, due-most s (kept .orderly) i here due (kept .room short))
 
   -- and within bounds, in time and with its budget
   closed-on-time : withinBounds past ≡ true → (k : Call) → noSlot s ≡ true → (i : ℕ) → i < t .count → streamAt s i .deadline .0 ≡ horizon s
@@ -117,13 +133,13 @@ module _ (t : Table) (s : Session) (past : List Moment) (kept : Kept t s past) w
   unfolding noSlot
   closed-on-time within k over i l due =
       let q = kept .orderly in
-      let safe = kept .safe within in
+      let bounds = within-never past within in
       let here : i < s .count = omega (arith, kept .count-is) in
-      let budget = budget-is i l in
+      let budget = kept .cells i l .granted-is in
       let none = eqb-true (slotsAt s i) 0 (all-at (λ j. eqb (slotsAt s j) 0) (s .count) over i here) in
       record {
-        in-time = rw due (clock-not-past s q (s .clock .0) (safe .room) (safe .time));
-        at-most = omega (arith, budget, due-most s q i here due (safe .room));
+        in-time = rw due (clock-not-past s q (s .clock .0) (kept .room (bounds .0)) (kept .time (bounds .1)));
+        at-most = closed-sparing (bounds .0) i l due;
         more-than = omega (arith, budget, kept .worst-is, due-least s q i here due none);
       }
 
@@ -136,7 +152,7 @@ module _ (t : Table) (s : Session) (past : List Moment) (kept : Kept t s past) w
 
   -- a call goes on keeping all of it
   kept-on : (k : Call) → Kept t (apply s (verdict s k)) (momentOf s k (verdict s k) ∷ past)
-  unfolding withinBounds
+  unfolding never
   kept-on k =
       let q = kept .orderly in
       let v = verdict s k in
@@ -153,7 +169,8 @@ module _ (t : Table) (s : Session) (past : List Moment) (kept : Kept t s past) w
             (subst (λ (worst : ℕ). Follows (closes i m) (reported i m) (expiry i m) worst (streamAt s i) (streamAt (apply s v) i))
             (kept .worst-is) (told s q k i v g (verdict-reasons s q k)));
         orderly = effect-kept s q v g;
-        safe = λ within. let parts = both (inBounds (replyTo s v)) (withinBounds past) within in effect-safe s q (kept .safe (parts .1)) v g (parts .0);
+        room = λ short. let parts = both (not (replied 26 m)) (never 26 past) short in effect-room s q (kept .room (parts .1)) v g (parts .0);
+        time = λ early. let parts = both (not (replied 28 m)) (never 28 past) early in effect-time s q (kept .time (parts .1)) v g (parts .0);
       }
 
   -- and is as promised itself: one that closes no job and lets no slot expire
@@ -162,6 +179,8 @@ module _ (t : Table) (s : Session) (past : List Moment) (kept : Kept t s past) w
   neither-lawful m not-22 not-23 short =
       record {
         closing = λ i l e. absurd (false≢true (sym not-23 ∙ both _ _ e .0));
+        sparing = λ i l e. absurd (false≢true (sym not-23 ∙ both _ _ e .0));
+        handing = λ i l e. absurd (false≢true (sym not-23 ∙ both _ _ e .0));
         losing = λ i e. absurd (false≢true (sym not-22 ∙ both _ _ e .0));
         short = short;
       }
@@ -180,6 +199,8 @@ module _ (t : Table) (s : Session) (past : List Moment) (kept : Kept t s past) w
   lawful-on k move g over =
       record {
         closing = λ i l e. let due = eqb-true _ _ e in (closed-truly k i l due, λ within. closed-on-time within k over i l due);
+        sparing = λ i l e short. closed-sparing short i l (eqb-true _ _ e);
+        handing = λ i l e. carried-on i l (eqb-true _ _ e);
         losing = λ i e. absurd (false≢true e);
         short = λ is i. omega arith;
       }
@@ -187,6 +208,8 @@ module _ (t : Table) (s : Session) (past : List Moment) (kept : Kept t s past) w
   lawful-on k (expire j) g none =
       record {
         closing = λ i l e. absurd (false≢true e);
+        sparing = λ i l e. absurd (false≢true e);
+        handing = λ i l e. absurd (false≢true e);
         losing = λ i e.
             let same : j ≡ i = omega (arith, eqb-true (j + 1) (i + 1) e) in
             subst (λ (n : ℕ). streamAt s n .queued ≡ 0) same (nothing-queued j g none);
@@ -214,7 +237,7 @@ kept-after t past s (k ∷ ks) kept lawful =
 
 -- a new session has used nothing, and its clock stands at 0
 fresh-kept : (t : Table) → admissionOf t ≡ 0 → Kept t (freshSession t) []
-unfolding freshSession freshStream chargeOf sinceClosing dueOf closings
+unfolding freshSession freshStream chargeOf addedOf startOf sinceClosing dueOf closings
 fresh-kept t admitted =
     let s = freshSession t in
     let q = fresh-sound t admitted in
@@ -225,12 +248,10 @@ fresh-kept t admitted =
       count-is = refl;
       cells = λ i l.
           subst (Holds t i []) (sym (fresh-at t admitted i l))
-          (record { reserved-is = refl; period-is = refl; charge-is = omega arith; expired-is = refl; deadline-is = omega arith });
+          (record { granted-is = refl; period-is = refl; charge-is = omega arith; start-is = refl; expired-is = refl; deadline-is = omega arith });
       orderly = q;
-      safe = λ within. record {
-        room = λ i l. subst (λ (x : Stream). used (t .span) x ≤ horizon s * rate (t .span) x) (sym (fresh-at t admitted i l)) (omega arith);
-        time = omega (arith, mul-le-mul-left (horizon s) (rates-high s q));
-      };
+      room = λ short i l. subst (λ (x : Stream). used (t .span) x ≤ horizon s * rate (t .span) x) (sym (fresh-at t admitted i l)) (omega arith);
+      time = λ early. omega (arith, mul-le-mul-left (horizon s) (rates-high s q));
     }
 
 -- opening makes that session
@@ -243,10 +264,6 @@ part : (P : List Moment → Type 0) → ((m : Moment) (past : List Moment) → P
     → (later past : List Moment) → P (later ++ past) → P past
 part P drop [] past p = p
 part P drop (m ∷ later) past p = part P drop later past (drop m (later ++ past) p)
-
-within-part : (later past : List Moment) → withinBounds (later ++ past) ≡ true → withinBounds past ≡ true
-unfolding withinBounds
-within-part = part (λ past. withinBounds past ≡ true) (λ m past within. both (inBounds (m .answer .reply)) (withinBounds past) within .1)
 
 module _ (t : Table) (calls : List Call) (admitted : admissionOf t ≡ 0) where
   abbrev now : Session
@@ -262,14 +279,27 @@ module _ (t : Table) (calls : List Call) (admitted : admissionOf t ≡ 0) where
   pub lawful-from : (later : List Moment) (m : Moment) (earlier : List Moment) → later ++ (m ∷ earlier) ≡ past → AllLawful t (m ∷ earlier)
   lawful-from later m earlier e = part (AllLawful t) (λ n before lawful. lawful .1) later (m ∷ earlier) (subst (AllLawful t) (sym e) (run .1))
 
+  before : (P : List Moment → Type 0) → ((m : Moment) (past : List Moment) → P (m ∷ past) → P past)
+      → (later : List Moment) (m : Moment) (earlier : List Moment) → later ++ (m ∷ earlier) ≡ past → P past → P earlier
+  before P drop later m earlier e p = drop m earlier (part P drop later (m ∷ earlier) (subst P (sym e) p))
+
   pub within-before : (later : List Moment) (m : Moment) (earlier : List Moment) → later ++ (m ∷ earlier) ≡ past → withinBounds past ≡ true
       → withinBounds earlier ≡ true
-  within-before later m earlier e within =
-      within-part (m ∷ []) earlier (within-part later (m ∷ earlier) (subst (λ (l : List Moment). withinBounds l ≡ true) (sym e) within))
+  unfolding withinBounds
+  within-before =
+      before (λ (l : List Moment). withinBounds l ≡ true) (λ m l within. both (inBounds (m .answer .reply)) (withinBounds l) within .1)
 
-  -- the charge of an open job is what the history says
+  pub never-before : (n : ℕ) (later : List Moment) (m : Moment) (earlier : List Moment) → later ++ (m ∷ earlier) ≡ past → never n past ≡ true
+      → never n earlier ≡ true
+  unfolding never
+  never-before n = before (λ (l : List Moment). never n l ≡ true) (λ m l none. both (not (replied n m)) (never n l) none .1)
+
+  -- the charge of an open job is what the history says, and so is what it started with
   pub open-charge : (i : ℕ) → i < t .count → streamAt now i .charge .0 ≡ chargeOf t i past
   open-charge i l = run .0 .cells i l .charge-is
+
+  pub open-start : (i : ℕ) → i < t .count → streamAt now i .start .0 ≡ startOf t i past
+  open-start i l = run .0 .cells i l .start-is
 
   always : Always t now past
   always =
@@ -285,11 +315,11 @@ module _ (t : Table) (calls : List Call) (admitted : admissionOf t ≡ 0) where
   on-time within =
       let kept = run .0 in
       let q = kept .orderly in
-      let safe = kept .safe within in
+      let bounds = within-never past within in
       record {
         open-jobs = λ i l.
             let here : i < now .count = omega (arith, kept .count-is) in
-            omega (arith, bounded now q i here .ahead, clock-not-past now q (now .clock .0) (safe .room) (safe .time));
+            omega (arith, bounded now q i here .ahead, clock-not-past now q (now .clock .0) (kept .room (bounds .0)) (kept .time (bounds .1)));
         closed-jobs = λ later m earlier e i l closing. lawful-from later m earlier e .0 .closing i l closing .1 (within-before later m earlier e within);
       }
 

@@ -3,20 +3,21 @@ use mathlib.Core.Bool.{true, false}
 use mathlib.Core.Path.{_≡_, refl}
 use mathlib.Core.List.{List, [], _∷_, _++_, map}
 use Prim.Native.Nat.{ℕ, _+_, _≤_, _<_}
-use lib.Dec.{lit<}
+use lib.Dec.{lit<, lit≤}
 use Rattle.time.specs.Time.{moment, diskTime}
 use Rattle.calls.specs.Replies.{numberOf}
 use Rattle.session.specs.Session.{streamAt}
 use Rattle.session.specs.Calls.{answerTo, after}
 use Rattle.session.specs.Opening.{openingOf}
 use Rattle.session.specs.Cases.{padded, twins}
-use Rattle.session.specs.History.{Moment, historyFrom, historyOf, withinBounds, closes, closings, dueOf, sinceClosing, expiry, chargeOf}
+use Rattle.session.specs.History.{Moment, historyFrom, historyOf, withinBounds, never, closes, closings, dueOf, sinceClosing, expiry, addedOf, startOf, chargeOf}
 use Rattle.session.specs.Promise.{completion, ClosedTruly, ClosedOnTime}
 use Rattle.session.specs.declared.Session.{Session}
 use Rattle.calls.specs.declared.Call.{Call}
 use Rattle.calls.specs.declared.Call.the-variants.{Arrival, Turn, OwnTurn, Done, Clock}
 use Rattle.session.proofs.Rules.{rules}
 use Rattle.session.proofs.Promise.{promise}
+use Rattle.session.proofs.Carried.{overrun-is-carried, nothing-is-carried}
 use Rattle.session.proofs.Served.{requests-served}
 
 -- calls of two streams with one deadline, and then a turn: what is remembered of that turn, of the calls before it, and of all
@@ -76,8 +77,13 @@ both-closed = (closed-on-time 0 (lit< tt) refl, closed-on-time 1 (lit< tt) refl)
 
 -- of 50,000 each: 20,000 and one slot of 25,000; 25,000 and one slot
 told-charges : charges (earlier calls) ≡ 45_000 ∷ 50_000 ∷ []
-unfolding rules padded historyFrom sinceClosing chargeOf
+unfolding rules padded historyFrom sinceClosing startOf addedOf chargeOf
 told-charges = refl
+
+-- and nothing is carried on
+nothing-on : streamAt (closing calls .answer .session) 0 .start .0 ≡ 0
+unfolding rules padded historyFrom never
+nothing-on = nothing-is-carried twins (calls ++ (Turn ∷ [])) refl refl [] (closing calls) (earlier calls) refl 0 (lit< tt) refl .next
 
 -- and so each has at least ⌊50,000 / 25,000⌋ completions and expired slots: one completion and one slot
 two-of-first : 2 ≤ sinceClosing completion 0 (earlier calls) + sinceClosing expiry 0 (earlier calls)
@@ -109,10 +115,15 @@ closed-truly = promise twins (overrun ++ (Turn ∷ [])) refl .0 .closed-jobs [] 
 
 -- history tells the overlong duration, and the record shows it, closed 30,000 after its deadline
 overrun-charges : charges (earlier overrun) ≡ 230_000 ∷ 50_000 ∷ []
-unfolding rules padded historyFrom sinceClosing chargeOf
+unfolding rules padded historyFrom sinceClosing startOf addedOf chargeOf
 overrun-charges = refl
 
 overrun-recorded : streamAt (closing overrun .answer .session) 0 .last
-    ≡ record { charge = diskTime 230_000; closed = moment 280_000; deadline = moment 250_000; expired = 0 }
-unfolding rules padded historyFrom sinceClosing chargeOf closings dueOf
+    ≡ record { charge = diskTime 230_000; closed = moment 280_000; deadline = moment 250_000; expired = 0; start = diskTime 0 }
+unfolding rules padded historyFrom sinceClosing startOf addedOf chargeOf closings dueOf
 overrun-recorded = closed-truly .recorded
+
+-- and the 180,000 above its budget are carried on
+overrun-carried : streamAt (closing overrun .answer .session) 0 .start .0 + 50_000 ≡ 230_000
+unfolding rules padded historyFrom
+overrun-carried = overrun-is-carried twins (overrun ++ (Turn ∷ [])) refl [] (closing overrun) (earlier overrun) refl 0 (lit< tt) refl .overrun (lit≤ tt)

@@ -10,9 +10,11 @@ use Rattle.table.specs.declared.Table.{Table}
 use Rattle.table.proofs.Tests.{both}
 use Rattle.table.proofs.Judged.{admits-of}
 use Rattle.session.specs.Session.{streamAt}
-use Rattle.session.specs.History.{Moment, inBounds, withinBounds, closes, sinceClosing, reported, expiry, chargeOf}
-use Rattle.session.specs.Promise.{completion, budgetOf, RequestsServed}
+use Rattle.session.specs.History.{Moment, historyOf, inBounds, withinBounds, closes, sinceClosing, reported, expiry, addedOf, budgetOf}
+use Rattle.session.specs.Promise.{completion, RequestsServed}
 use Rattle.session.proofs.Promise.{AllLawful, lawful-from, within-before, promise}
+use Rattle.session.proofs.Within.{within-never}
+use Rattle.session.proofs.Carried.{nothing-is-carried}
 
 -- what is reported for a job, within bounds, is at most W for each of its completions
 sum-at-most : (b : Bool) (lasted ended lasted-before ended-before worst : ℕ) → lasted ≤ worst * ended → lasted-before ≤ worst * ended-before
@@ -37,9 +39,9 @@ enough budget charge worst lasted ended lost pos more made most =
     let below : budget / worst < ended + lost + 1 = div-lt-iff-lt-mul pos .1 (omega arith) in omega arith
 
 pub requests-served : RequestsServed
-unfolding chargeOf
+unfolding addedOf
 requests-served t calls admitted within later m earlier e i l closing =
-    let made = promise t calls admitted .0 .closed-jobs later m earlier e i l closing .made-of in
+    let made = nothing-is-carried t calls admitted (within-never (historyOf t calls) within .0) later m earlier e i l closing .sum in
     let more = promise t calls admitted .1 within .closed-jobs later m earlier e i l closing .more-than in
     enough (budgetOf t i) (streamAt (m .before) i .charge .0) (t .worst)
     (sinceClosing reported i earlier) (sinceClosing completion i earlier) (sinceClosing expiry i earlier)

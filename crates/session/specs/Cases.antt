@@ -2,6 +2,7 @@
 use mathlib.Core.List.{List, [], _∷_, _++_, map}
 use Prim.Native.Nat.{ℕ, zero, suc, _/_, _%_}
 use lib.ListN.{length, replicate, take}
+use Rattle.table.specs.Fold.{listTo}
 use Rattle.table.specs.Ranges.{streams-max}
 use Rattle.table.specs.Admission.{admissionOf}
 use Rattle.table.specs.declared.Table.{Table}
@@ -78,13 +79,21 @@ row l = l .event ∷ l .answer ∷ l .stream ∷ l .value ∷ l .clock ∷ []
 abbrev pub prints : Table → List Call → List (List ℕ) → Case
 prints t calls rows = record { rules = map row (linesFrom 1 (openingOf t .session) calls); document = rows }
 
--- the record of the last closed job of a stream, counted from 0: charge, closing clock, deadline, expired count
+-- the record of the last closed job of a stream, counted from 0: charge, closing clock, deadline, expired count, and what it started with
 unfoldable pub recorded : Job → List ℕ
-recorded j = j .charge .0 ∷ j .closed .0 ∷ j .deadline .0 ∷ j .expired ∷ []
+recorded j = j .charge .0 ∷ j .closed .0 ∷ j .deadline .0 ∷ j .expired ∷ j .start .0 ∷ []
 
 abbrev pub records : Table → List Call → ℕ → List ℕ → Case
 records t calls i cells =
     record { rules = recorded (streamAt (after (openingOf t .session) calls) i .last) ∷ []; document = cells ∷ [] }
+
+-- what the open job of each stream started with
+abbrev pub starts : Table → List Call → List ℕ → Case
+starts t calls cells =
+    record {
+      rules = listTo (λ i. streamAt (after (openingOf t .session) calls) i .start .0) (length cells) ∷ [];
+      document = cells ∷ [];
+    }
 
 -- the numbers of the answers to calls
 abbrev pub answers : Table → List Call → List ℕ → Case
@@ -114,6 +123,16 @@ twins = table 25_000 250_000 1 (25_000 ∷ 25_000 ∷ []) (250_000 ∷ 250_000 �
 
 abbrev pub bothUsedUp : List Call
 bothUsedUp = Arrival 2 100 ∷ Turn ∷ Done 50_000 ∷ oneRequest 50_000 ++ (Turn ∷ [])
+
+-- with a budget of 50,000: one request of a duration, and so many turns after it; of the two streams with one deadline the second has its budget used up and a turn follows, and before that the first has run 30,000 over
+abbrev pub thenTurns : ℕ → ℕ → List Call
+thenTurns duration n = oneRequest duration ++ replicate n Turn
+
+abbrev pub secondUsedUp : List Call
+secondUsedUp = Arrival 2 900 ∷ Turn ∷ Done 50_000 ∷ Turn ∷ []
+
+abbrev pub firstOverruns : List Call
+firstOverruns = oneRequest 80_000 ++ secondUsedUp
 
 -- the cases marked P, in the document's order
 unfoldable pub markedCases : List Case
@@ -167,11 +186,11 @@ markedCases =
     ∷ (6 ∷ 25 ∷ 1 ∷ 50_000 ∷ 50_000 ∷ [])
     ∷ (7 ∷ 23 ∷ 0 ∷ 500_000 ∷ 50_000 ∷ [])
     ∷ [])
-    ∷ records single twoRequests 0 (50_000 ∷ 50_000 ∷ 250_000 ∷ 0 ∷ [])
+    ∷ records single twoRequests 0 (50_000 ∷ 50_000 ∷ 250_000 ∷ 0 ∷ 0 ∷ [])
     ∷ answers listed (replicate 17 (Arrival 1 5)) (replicate 16 20 ++ (9 ∷ []))
     ∷ []
 
--- the lines of the document that are not marked, and what else a reader may ask: a duration of W, W + 1, 0, 10,000,000 and 10,000,001; a clock at L = 200,000, at L + 1, and at the present time past L; two streams that share a deadline both close; stream 1's 6 comes before stream 2's 5; document 02, Req 02, "A padding of 0 in a table now stands for 3": the lines of k 3 are those of k 0, and two tables that opened with 0 while it stood for 1 give 7 and 6 now
+-- the lines of the document that are not marked, and what else a reader may ask: a duration of W, W + 1, 0, 10,000,000 and 10,000,001; a clock at L = 200,000, at L + 1, and at the present time past L; two streams that share a deadline both close; stream 1's 6 comes before stream 2's 5; document 02, Req 02, "A padding of 0 in a table now stands for 3": the lines of k 3 are those of k 0, and two tables that opened with 0 while it stood for 1 give 7 and 6 now; Req 03, "the new job starts with the old charge less the granted budget, or zero if that is negative": two due streams of which one has overrun, a charge above three budgets over three closings, one that just reaches the budget, one above it by 1, one below it, and a completion after a carry
 unfoldable pub otherCases : List Case
 otherCases =
     answers single (oneRequest 25_000) (20 ∷ 21 ∷ 25 ∷ [])
@@ -182,8 +201,8 @@ otherCases =
     ∷ answers single (Clock 200_000 ∷ []) (27 ∷ [])
     ∷ answers single (Clock 200_001 ∷ Clock 200_001 ∷ Clock 200_000 ∷ []) (28 ∷ 27 ∷ 13 ∷ [])
     ∷ answers twins bothUsedUp (20 ∷ 21 ∷ 26 ∷ 20 ∷ 21 ∷ 26 ∷ 23 ∷ [])
-    ∷ records twins bothUsedUp 0 (50_000 ∷ 100_000 ∷ 250_000 ∷ 0 ∷ [])
-    ∷ records twins bothUsedUp 1 (50_000 ∷ 100_000 ∷ 250_000 ∷ 0 ∷ [])
+    ∷ records twins bothUsedUp 0 (50_000 ∷ 100_000 ∷ 250_000 ∷ 0 ∷ 0 ∷ [])
+    ∷ records twins bothUsedUp 1 (50_000 ∷ 100_000 ∷ 250_000 ∷ 0 ∷ 0 ∷ [])
     ∷ admits (table 25_000 1_000_000 1 (0 ∷ 25_000 ∷ []) (250_000 ∷ 300_000 ∷ [])) 6
     ∷ admits (alone 0 900_000) 0
     ∷ admits (alone 0 900_001) 7
@@ -191,4 +210,29 @@ otherCases =
     ∷ admits (alone 0 925_001) 6
     ∷ byZeroAndOne 920_000 7 0
     ∷ byZeroAndOne 950_000 6 0
+    ∷ records twins firstOverruns 0 (80_000 ∷ 130_000 ∷ 250_000 ∷ 0 ∷ 0 ∷ [])
+    ∷ records twins firstOverruns 1 (50_000 ∷ 130_000 ∷ 250_000 ∷ 0 ∷ 0 ∷ [])
+    ∷ starts twins firstOverruns (30_000 ∷ 0 ∷ [])
+    ∷ records twins (firstOverruns ++ secondUsedUp) 0 (30_000 ∷ 180_000 ∷ 500_000 ∷ 0 ∷ 30_000 ∷ [])
+    ∷ starts twins (firstOverruns ++ secondUsedUp) (0 ∷ 0 ∷ [])
+    ∷ records single (thenTurns 170_000 1) 0 (170_000 ∷ 170_000 ∷ 250_000 ∷ 0 ∷ 0 ∷ [])
+    ∷ records single (thenTurns 170_000 2) 0 (120_000 ∷ 170_000 ∷ 500_000 ∷ 0 ∷ 120_000 ∷ [])
+    ∷ records single (thenTurns 170_000 3) 0 (70_000 ∷ 170_000 ∷ 750_000 ∷ 0 ∷ 70_000 ∷ [])
+    ∷ starts single (thenTurns 170_000 3) (20_000 ∷ [])
+    ∷ starts single (thenTurns 50_000 1) (0 ∷ [])
+    ∷ starts single (thenTurns 50_001 1) (1 ∷ [])
+    ∷ starts single (thenTurns 25_001 1) (0 ∷ [])
+    ∷ prints
+    single
+    (thenTurns 170_000 3 ++ oneRequest 10_000)
+    ((1 ∷ 20 ∷ 1 ∷ 1 ∷ 0 ∷ [])
+    ∷ (2 ∷ 21 ∷ 1 ∷ 100 ∷ 0 ∷ [])
+    ∷ (3 ∷ 26 ∷ 1 ∷ 170_000 ∷ 170_000 ∷ [])
+    ∷ (4 ∷ 23 ∷ 0 ∷ 500_000 ∷ 170_000 ∷ [])
+    ∷ (5 ∷ 23 ∷ 0 ∷ 750_000 ∷ 170_000 ∷ [])
+    ∷ (6 ∷ 23 ∷ 0 ∷ 1_000_000 ∷ 170_000 ∷ [])
+    ∷ (7 ∷ 20 ∷ 1 ∷ 1 ∷ 170_000 ∷ [])
+    ∷ (8 ∷ 21 ∷ 1 ∷ 100 ∷ 170_000 ∷ [])
+    ∷ (9 ∷ 25 ∷ 1 ∷ 30_000 ∷ 180_000 ∷ [])
+    ∷ [])
     ∷ []

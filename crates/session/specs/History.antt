@@ -4,8 +4,9 @@ use mathlib.Core.List.{List, [], _∷_}
 use Prim.Native.Nat.{ℕ, suc, _+_, _*_}
 use lib.Dec.{eqb}
 use Rattle.table.specs.Fold.{if}
-use Rattle.table.specs.Admission.{periodAt}
+use Rattle.table.specs.Admission.{reservedAt, periodAt, grantedOf}
 use Rattle.table.specs.declared.Table.{Table}
+use Rattle.stream.specs.Stream.{carry}
 use Rattle.session.specs.Session.{streamAt, horizon}
 use Rattle.calls.specs.Replies.{numberOf, streamOf}
 use Rattle.session.specs.Calls.{answerTo}
@@ -45,6 +46,11 @@ replied n m = eqb (numberOf (m .answer .reply)) n
 abbrev pub concerns : ℕ → Moment → Bool
 concerns i m = eqb (streamOf (m .call) (m .answer .reply)) (i + 1)
 
+-- no call was answered by this number
+unfoldable pub never : ℕ → List Moment → Bool
+never n [] = true
+never n (m ∷ earlier) = not (replied n m) && never n earlier
+
 -- whether a call closed a job of this stream: it was answered by 23, and "Every stream with d = h closes its job"
 abbrev pub closes : ℕ → Moment → Bool
 closes i m = replied 23 m && eqb (streamAt (m .before) i .deadline .0) (horizon (m .before))
@@ -83,6 +89,20 @@ expires i m = replied 22 m && concerns i m
 abbrev pub expiry : ℕ → Moment → ℕ
 expiry i m = if (expires i m) 1 0
 
--- the two together, "one such time" being W: both are read off the history of calls and replies, and not off the session's own cells
+-- "the sum of the durations reported for that job, plus one such time for each of its expired slots", "one such time" being W: both are read off the history of calls and replies, and not off the session's own cells
+unfoldable pub addedOf : Table → ℕ → List Moment → ℕ
+addedOf t i past = sinceClosing reported i past + t .worst * sinceClosing expiry i past
+
+-- "its granted budget": that of the table as it was opened
+abbrev pub budgetOf : Table → ℕ → ℕ
+budgetOf t i = grantedOf (t .worst) (t .padding) (reservedAt t i)
+
+-- what a stream's open job started with, by the history: nothing at first; and since each closing, as document 02 has it in Req 03, "the new job starts with the old charge less the granted budget, or zero if that is negative", where the old charge is what the old job started with and what was added since
+unfoldable pub startOf : Table → ℕ → List Moment → ℕ
+startOf t i [] = 0
+startOf t i (m ∷ earlier) =
+    if (closes i m) (carry (startOf t i earlier + addedOf t i earlier) (budgetOf t i)) (startOf t i earlier)
+
+-- its charge: the two together
 unfoldable pub chargeOf : Table → ℕ → List Moment → ℕ
-chargeOf t i past = sinceClosing reported i past + t .worst * sinceClosing expiry i past
+chargeOf t i past = startOf t i past + addedOf t i past

@@ -2,12 +2,13 @@
 use mathlib.Core.Path.{_≡_}
 use mathlib.Core.Bool.{true, false}
 use mathlib.Core.List.{List, map}
+use mathlib.Core.Logic.{_↔_}
 use Prim.Native.Nat.{ℕ, _+_, _-_, _*_, _≤_, _<_}
 use lib.ListN.{getD}
 use Rattle.table.specs.Fold.{sumTo}
 use Rattle.table.specs.Admission.{admissionOf}
 use Rattle.table.specs.declared.Table.{Table}
-use Rattle.stream.specs.Laws.{GoesFirst}
+use Rattle.stream.specs.Laws.{CarriedOn, GoesFirst}
 use Rattle.session.specs.Session.{streamAt, horizon, slotsAt, filledAt, inSet, someFilled, noSlot, scaledPart, latest, sound}
 use Rattle.stream.specs.Choice.{distance}
 use Rattle.session.specs.Choice.{nearestAt, sentBefore, chosen, expiresBefore, expiring}
@@ -15,6 +16,8 @@ use Rattle.calls.specs.Replies.{numberOf}
 use Rattle.session.specs.Calls.{answerTo, after}
 use Rattle.session.specs.Opening.{zeroSession, openingOf}
 use Rattle.session.specs.Cases.{Case, markedCases, otherCases}
+use Rattle.session.specs.History.{Moment, historyOf, withinBounds, never, sinceClosing, reported, expiry, addedOf, budgetOf}
+use Rattle.session.specs.Promise.{EachClosed}
 use Rattle.session.specs.declared.Session.{Session}
 use Rattle.calls.specs.declared.Call.{Call}
 
@@ -50,6 +53,36 @@ NumbersAreKept =
     (t : Table) (calls : List Call) → admissionOf t ≡ 0
     → let s = after (openingOf t .session) calls in
     (s .worst ≡ t .worst) × (s .span ≡ t .span) × (s .padding ≡ t .padding) × (s .count ≡ t .count)
+
+-- Of each job, whatever calls were made (document 02, Req 03): its charge is what it started with, the durations reported for it, overlong ones among them, and W for each of its expired slots, counted off the history.
+abbrev pub ChargeIsSum : Type 0
+ChargeIsSum =
+    (t : Table) (calls : List Call) → admissionOf t ≡ 0 → (i : ℕ) → i < t .count
+    → let past = historyOf t calls in
+    let x = streamAt (after (openingOf t .session) calls) i in
+    x .charge .0 ≡ x .start .0 + sinceClosing reported i past + t .worst * sinceClosing expiry i past
+
+-- And of each that was closed: the next one starts with its charge less the granted budget of the table, cut at 0, and its record keeps what it had started with.
+abbrev pub OverrunIsCarried : Type 0
+OverrunIsCarried =
+    (t : Table) (calls : List Call) → admissionOf t ≡ 0
+    → EachClosed t (historyOf t calls)
+    (λ i m earlier. CarriedOn (budgetOf t i) (streamAt (m .before) i) (streamAt (m .answer .session) i))
+
+-- "Demand 3 stands under its premises, where nothing is ever carried": as long as no completion has run over, which is the first of them, every job starts with 0, and so says every record, and of a closed job "The charge is the sum of the durations reported for that job, plus one such time for each of its expired slots."
+pub record StartedAtZero (t : Table) (i : ℕ) (m : Moment) (earlier : List Moment) : Type 0 where
+  pub recorded : streamAt (m .answer .session) i .last .start .0 ≡ 0
+  pub next : streamAt (m .answer .session) i .start .0 ≡ 0
+  pub sum : streamAt (m .before) i .charge .0 ≡ addedOf t i earlier
+
+abbrev pub NothingIsCarried : Type 0
+NothingIsCarried =
+    (t : Table) (calls : List Call) → admissionOf t ≡ 0 → never 26 (historyOf t calls) ≡ true
+    → EachClosed t (historyOf t calls) (StartedAtZero t)
+
+-- The bounds of the promise are that, and that no clock report was late.
+abbrev pub BoundsAreTwo : Type 0
+BoundsAreTwo = (past : List Moment) → (withinBounds past ≡ true) ↔ ((never 26 past ≡ true) × (never 28 past ≡ true))
 
 -- "the present time changes nothing": a clock report of it hands back the session as it was, whatever the reply
 abbrev pub PresentTimeChangesNothing : Type 0

@@ -4,20 +4,16 @@ use mathlib.Core.Bool.{true}
 use mathlib.Core.List.{List, _∷_, _++_}
 use Prim.Native.Nat.{ℕ, _+_, _/_, _≤_, _<_}
 use Rattle.table.specs.Fold.{if}
-use Rattle.table.specs.Admission.{reservedAt, grantedOf, admissionOf}
+use Rattle.table.specs.Admission.{admissionOf}
 use Rattle.table.specs.declared.Table.{Table}
 use Rattle.time.specs.Time.{moment, diskTime}
 use Rattle.session.specs.Session.{streamAt, sound}
 use Rattle.calls.specs.Replies.{numberOf}
 use Rattle.session.specs.Calls.{answerTo, after}
 use Rattle.session.specs.Opening.{openingOf}
-use Rattle.session.specs.History.{Moment, chargeOf, closes, completes, dueOf, expires, expiry, historyOf, sinceClosing, withinBounds}
+use Rattle.session.specs.History.{Moment, budgetOf, chargeOf, closes, completes, dueOf, expires, expiry, historyOf, sinceClosing, startOf, withinBounds}
 use Rattle.session.specs.declared.Session.{Session}
 use Rattle.calls.specs.declared.Call.{Call}
-
--- "its granted budget": that of the table as it was opened
-abbrev pub budgetOf : Table → ℕ → ℕ
-budgetOf t i = grantedOf (t .worst) (t .padding) (reservedAt t i)
 
 -- "Every closed job", and not only the last of its stream: that of stream i which the call m closed, after the earlier ones
 abbrev pub EachClosed : Table → List Moment → (ℕ → Moment → List Moment → Type 0) → Type 0
@@ -25,7 +21,7 @@ EachClosed t past P =
     (later : List Moment) (m : Moment) (earlier : List Moment) → later ++ (m ∷ earlier) ≡ past
     → (i : ℕ) → i < t .count → closes i m ≡ true → P i m earlier
 
--- Of a closed job, always: its deadline is the one that its number gives. "The charge is the sum of the durations reported for that job, plus one such time for each of its expired slots." The record that is written at the closing says the same, its expired count included.
+-- Of a closed job, always: its deadline is the one that its number gives. "The charge is the sum of the durations reported for that job, plus one such time for each of its expired slots", on top of what the job started with; within the bounds that is nothing (the law `NothingIsCarried`). The record that is written at the closing says the same, its expired count and its start included.
 pub record ClosedTruly (t : Table) (i : ℕ) (m : Moment) (earlier : List Moment) : Type 0 where
   pub due : streamAt (m .before) i .deadline .0 ≡ dueOf t i earlier
   pub made-of : streamAt (m .before) i .charge .0 ≡ chargeOf t i earlier
@@ -35,6 +31,7 @@ pub record ClosedTruly (t : Table) (i : ℕ) (m : Moment) (earlier : List Moment
         closed = m .before .clock;
         deadline = moment (dueOf t i earlier);
         expired = sinceClosing expiry i earlier;
+        start = diskTime (startOf t i earlier);
       }
 
 -- Of a closed job, within the bounds: it "was closed by its deadline, with a charge at most its granted budget and more than that budget less one worst-case time."

@@ -25,9 +25,10 @@ noStream =
       deadline = moment 0;
       charge = diskTime 0;
       expired = 0;
+      start = diskTime 0;
       queued = 0;
       places = [];
-      last = record { charge = diskTime 0; closed = moment 0; deadline = moment 0; expired = 0 };
+      last = record { charge = diskTime 0; closed = moment 0; deadline = moment 0; expired = 0; start = diskTime 0 };
     }
 
 -- a stream of a session, counted from 0

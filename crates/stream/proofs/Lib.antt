@@ -1,6 +1,7 @@
 pub mod Slots
 pub mod Queue
 pub mod Orderly
+pub mod Carried
 pub mod Queues
 pub mod Fits
 pub mod Best

@@ -7,7 +7,8 @@ use Prim.Native.Nat.{ℕ, suc, _+_, _-_, _*_, _≤_, _<_}
 use lib.ListN.{getD}
 use lib.Dec.{leb}
 use Rattle.table.specs.Fold.{countTo}
-use Rattle.stream.specs.Stream.{slots, microDeadline, shifted, charged}
+use Rattle.time.specs.declared.Clock.{Clock}
+use Rattle.stream.specs.Stream.{slots, microDeadline, shifted, charged, closed}
 use Rattle.stream.specs.Choice.{distance, nearest}
 use Rattle.stream.specs.declared.Stream.{Stream}
 
@@ -29,6 +30,17 @@ MinusSign =
     (worst a n : ℕ) (x : Stream) → a ≤ worst
     → (microDeadline worst (charged a x) n ≡ shifted worst a x (microDeadline worst x (suc n)))
     × ((worst - a) * x .period ≤ microDeadline worst x (suc n) .above)
+
+-- How one job of a stream follows another (document 02, Req 03): "the new job starts with the old charge less the granted budget, or zero if that is negative. The last-job record also keeps what the job started with." Nothing is subtracted here.
+pub record CarriedOn (budget : ℕ) (old new : Stream) : Type 0 where
+  pub overrun : budget ≤ old .charge .0 → new .start .0 + budget ≡ old .charge .0
+  pub no-credit : old .charge .0 ≤ budget → new .start .0 ≡ 0
+  pub charged : new .charge ≡ new .start
+  pub recorded : new .last .start ≡ old .start
+
+-- A stream that closes its job carries on what is above its granted budget.
+abbrev pub ClosedIsCarriedOn : Type 0
+ClosedIsCarriedOn = (now : Clock) (x : Stream) → CarriedOn (x .granted .0) x (closed now x)
 
 -- Of the indices below n that have one or more, `first` goes first: none goes before it, and it goes before each lower one, so that of equals the lowest is taken.
 abbrev pub GoesFirst : (ℕ → ℕ) → (ℕ → ℕ → Bool) → ℕ → ℕ → Type 0

@@ -17,7 +17,7 @@ use Rattle.stream.specs.declared.Stream.{Stream}
 abbrev pub queue-max : ℕ
 queue-max = 16
 
--- "Per stream: release r = 0, deadline d = p, charge c = 0, expired count 0, a queue [...], and a record of the last closed job (charge, closing clock, deadline, expired count; all zero before the first)."
+-- "Per stream: release r = 0, deadline d = p, charge c = 0, expired count 0, a queue [...], and a record of the last closed job (charge, closing clock, deadline, expired count; all zero before the first)." What the open job started with (document 02, Req 03) is 0 as well.
 unfoldable pub freshStream : ℕ → ℕ → ℕ → Stream
 freshStream e p g =
     record {
@@ -28,9 +28,10 @@ freshStream e p g =
       deadline = moment p;
       charge = diskTime 0;
       expired = 0;
+      start = diskTime 0;
       queued = 0;
       places = replicate queue-max 0;
-      last = record { charge = diskTime 0; closed = moment 0; deadline = moment 0; expired = 0 };
+      last = record { charge = diskTime 0; closed = moment 0; deadline = moment 0; expired = 0; start = diskTime 0 };
     }
 
 -- "Slots of a stream: the number s of whole n ≥ 1 with (c + n × W) × p ≤ (h − r) × g." It is found by one division; that it is that number is the law `SlotsAreCounted`.
@@ -61,6 +62,7 @@ withQueue x queued places =
       deadline = x .deadline;
       charge = x .charge;
       expired = x .expired;
+      start = x .start;
       queued = queued;
       places = places;
       last = x .last;
@@ -88,6 +90,7 @@ withCharge x charge expired =
       deadline = x .deadline;
       charge = diskTime charge;
       expired = expired;
+      start = x .start;
       queued = x .queued;
       places = x .places;
       last = x .last;
@@ -101,20 +104,26 @@ charged a x = withCharge x (x .charge .0 + a) (x .expired)
 unfoldable pub lapsed : ℕ → Stream → Stream
 lapsed worst x = withCharge x (x .charge .0 + worst) (x .expired + 1)
 
--- "closes its job: the record is written, r becomes d, d grows by p, charge and expired count become 0"
+-- what a job hands on to the next one of its stream (document 02, Req 03): "the old charge less the granted budget, or zero if that is negative", which is how ℕ subtracts
+abbrev pub carry : ℕ → ℕ → ℕ
+carry charge budget = charge - budget
+
+-- "closes its job: the record is written, r becomes d, d grows by p, [...] expired count become 0", and of the charge (document 02, Req 03): "the new job starts with the old charge less the granted budget, or zero if that is negative. The last-job record also keeps what the job started with."
 unfoldable pub closed : Clock → Stream → Stream
 closed now x =
+    let carried = diskTime (carry (x .charge .0) (x .granted .0)) in
     record {
       reserved = x .reserved;
       period = x .period;
       granted = x .granted;
       release = x .deadline;
       deadline = moment (x .deadline .0 + x .period);
-      charge = diskTime 0;
+      charge = carried;
       expired = 0;
+      start = carried;
       queued = x .queued;
       places = x .places;
-      last = record { charge = x .charge; closed = now; deadline = x .deadline; expired = x .expired };
+      last = record { charge = x .charge; closed = now; deadline = x .deadline; expired = x .expired; start = x .start };
     }
 
 -- "Every stream with d = h closes its job [...] The others keep theirs."
@@ -132,23 +141,24 @@ soundQueue places queued =
     && leb queued queue-max
     && allTo (λ j. ltb j queued || eqb (getD places j 0) 0) queue-max
 
--- "d = r + p [...] for each stream; [...] all deadlines are at most 1,000,000,000,000; each charge is at most g + 10,000,000 and at least W × the expired count; at most 16 places are queued". That the cell for g holds the granted budget is part of it.
+-- "d = r + p [...] for each stream; [...] all deadlines are at most 1,000,000,000,000; each charge is at most g + 10,000,000 and at least W × the expired count; at most 16 places are queued". That the cell for g holds the granted budget is part of it, and since "What a later request adds to the state joins this rule", a charge is at least what its job started with and W × the expired count.
 unfoldable pub soundCells : ℕ → ℕ → Stream → Bool
 soundCells worst k x =
     eqb (x .granted .0) (grantedOf worst k (x .reserved))
     && eqb (x .deadline .0) (x .release .0 + x .period)
     && leb (x .deadline .0) session-end
     && leb (x .charge .0) (x .granted .0 + duration-max)
-    && leb (worst * x .expired) (x .charge .0)
+    && leb (x .start .0 + worst * x .expired) (x .charge .0)
     && soundQueue (x .places) (x .queued)
 
 -- "and r ≤ h for each stream"
 unfoldable pub soundStream : ℕ → ℕ → ℕ → Stream → Bool
 soundStream worst k h x = soundCells worst k x && leb (x .release .0) h
 
--- "a record of the last closed job (charge, closing clock, deadline, expired count; all zero before the first)"
+-- "a record of the last closed job (charge, closing clock, deadline, expired count; all zero before the first)", with what the job started with
 unfoldable pub zeroJob : Job → Bool
-zeroJob j = eqb (j .charge .0) 0 && eqb (j .closed .0) 0 && eqb (j .deadline .0) 0 && eqb (j .expired) 0
+zeroJob j =
+    eqb (j .charge .0) 0 && eqb (j .closed .0) 0 && eqb (j .deadline .0) 0 && eqb (j .expired) 0 && eqb (j .start .0) 0
 
 -- "every unused cell is 0 (.. streams past the count ..)"
 unfoldable pub unusedStream : Stream → Bool
@@ -160,6 +170,7 @@ unusedStream x =
     && eqb (x .deadline .0) 0
     && eqb (x .charge .0) 0
     && eqb (x .expired) 0
+    && eqb (x .start .0) 0
     && eqb (x .queued) 0
     && soundQueue (x .places) 0
     && zeroJob (x .last)

@@ -27,6 +27,7 @@ pub struct Job {
     pub closed: Clock,
     pub deadline: Clock,
     pub expired: u64,
+    pub start: Charge,
 }
 
 // The first `queued` of the sixteen places are used, in order of arrival.
@@ -39,6 +40,7 @@ pub struct Stream {
     pub deadline: Clock,
     pub charge: Charge,
     pub expired: u64,
+    pub start: Charge,
     pub queued: usize,
     pub places: [u64; Stream::QUEUE_MAX],
     pub last: Job,
@@ -61,6 +63,7 @@ impl Stream {
             closed: start,
             deadline: start,
             expired: 0,
+            start: nothing,
         };
         let budget = Charge::of(granted);
         let deadline = Clock::at(period as u64);
@@ -73,6 +76,7 @@ impl Stream {
             deadline: deadline,
             charge: nothing,
             expired: 0,
+            start: nothing,
             queued: 0,
             places: places,
             last: last,
@@ -115,7 +119,7 @@ impl Stream {
         if !(budget & due & in_session & charge) {
             return false;
         }
-        let expired = self.charge.covers(worst, self.expired);
+        let expired = self.charge.covers(self.start, worst, self.expired);
         let places = self.places;
         let queue = queue_is_sound(places, self.queued);
         expired & queue
@@ -145,10 +149,11 @@ impl Stream {
         let release = self.release.is(start);
         let deadline = self.deadline.is(start);
         let charge = self.charge.is(nothing);
+        let started = self.start.is(nothing);
         let places = self.places;
         let queue = queue_is_sound(places, 0);
         let last = self.last.is_zero();
-        table & granted & release & deadline & charge & expired & queued & queue & last
+        table & granted & release & deadline & charge & expired & started & queued & queue & last
     }
 
     // With a place at the queue's end.
@@ -221,26 +226,29 @@ impl Stream {
         due & next.is_past_end()
     }
 
-    // With its job closed and the next one begun.
+    // With its job closed and the next one begun, which starts with what this one was charged above its budget.
     fn closed(self, now: Clock) -> Stream
         requires { ⌜ self .deadline .0 ≤ session-end ⌝ }
         ensures { λ r. ⌜ r ≡ closed now self ⌝ }
     {
         let deadline = self.deadline;
         let charge = self.charge;
+        let started = self.start;
+        let carried = charge.above(self.granted);
         let last = Job {
             charge: charge,
             closed: now,
             deadline: deadline,
             expired: self.expired,
+            start: started,
         };
         let next = deadline.plus(self.period);
-        let nothing = Charge::of(0);
         let mut x = self;
         x.release = deadline;
         x.deadline = next;
-        x.charge = nothing;
+        x.charge = carried;
         x.expired = 0;
+        x.start = carried;
         x.last = last;
         x
     }
@@ -252,10 +260,12 @@ impl Job {
         ensures { λ r. ⌜ r ≡ zeroJob self ⌝ }
     {
         let start = Clock::at(0);
-        let charge = self.charge.is(Charge::of(0));
+        let nothing = Charge::of(0);
+        let charge = self.charge.is(nothing);
         let closed = self.closed.is(start);
         let deadline = self.deadline.is(start);
-        charge & closed & deadline & (self.expired == 0)
+        let started = self.start.is(nothing);
+        charge & closed & deadline & (self.expired == 0) & started
     }
 }
 

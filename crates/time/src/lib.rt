@@ -190,15 +190,25 @@ impl Charge {
         }
     }
 
-    // At least the worst-case time for each expired slot.
-    pub fn covers(self, worst: u32, expired: u64) -> bool
+    // At least what it started with and the worst-case time for each expired slot.
+    pub fn covers(self, start: Charge, worst: u32, expired: u64) -> bool
         requires { ⌜ (0 < worst) × (worst ≤ duration-max) × (self .0 ≤ session-end) ⌝ }
-        ensures { λ r. ⌜ r ≡ leb (worst * expired) (self .0) ⌝ }
+        ensures { λ r. ⌜ r ≡ leb (start .0 + worst * expired) (self .0) ⌝ }
     {
-        if self.0 < expired {
+        if (self.0 < start.0) | (self.0 < expired) {
             return false;
         }
-        worst as u64 * expired <= self.0
+        start.0 + worst as u64 * expired <= self.0
+    }
+
+    // What was had above a budget: nothing, where less was had.
+    pub fn above(self, budget: Charge) -> Charge
+        ensures { λ r. ⌜ r ≡ diskTime (self .0 - budget .0) ⌝ }
+    {
+        if self.0 < budget.0 {
+            return Charge(0);
+        }
+        Charge(self.0 - budget.0)
     }
 
     pub fn plus(self, more: Charge) -> Charge

@@ -32,6 +32,6 @@ stateOf s n =
       stream = if (eqb (stateRefusal s n) 0) (streamAt s (n - 1)) (freshStream 0 0 0);
     }
 
--- "a record of the last closed job (charge, closing clock, deadline, expired count; all zero before the first)", or the refusal beside zeros
+-- "a record of the last closed job (charge, closing clock, deadline, expired count; all zero before the first)", with what it started with, or the refusal beside zeros
 unfoldable pub closingOf : Session → ℕ → Closing
 closingOf s n = record { number = stateOf s n .number; job = stateOf s n .stream .last }

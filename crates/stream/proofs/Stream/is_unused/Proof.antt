@@ -22,6 +22,9 @@ is-requires-3 c κs = search needs
 is-requires-4 : tie.Need-is-requires-4
 is-requires-4 c κs = search needs
 
+is-requires-5 : tie.Need-is-requires-5
+is-requires-5 c κs = search needs
+
 queue-is-sound-requires : tie.Need-queue-is-sound-requires
 queue-is-sound-requires c κs = search needs
 
@@ -34,12 +37,13 @@ returns c =
     rw (
       c .is-zero .ensures,
       c .before .queue-is-sound .ensures,
-      c .before .before .before .is4 .ensures,
-      c .before .before .before .before .is3 .ensures,
-      c .before .before .before .before .before .is2 .ensures,
-      c .before .before .before .before .before .before .is .ensures,
-      c .before .before .before .before .before .before .before .of .ensures,
-      c .before .before .before .before .before .before .before .before .at .ensures,
+      c .before .before .before .is5 .ensures,
+      c .before .before .before .before .is4 .ensures,
+      c .before .before .before .before .before .is3 .ensures,
+      c .before .before .before .before .before .before .is2 .ensures,
+      c .before .before .before .before .before .before .before .is .ensures,
+      c .before .before .before .before .before .before .before .before .of .ensures,
+      c .before .before .before .before .before .before .before .before .before .at .ensures,
     )
 
 pub is-unused-spec : {M : Type 1} → statement M
@@ -52,6 +56,7 @@ is-unused-spec =
     is-requires-2
     is-requires-3
     is-requires-4
+    is-requires-5
     queue-is-sound-requires
     is-zero-requires
     returns)

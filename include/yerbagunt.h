@@ -24,8 +24,8 @@
 /* The version of this header and of its library. Another major number: the layout of a struct changed, or the answer to some input; read what
  * changed, and compile anew. Another minor number: something was added, and programs go on as they are. Another patch: neither.
  * The numbers of replies keep their meaning through all of them. */
-#define YERBAGUNT_VERSION "2.0.0"
-#define YERBAGUNT_VERSION_MAJOR 2
+#define YERBAGUNT_VERSION "3.0.0"
+#define YERBAGUNT_VERSION_MAJOR 3
 #define YERBAGUNT_VERSION_MINOR 0
 #define YERBAGUNT_VERSION_PATCH 0
 
@@ -86,11 +86,13 @@ enum yerbagunt_number {
 /* A stream's last closed job; all zero before the first. */
 struct yerbagunt_job {
     uint64_t charge, closed, deadline, expired;
+    uint64_t start; /* of the charge, what the job started with; its own disk time is charge - start - W * expired */
 };
 
 struct yerbagunt_stream {
     uint32_t reserved, period;
     uint64_t granted, release, deadline, charge, expired;
+    uint64_t start;  /* of the charge, what the open job started with: what the one before it was charged above `granted`, or 0 */
     uint64_t queued; /* the first so many places are used, in order of arrival */
     uint64_t places[YERBAGUNT_QUEUE_MAX];
     struct yerbagunt_job last;
@@ -108,13 +110,14 @@ struct yerbagunt_session {
 };
 
 YERBAGUNT_ASSERT(sizeof(size_t) == 8, "a target with 64-bit sizes");
-YERBAGUNT_ASSERT(sizeof(struct yerbagunt_job) == 32, "job");
-YERBAGUNT_ASSERT(sizeof(struct yerbagunt_stream) == 216, "stream");
+YERBAGUNT_ASSERT(sizeof(struct yerbagunt_job) == 40, "job");
+YERBAGUNT_ASSERT(sizeof(struct yerbagunt_stream) == 232, "stream");
 YERBAGUNT_ASSERT(offsetof(struct yerbagunt_stream, granted) == 8, "stream.granted");
-YERBAGUNT_ASSERT(offsetof(struct yerbagunt_stream, queued) == 48, "stream.queued");
-YERBAGUNT_ASSERT(offsetof(struct yerbagunt_stream, places) == 56, "stream.places");
-YERBAGUNT_ASSERT(offsetof(struct yerbagunt_stream, last) == 184, "stream.last");
-YERBAGUNT_ASSERT(sizeof(struct yerbagunt_session) == 1784, "session");
+YERBAGUNT_ASSERT(offsetof(struct yerbagunt_stream, start) == 48, "stream.start");
+YERBAGUNT_ASSERT(offsetof(struct yerbagunt_stream, queued) == 56, "stream.queued");
+YERBAGUNT_ASSERT(offsetof(struct yerbagunt_stream, places) == 64, "stream.places");
+YERBAGUNT_ASSERT(offsetof(struct yerbagunt_stream, last) == 192, "stream.last");
+YERBAGUNT_ASSERT(sizeof(struct yerbagunt_session) == 1912, "session");
 YERBAGUNT_ASSERT(offsetof(struct yerbagunt_session, order) == 12, "session.order");
 YERBAGUNT_ASSERT(offsetof(struct yerbagunt_session, count) == 16, "session.count");
 YERBAGUNT_ASSERT(offsetof(struct yerbagunt_session, clock) == 24, "session.clock");

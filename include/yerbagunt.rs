@@ -6,7 +6,7 @@
 #![allow(dead_code)]
 
 /// The version of this wrapper and its library, that of `yerbagunt.h`.
-pub const VERSION: &str = "2.0.0";
+pub const VERSION: &str = "3.0.0";
 
 pub const STREAMS_MAX: usize = 8;
 pub const QUEUE_MAX: usize = 16;
@@ -51,6 +51,8 @@ pub struct Job {
     pub closed: u64,
     pub deadline: u64,
     pub expired: u64,
+    /// Of the charge, what the job started with; its own disk time is charge − start − W × expired.
+    pub start: u64,
 }
 
 #[repr(C)]
@@ -63,6 +65,8 @@ pub struct Stream {
     pub deadline: u64,
     pub charge: u64,
     pub expired: u64,
+    /// Of the charge, what the open job started with: what the one before it was charged above `granted`, or 0.
+    pub start: u64,
     pub queued: u64,
     pub places: [u64; QUEUE_MAX],
     pub last: Job,
@@ -84,7 +88,7 @@ pub struct Session {
     pub streams: [Stream; STREAMS_MAX],
 }
 
-const _: () = assert!(size_of::<Stream>() == 216 && size_of::<Session>() == 1784);
+const _: () = assert!(size_of::<Stream>() == 232 && size_of::<Session>() == 1912);
 
 #[repr(C)]
 #[derive(Clone, Copy, Debug, PartialEq, Eq)]

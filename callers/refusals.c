@@ -25,8 +25,10 @@ static int to_second(const struct yerbagunt_session *i, struct session *s)
     for (int n = 0; n < STREAM_MAX; n++) {
         const struct yerbagunt_stream *x = &i->streams[n];
         s->table.reservations[n] = (struct reservation){x->reserved, x->period};
-        s->streams[n] = (struct stream){x->granted, x->release, x->deadline, x->charge, x->expired, x->queued, {0}, {x->last.charge, x->last.closed, x->last.deadline, x->last.expired}};
-        memcpy(s->streams[n].places, x->places, sizeof x->places);
+        struct stream *y = &s->streams[n];
+        *y = (struct stream){.granted = x->granted, .release = x->release, .deadline = x->deadline, .charge = x->charge, .expired = x->expired, .start = x->start, .length = x->queued};
+        y->last = (struct record){.charge = x->last.charge, .clock = x->last.closed, .deadline = x->last.deadline, .expired = x->last.expired, .start = x->last.start};
+        memcpy(y->places, x->places, sizeof x->places);
     }
     return 1;
 }
@@ -122,24 +124,38 @@ static void try_all(const struct yerbagunt_session *given, unsigned long at)
     }
 }
 
-/* Sessions to start from: fresh, with a full queue, with a request at the disk, after closed jobs. */
-static void sessions(struct yerbagunt_session made[4])
+/* A turn, and a wait for as long as it says. */
+static void go_on(struct yerbagunt_session *s)
+{
+    struct yerbagunt_reply r = yerbagunt_turn(s);
+    if (r.number == YERBAGUNT_WAIT)
+        yerbagunt_clock(s, r.value);
+}
+
+/* Sessions to start from: fresh, with a full queue, with a request at the disk, after closed jobs, and with a job that started with an overrun and lost a slot. */
+#define MADE 5
+static void sessions(struct yerbagunt_session made[MADE])
 {
     const struct yerbagunt_reservation table[2] = {{25000, 250000}, {175000, 500000}};
     struct yerbagunt_opening o = yerbagunt_open(25000, 1000000, 1, (struct yerbagunt_reservations){table, 2});
     hold(o.number == YERBAGUNT_OK, "the table is admitted", 0);
-    for (int i = 0; i < 4; i++)
+    for (int i = 0; i < MADE; i++)
         made[i] = o.session;
     for (int i = 0; i < YERBAGUNT_QUEUE_MAX; i++)
         yerbagunt_arrival(&made[1], 1, 100 + i);
     yerbagunt_arrival(&made[2], 2, 900);
     hold(yerbagunt_turn(&made[2]).number == YERBAGUNT_SENT, "a request is sent", 0);
-    for (int i = 0; i < 60; i++) {
-        struct yerbagunt_reply r = yerbagunt_turn(&made[3]);
-        if (r.number == YERBAGUNT_WAIT)
-            yerbagunt_clock(&made[3], r.value);
-    }
+    for (int i = 0; i < 60; i++)
+        go_on(&made[3]);
     hold(made[3].streams[0].last.deadline != 0, "a job was closed", 0);
+    const struct yerbagunt_stream *late = &made[4].streams[0];
+    yerbagunt_arrival(&made[4], 1, 100);
+    yerbagunt_turn(&made[4]);
+    hold(yerbagunt_done(&made[4], 60000).number == YERBAGUNT_OVERLONG, "a request took 10,000 more than its budget", 0);
+    for (int i = 0; i < 60 && late->start + late->expired * 25000 != 35000; i++)
+        go_on(&made[4]);
+    hold(late->start == 10000 && late->expired == 1 && late->charge == 35000, "the next job started with them", 0);
+    hold(late->last.charge == 60000 && late->last.start == 0, "the job that closed had started with nothing", 0);
 }
 
 static void openings(void)
@@ -197,13 +213,13 @@ static void files(void)
 
 int main(void)
 {
-    static struct yerbagunt_session made[4], changed;
+    static struct yerbagunt_session made[MADE], changed;
     static const uint8_t flips[] = {0x01, 0x80, 0xff};
     unsigned long tried = 0;
     openings();
     files();
     sessions(made);
-    for (int m = 0; m < 4; m++) {
+    for (int m = 0; m < MADE; m++) {
         try_all(&made[m], 0);
         for (size_t at = 0; at < sizeof changed; at++)
             for (size_t f = 0; f < sizeof flips; f++) {

@@ -151,11 +151,11 @@ static void sessions(struct yerbagunt_session made[MADE])
     const struct yerbagunt_stream *late = &made[4].streams[0];
     yerbagunt_arrival(&made[4], 1, 100);
     yerbagunt_turn(&made[4]);
-    hold(yerbagunt_done(&made[4], 60000).number == YERBAGUNT_OVERLONG, "a request took 10,000 more than its budget", 0);
-    for (int i = 0; i < 60 && late->start + late->expired * 25000 != 35000; i++)
+    hold(yerbagunt_done(&made[4], 110000).number == YERBAGUNT_OVERLONG, "a request took 60,000 more than its budget of 50,000", 0);
+    for (int i = 0; i < 60 && late->expired == 0; i++)
         go_on(&made[4]);
-    hold(late->start == 10000 && late->expired == 1 && late->charge == 35000, "the next job started with them", 0);
-    hold(late->last.charge == 60000 && late->last.start == 0, "the job that closed had started with nothing", 0);
+    hold(late->last.start == 60000 && late->last.charge == 60000, "the job after it started with these, and had nothing else", 0);
+    hold(late->start == 10000 && late->expired == 1 && late->charge == 35000, "the next one started with what was left, and lost a slot", 0);
 }
 
 static void openings(void)

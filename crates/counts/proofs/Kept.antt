@@ -2,7 +2,7 @@
 use mathlib.Core.Bool.{Bool, true, false}
 use mathlib.Core.List.{List, [], _∷_, _++_}
 use mathlib.Core.Logic.{_⊎_, inl, inr}
-use mathlib.Core.Path.{_≡_, refl, sym, _∙_, ap, subst}
+use mathlib.Core.Path.{_≡_, refl, ap, subst}
 use Prim.Native.Nat.{ℕ, suc, _+_, _*_, _≤_, _<_}
 use native.Mathlib.Omega.{arith}
 use borrow.Author.Tests.{le-ltb, eqb-true}
@@ -10,12 +10,10 @@ use Rattle.table.proofs.Tests.{both as both-true, le-or-lt}
 use Rattle.table.specs.Fold.{if}
 use Rattle.table.specs.declared.Table.{Table}
 use Rattle.calls.specs.Replies.{numberOf}
-use Rattle.time.specs.declared.Charge.{Charge}
-use Rattle.stream.specs.declared.Job.{Job}
 use Rattle.session.specs.Session.{streamAt}
-use Rattle.session.specs.History.{Moment, closes, closings, replied, reported, expiry, addedOf, startOf, chargeOf, sinceClosing, historyOf}
-use Rattle.session.proofs.Promise.{promise, open-charge, open-start}
-use Rattle.session.proofs.Carried.{overrun-is-carried}
+use Rattle.session.specs.History.{Moment, closes, closings, replied, reported, expiry, addedOf, sinceClosing, historyOf}
+use Rattle.session.proofs.Promise.{promise}
+use Rattle.session.proofs.Carried.{charge-is-sum}
 use Rattle.counts.specs.Tally.{together, closesLate, added, tallyOf}
 use Rattle.counts.specs.Laws.{Reported, JobsAreClosings, LargestIsReported, NoneIsLate, ChargesAddUp, closedSum, closedCharges, closedStarts}
 
@@ -88,18 +86,18 @@ closing-only i m e =
     let moved : numberOf (m .answer .reply) ≡ 23 = eqb-true _ 23 (both-true (replied 23 m) _ e .0) in
     (rw moved, rw moved)
 
--- what is counted and what is charged, over a history whose closings had the charges and the starts that it says
-abbrev Told : Table → ℕ → List Moment → Type 0
-Told t i past =
+-- what is counted and what is charged, over a history whose closed jobs were charged what they started with and what it adds
+abbrev Sums : Table → ℕ → List Moment → Type 0
+Sums t i past =
     (later : List Moment) (m : Moment) (earlier : List Moment) → later ++ (m ∷ earlier) ≡ past → closes i m ≡ true
-    → (streamAt (m .before) i .charge .0 ≡ chargeOf t i earlier) × (streamAt (m .before) i .start .0 ≡ startOf t i earlier)
+    → streamAt (m .before) i .charge .0 ≡ streamAt (m .before) i .start .0 + addedOf t i earlier
 
 abbrev AddUp : Table → ℕ → List Moment → Type 0
 AddUp t i past =
-    tallyOf i past .time + t .worst * tallyOf i past .expired + (closedStarts i past + startOf t i past) ≡ closedCharges i past + chargeOf t i past
+    tallyOf i past .time + t .worst * tallyOf i past .expired + closedStarts i past ≡ closedCharges i past + addedOf t i past
 
-charges : (t : Table) (i : ℕ) (past : List Moment) → Told t i past → AddUp t i past
-unfolding tallyOf together added closedSum chargeOf addedOf startOf sinceClosing if
+charges : (t : Table) (i : ℕ) (past : List Moment) → Sums t i past → AddUp t i past
+unfolding tallyOf together added closedSum addedOf sinceClosing if
 charges t i [] h = omega arith
 charges t i (m ∷ past) h =
     go (closes i m) refl (charges t i past (λ later n earlier e. h (m ∷ later) n earlier (ap (λ (l : List Moment). m ∷ l) e)))
@@ -107,15 +105,14 @@ charges t i (m ∷ past) h =
     go : (b : Bool) → closes i m ≡ b → AddUp t i past → AddUp t i (m ∷ past)
     go true e before =
         let only = closing-only i m e in
-        let told = h [] m past refl e in
-        rw (e, only .0, only .1) (omega (arith, before, told .0, told .1))
+        rw (e, only .0, only .1) (omega (arith, before, h [] m past refl e))
     go false e before = rw e (omega (arith, before))
 
 pub charges-add-up : ChargesAddUp
 charges-add-up t calls admitted i l =
-    rw (open-charge t calls admitted i l, open-start t calls admitted i l)
-    (charges t i (historyOf t calls)
-    (λ later m earlier e closing.
-    let truly = promise t calls admitted .0 .closed-jobs later m earlier e i l closing in
-    let kept = overrun-is-carried t calls admitted later m earlier e i l closing .recorded in
-    (truly .made-of, ap (λ (c : Charge). c .0) (sym kept ∙ ap (λ (j : Job). j .start) (truly .recorded)))))
+    let sums = charge-is-sum t calls admitted in
+    omega (
+      arith,
+      sums .0 i l,
+      charges t i (historyOf t calls) (λ later m earlier e closing. sums .1 later m earlier e i l closing),
+    )

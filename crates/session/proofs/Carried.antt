@@ -1,22 +1,35 @@
 -- What a job starts with: the overrun of the one before it, and nothing while no completion ran over.
 use mathlib.Core.Bool.{true, not}
 use mathlib.Core.List.{List, [], _∷_}
-use mathlib.Core.Path.{_≡_, refl, _∙_, ap}
-use Prim.Native.Nat.{ℕ, _+_, _*_, _<_}
+use mathlib.Core.Path.{_≡_, refl, sym, _∙_, ap}
+use Prim.Native.Nat.{ℕ, _+_, _<_}
 use native.Mathlib.Omega.{arith}
 use Rattle.table.specs.declared.Table.{Table}
 use Rattle.table.proofs.Tests.{both, by-if}
+use Rattle.time.specs.declared.Charge.{Charge}
 use Rattle.stream.specs.Stream.{carry}
 use Rattle.stream.specs.declared.Job.{Job}
 use Rattle.session.specs.Session.{streamAt}
-use Rattle.session.specs.History.{Moment, inBounds, withinBounds, replied, never, closes, addedOf, budgetOf, startOf, chargeOf}
-use Rattle.session.specs.Laws.{ChargeIsSum, OverrunIsCarried, NothingIsCarried, BoundsAreTwo}
-use Rattle.session.proofs.Promise.{AllLawful, lawful-from, never-before, open-charge, open-start}
+use Rattle.session.specs.History.{Moment, historyOf, withinBounds, replied, never, closes, addedOf, budgetOf, startOf, chargeOf}
+use Rattle.session.specs.Laws.{StartIsInCharge, ChargeIsSum, OverrunIsCarried, NothingIsCarried, BoundsAreTwo}
+use Rattle.session.proofs.Promise.{AllLawful, all-lawful, lawful-from, never-before, open-charge, open-start}
+use Rattle.session.proofs.Sound.{sound-of}
 use Rattle.session.proofs.Within.{within-never}
 
+pub start-is-in-charge : StartIsInCharge
+start-is-in-charge s ok i l = sound-of s ok .each i l .covered
+
 pub charge-is-sum : ChargeIsSum
-unfolding chargeOf addedOf
-charge-is-sum t calls admitted i l = omega (arith, open-charge t calls admitted i l, open-start t calls admitted i l)
+unfolding chargeOf
+charge-is-sum t calls admitted = (
+  λ i l. omega (arith, open-charge t calls admitted i l, open-start t calls admitted i l),
+  λ later m earlier e i l closing.
+      let lawful = lawful-from t calls admitted later m earlier e .0 in
+      let told = lawful .closing i l closing .0 in
+      let start : streamAt (m .before) i .start .0 ≡ startOf t i earlier =
+      ap (λ (c : Charge). c .0) (sym (lawful .handing i l closing .recorded) ∙ ap (λ (j : Job). j .start) (told .recorded)) in
+      omega (arith, told .made-of, start),
+)
 
 pub overrun-is-carried : OverrunIsCarried
 overrun-is-carried t calls admitted later m earlier e = lawful-from t calls admitted later m earlier e .0 .handing
@@ -44,14 +57,12 @@ nothing-started t i l (m ∷ past) lawful short =
     (λ e. nothing-started t i l past (lawful .1) before)
 
 pub nothing-is-carried : NothingIsCarried
-unfolding chargeOf
-nothing-is-carried t calls admitted short later m earlier e i l closing =
-    let lawful = lawful-from t calls admitted later m earlier e in
-    let before = never-before t calls admitted 26 later m earlier e short in
-    let told = lawful .0 .closing i l closing .0 in
-    let none = nothing-started t i l earlier (lawful .1) before in
-    record {
-      recorded = ap (λ (j : Job). j .start .0) (told .recorded) ∙ none;
-      next = lawful .0 .handing i l closing .no-credit (lawful .0 .sparing i l closing before);
-      sum = omega (arith, told .made-of, none);
-    }
+nothing-is-carried t calls admitted short = (
+  λ i l. open-start t calls admitted i l ∙ nothing-started t i l (historyOf t calls) (all-lawful t calls admitted) short,
+  λ later m earlier e i l closing.
+      let lawful = lawful-from t calls admitted later m earlier e in
+      let none = nothing-started t i l earlier (lawful .1) (never-before t calls admitted 26 later m earlier e short) in
+      let recorded = ap (λ (j : Job). j .start .0) (lawful .0 .closing i l closing .0 .recorded) ∙ none in
+      let start = ap (λ (c : Charge). c .0) (lawful .0 .handing i l closing .recorded) in
+      record { recorded = recorded; sum = omega (arith, charge-is-sum t calls admitted .1 later m earlier e i l closing, recorded, start) },
+)

@@ -107,7 +107,7 @@ module _ (s : Session) (q : Sound s) (i : ℕ) (l : i < s .count) where
       → Sound (withStream s i (withQueue old queued places))
   queue-kept queued places queue =
       let o = q .each i l in
-      stream-kept s q i l (old .charge .0) (old .expired) queued places (o .charge-high) (o .started) queue
+      stream-kept s q i l (old .charge .0) (old .expired) queued places (o .charge-high) (o .covered) queue
       (disk-kept s q i l (old .charge .0) (old .expired) queued places refl)
 
   -- another charge, while the disk is idle

@@ -79,8 +79,8 @@ module _ (s : Session) (q : Sound s) (i : ℕ) (l : i < s .count) (charge expire
       (omega (arith, summed (rate (s .span)))) (omega (arith, summed (used (s .span)), new-used)) le time
 
 -- a job that closes and one that follows it: with H = w × p, a period's use is g × H, and what was used above it is carried
-carried-on : (r g p w span c : ℕ) → w * p ≡ span → r * (g * w) + c * span ≤ (r + p) * (g * w) + carry c g * span
-carried-on r g p w span c all =
+carry-covers : (r g p w span c : ℕ) → w * p ≡ span → r * (g * w) + c * span ≤ (r + p) * (g * w) + carry c g * span
+carry-covers r g p w span c all =
     let most : c ≤ g + carry c g = omega arith in
     omega (arith, mul-le-mul-right span most, ap (λ (z : ℕ). g * z) all)
 
@@ -114,7 +114,7 @@ module _ (s : Session) (q : Sound s) where
       (λ due.
       omega (
         arith,
-        carried-on (x .release .0) (x .granted .0) (x .period) (s .span / x .period) (s .span) (x .charge .0) (whole s q i l),
+        carry-covers (x .release .0) (x .granted .0) (x .period) (s .span / x .period) (s .span) (x .charge .0) (whole s q i l),
         ap (λ (z : ℕ). z * rate (s .span) x) (q .each i l .due),
       ))
       (λ other. omega arith)

@@ -46,7 +46,7 @@ expire-kept : (s : Session) → Sound s → (i : ℕ) → Grounds s (expire i) �
 unfolding apply lapsed
 expire-kept s q i g =
     let l = g .exists in
-    charge-kept s q i l _ _ (omega (arith, room s q i l (g .slot))) (omega (arith, q .each i l .started)) (g .idle)
+    charge-kept s q i l _ _ (omega (arith, room s q i l (g .slot))) (omega (arith, q .each i l .covered)) (g .idle)
 
 -- a completion: nothing is at the disk any more, so the charge may pass what the slot covers
 finish-kept : (s : Session) → Sound s → (i a : ℕ) → Grounds s (finish i a) → Sound (apply s (finish i a))
@@ -55,7 +55,7 @@ finish-kept s q i a g =
     let l = g .exists in
     let clock = moment (s .clock .0 + a) in
     charge-kept (withDisk s clock (s .head) 0 0) (clock-kept s q clock (s .head) 0 0 (g .inTime) refl) i l _ _
-    (omega (arith, g .short, room s q i l (g .slot))) (omega (arith, q .each i l .started)) refl
+    (omega (arith, g .short, room s q i l (g .slot))) (omega (arith, q .each i l .covered)) refl
 
 -- a clock report
 set-clock-kept : (s : Session) → Sound s → (t : ℕ) → Grounds s (set-clock t) → Sound (apply s (set-clock t))

@@ -52,7 +52,7 @@ pub record Kept (t : Table) (s : Session) (past : List Moment) : Type 0 where
   pub room : never 26 past ≡ true → Room s
   pub time : never 28 past ≡ true → InTime s (s .clock .0)
 
--- what is promised of one moment, and of each of a history; and that while no completion ran over a job is charged at most its budget. Within bounds, what is reported of a completion is at most W.
+-- what is promised of one moment, and of each of a history; and besides, that while no completion ran over a job is charged at most its budget, how the next job follows it, and that within bounds what is reported of a completion is at most W
 pub record Lawful (t : Table) (m : Moment) (earlier : List Moment) : Type 0 where
   pub closing : (i : ℕ) → i < t .count → closes i m ≡ true → ClosedTruly t i m earlier × (withinBounds earlier ≡ true → ClosedOnTime t i m earlier)
   pub sparing : (i : ℕ) → i < t .count → closes i m ≡ true → never 26 earlier ≡ true → streamAt (m .before) i .charge .0 ≤ budgetOf t i
@@ -275,9 +275,12 @@ module _ (t : Table) (calls : List Call) (admitted : admissionOf t ≡ 0) where
   run : Kept t now past × AllLawful t past
   run = kept-after t [] (openingOf t .session) calls (opened-kept t admitted) tt
 
+  pub all-lawful : AllLawful t past
+  all-lawful = run .1
+
   -- each call of the run, with those before it
   pub lawful-from : (later : List Moment) (m : Moment) (earlier : List Moment) → later ++ (m ∷ earlier) ≡ past → AllLawful t (m ∷ earlier)
-  lawful-from later m earlier e = part (AllLawful t) (λ n before lawful. lawful .1) later (m ∷ earlier) (subst (AllLawful t) (sym e) (run .1))
+  lawful-from later m earlier e = part (AllLawful t) (λ n before lawful. lawful .1) later (m ∷ earlier) (subst (AllLawful t) (sym e) all-lawful)
 
   before : (P : List Moment → Type 0) → ((m : Moment) (past : List Moment) → P (m ∷ past) → P past)
       → (later : List Moment) (m : Moment) (earlier : List Moment) → later ++ (m ∷ earlier) ≡ past → P past → P earlier

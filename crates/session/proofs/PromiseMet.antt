@@ -83,7 +83,7 @@ told-charges = refl
 -- and nothing is carried on
 nothing-on : streamAt (closing calls .answer .session) 0 .start .0 ≡ 0
 unfolding rules padded historyFrom never
-nothing-on = nothing-is-carried twins (calls ++ (Turn ∷ [])) refl refl [] (closing calls) (earlier calls) refl 0 (lit< tt) refl .next
+nothing-on = nothing-is-carried twins (calls ++ (Turn ∷ [])) refl refl .0 0 (lit< tt)
 
 -- and so each has at least ⌊50,000 / 25,000⌋ completions and expired slots: one completion and one slot
 two-of-first : 2 ≤ sinceClosing completion 0 (earlier calls) + sinceClosing expiry 0 (earlier calls)

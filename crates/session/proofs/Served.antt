@@ -41,7 +41,7 @@ enough budget charge worst lasted ended lost pos more made most =
 pub requests-served : RequestsServed
 unfolding addedOf
 requests-served t calls admitted within later m earlier e i l closing =
-    let made = nothing-is-carried t calls admitted (within-never (historyOf t calls) within .0) later m earlier e i l closing .sum in
+    let made = nothing-is-carried t calls admitted (within-never (historyOf t calls) within .0) .1 later m earlier e i l closing .sum in
     let more = promise t calls admitted .1 within .closed-jobs later m earlier e i l closing .more-than in
     enough (budgetOf t i) (streamAt (m .before) i .charge .0) (t .worst)
     (sinceClosing reported i earlier) (sinceClosing completion i earlier) (sinceClosing expiry i earlier)

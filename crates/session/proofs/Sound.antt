@@ -117,7 +117,7 @@ module _ (s : Session) (q : Used s) where
         released = x .released;
         ahead = smallest-le (λ j. streamAt s j .deadline .0) (s .count) i l;
         charge-high = x .charge-high;
-        started = x .started;
+        covered = x .covered;
         queued-high = x .queue .queued-high;
       }
 

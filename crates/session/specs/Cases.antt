@@ -190,7 +190,7 @@ markedCases =
     ∷ answers listed (replicate 17 (Arrival 1 5)) (replicate 16 20 ++ (9 ∷ []))
     ∷ []
 
--- the lines of the document that are not marked, and what else a reader may ask: a duration of W, W + 1, 0, 10,000,000 and 10,000,001; a clock at L = 200,000, at L + 1, and at the present time past L; two streams that share a deadline both close; stream 1's 6 comes before stream 2's 5; document 02, Req 02, "A padding of 0 in a table now stands for 3": the lines of k 3 are those of k 0, and two tables that opened with 0 while it stood for 1 give 7 and 6 now; Req 03, "the new job starts with the old charge less the granted budget, or zero if that is negative": two due streams of which one has overrun, a charge above three budgets over three closings, one that just reaches the budget, one above it by 1, one below it, and a completion after a carry
+-- the lines of the document that are not marked, and what else a reader may ask: a duration of W, W + 1, 0, 10,000,000 and 10,000,001; a clock at L = 200,000, at L + 1, and at the present time past L; two streams that share a deadline both close; stream 1's 6 comes before stream 2's 5; document 02, Req 02, "A padding of 0 in a table now stands for 3": the lines of k 3 are those of k 0, and two tables that opened with 0 while it stood for 1 give 7 and 6 now; Req 03, "the new job starts with the old charge less the granted budget, or zero if that is negative": two due streams of which one has overrun, a charge above three budgets over three closings and one above four over five, one that just reaches the budget, one above it by 1, one below it, and a completion after a carry
 unfoldable pub otherCases : List Case
 otherCases =
     answers single (oneRequest 25_000) (20 ∷ 21 ∷ 25 ∷ [])
@@ -219,6 +219,9 @@ otherCases =
     ∷ records single (thenTurns 170_000 2) 0 (120_000 ∷ 170_000 ∷ 500_000 ∷ 0 ∷ 120_000 ∷ [])
     ∷ records single (thenTurns 170_000 3) 0 (70_000 ∷ 170_000 ∷ 750_000 ∷ 0 ∷ 70_000 ∷ [])
     ∷ starts single (thenTurns 170_000 3) (20_000 ∷ [])
+    ∷ starts twins (oneRequest 230_000 ++ secondUsedUp) (180_000 ∷ 0 ∷ [])
+    ∷ starts twins (oneRequest 230_000 ++ secondUsedUp ++ secondUsedUp ++ secondUsedUp ++ secondUsedUp) (30_000 ∷ 0 ∷ [])
+    ∷ starts twins (oneRequest 230_000 ++ secondUsedUp ++ secondUsedUp ++ secondUsedUp ++ secondUsedUp ++ secondUsedUp) (0 ∷ 0 ∷ [])
     ∷ starts single (thenTurns 50_000 1) (0 ∷ [])
     ∷ starts single (thenTurns 50_001 1) (1 ∷ [])
     ∷ starts single (thenTurns 25_001 1) (0 ∷ [])

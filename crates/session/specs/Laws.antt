@@ -16,7 +16,7 @@ use Rattle.calls.specs.Replies.{numberOf}
 use Rattle.session.specs.Calls.{answerTo, after}
 use Rattle.session.specs.Opening.{zeroSession, openingOf}
 use Rattle.session.specs.Cases.{Case, markedCases, otherCases}
-use Rattle.session.specs.History.{Moment, historyOf, withinBounds, never, sinceClosing, reported, expiry, addedOf, budgetOf}
+use Rattle.session.specs.History.{Moment, historyOf, withinBounds, never, addedOf, budgetOf}
 use Rattle.session.specs.Promise.{EachClosed}
 use Rattle.session.specs.declared.Session.{Session}
 use Rattle.calls.specs.declared.Call.{Call}
@@ -54,13 +54,20 @@ NumbersAreKept =
     → let s = after (openingOf t .session) calls in
     (s .worst ≡ t .worst) × (s .span ≡ t .span) × (s .padding ≡ t .padding) × (s .count ≡ t .count)
 
--- Of each job, whatever calls were made (document 02, Req 03): its charge is what it started with, the durations reported for it, overlong ones among them, and W for each of its expired slots, counted off the history.
+-- What a job started with and W for each of its expired slots are in its charge, in any sound session: its own disk time, charge − start − W × expired, is never negative.
+abbrev pub StartIsInCharge : Type 0
+StartIsInCharge =
+    (s : Session) → sound s ≡ true → (i : ℕ) → i < s .count
+    → streamAt s i .start .0 + s .worst * streamAt s i .expired ≤ streamAt s i .charge .0
+
+-- Of each job, whatever calls were made (document 02, Req 03): its charge is what it started with and what the history adds, which is the durations reported for it, overlong ones among them, and W for each of its expired slots. So of the open jobs, and so of each that was closed, as it was then.
 abbrev pub ChargeIsSum : Type 0
 ChargeIsSum =
-    (t : Table) (calls : List Call) → admissionOf t ≡ 0 → (i : ℕ) → i < t .count
-    → let past = historyOf t calls in
-    let x = streamAt (after (openingOf t .session) calls) i in
-    x .charge .0 ≡ x .start .0 + sinceClosing reported i past + t .worst * sinceClosing expiry i past
+    (t : Table) (calls : List Call) → admissionOf t ≡ 0
+    → let now = after (openingOf t .session) calls in
+    let past = historyOf t calls in
+    ((i : ℕ) → i < t .count → streamAt now i .charge .0 ≡ streamAt now i .start .0 + addedOf t i past)
+    × EachClosed t past (λ i m earlier. streamAt (m .before) i .charge .0 ≡ streamAt (m .before) i .start .0 + addedOf t i earlier)
 
 -- And of each that was closed: the next one starts with its charge less the granted budget of the table, cut at 0, and its record keeps what it had started with.
 abbrev pub OverrunIsCarried : Type 0
@@ -72,13 +79,14 @@ OverrunIsCarried =
 -- "Demand 3 stands under its premises, where nothing is ever carried": as long as no completion has run over, which is the first of them, every job starts with 0, and so says every record, and of a closed job "The charge is the sum of the durations reported for that job, plus one such time for each of its expired slots."
 pub record StartedAtZero (t : Table) (i : ℕ) (m : Moment) (earlier : List Moment) : Type 0 where
   pub recorded : streamAt (m .answer .session) i .last .start .0 ≡ 0
-  pub next : streamAt (m .answer .session) i .start .0 ≡ 0
   pub sum : streamAt (m .before) i .charge .0 ≡ addedOf t i earlier
 
 abbrev pub NothingIsCarried : Type 0
 NothingIsCarried =
-    (t : Table) (calls : List Call) → admissionOf t ≡ 0 → never 26 (historyOf t calls) ≡ true
-    → EachClosed t (historyOf t calls) (StartedAtZero t)
+    (t : Table) (calls : List Call) → admissionOf t ≡ 0
+    → let now = after (openingOf t .session) calls in
+    let past = historyOf t calls in
+    never 26 past ≡ true → ((i : ℕ) → i < t .count → streamAt now i .start .0 ≡ 0) × EachClosed t past (StartedAtZero t)
 
 -- The bounds of the promise are that, and that no clock report was late.
 abbrev pub BoundsAreTwo : Type 0

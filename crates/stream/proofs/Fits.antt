@@ -65,7 +65,7 @@ module _ {worst h : ℕ} {x : Stream} (q : Bounded worst h x) where
       λ i. record { above = above i; below = x .granted .0 }
 
   pub expired-high : x .expired ≤ charge-max
-  expired-high = omega (arith, charge-high, q .started, le-mul-of-pos-right (x .expired) (q .worst-low))
+  expired-high = omega (arith, charge-high, q .covered, le-mul-of-pos-right (x .expired) (q .worst-low))
 
   pub expired-within : x .expired ≤ session-end
   expired-within = omega (arith, expired-high)

@@ -58,7 +58,7 @@ pub record InOrder (worst k h : ℕ) (x : Stream) : Type 0 where
   pub released : x .release .0 ≤ h
   pub deadline-high : x .deadline .0 ≤ session-end
   pub charge-high : x .charge .0 ≤ x .granted .0 + duration-max
-  pub started : x .start .0 + worst * x .expired ≤ x .charge .0
+  pub covered : x .start .0 + worst * x .expired ≤ x .charge .0
   pub queue : Queue x
 
 pub stream-of : (worst k h : ℕ) (x : Stream) → soundStream worst k h x ≡ true → InOrder worst k h x
@@ -76,7 +76,7 @@ stream-of worst k h x t =
       released = leb-true _ _ (a .1);
       deadline-high = leb-true _ _ (f .1);
       charge-high = leb-true _ _ (e .1);
-      started = leb-true _ _ (d .1);
+      covered = leb-true _ _ (d .1);
       queue = queue-of x (b .1);
     }
 
@@ -93,7 +93,7 @@ of-stream worst k h x q =
       eq-eqb _ _ (q .due),
       le-leb _ _ (q .deadline-high),
       le-leb _ _ (q .charge-high),
-      le-leb _ _ (q .started),
+      le-leb _ _ (q .covered),
       of-queue x (q .queue),
       le-leb _ _ (q .released),
     )
@@ -108,7 +108,7 @@ module _ (worst k h : ℕ) (x : Stream) (q : InOrder worst k h x) where
         released = omega (arith, q .released, le);
         deadline-high = q .deadline-high;
         charge-high = q .charge-high;
-        started = q .started;
+        covered = q .covered;
         queue = q .queue;
       }
 
@@ -121,7 +121,7 @@ module _ (worst k h : ℕ) (x : Stream) (q : InOrder worst k h x) where
         released = q .released;
         deadline-high = q .deadline-high;
         charge-high = high;
-        started = low;
+        covered = low;
         queue = queue;
       }
 
@@ -134,7 +134,7 @@ module _ (worst k h : ℕ) (x : Stream) (q : InOrder worst k h x) where
         released = le;
         deadline-high = in-time;
         charge-high = omega (arith, q .charge-high);
-        started = omega arith;
+        covered = omega arith;
         queue = queue-of (closed now x) (of-queue x (q .queue));
       }
 
@@ -147,7 +147,7 @@ fresh-order worst k h e p high =
       released = omega arith;
       deadline-high = high;
       charge-high = omega arith;
-      started = omega arith;
+      covered = omega arith;
       queue = record {
         queued-high = omega arith;
         cells = refl;

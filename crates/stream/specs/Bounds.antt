@@ -18,5 +18,5 @@ pub record Bounded (worst h : ℕ) (x : Stream) : Type 0 where
   pub released : x .release .0 ≤ h
   pub ahead : h ≤ x .deadline .0
   pub charge-high : x .charge .0 ≤ x .granted .0 + duration-max
-  pub started : x .start .0 + worst * x .expired ≤ x .charge .0
+  pub covered : x .start .0 + worst * x .expired ≤ x .charge .0
   pub queued-high : x .queued ≤ queue-max

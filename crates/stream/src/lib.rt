@@ -119,10 +119,10 @@ impl Stream {
         if !(budget & due & in_session & charge) {
             return false;
         }
-        let expired = self.charge.covers(self.start, worst, self.expired);
+        let covered = self.charge.covers(self.start, worst, self.expired);
         let places = self.places;
         let queue = queue_is_sound(places, self.queued);
-        expired & queue
+        covered & queue
     }
 
     // Whether nothing refuses its reservation, and its cells are those of a stream in use.
@@ -149,11 +149,20 @@ impl Stream {
         let release = self.release.is(start);
         let deadline = self.deadline.is(start);
         let charge = self.charge.is(nothing);
-        let started = self.start.is(nothing);
+        let from_nothing = self.start.is(nothing);
         let places = self.places;
         let queue = queue_is_sound(places, 0);
         let last = self.last.is_zero();
-        table & granted & release & deadline & charge & expired & started & queued & queue & last
+        table
+            & granted
+            & release
+            & deadline
+            & charge
+            & expired
+            & from_nothing
+            & queued
+            & queue
+            & last
     }
 
     // With a place at the queue's end.
@@ -264,8 +273,8 @@ impl Job {
         let charge = self.charge.is(nothing);
         let closed = self.closed.is(start);
         let deadline = self.deadline.is(start);
-        let started = self.start.is(nothing);
-        charge & closed & deadline & (self.expired == 0) & started
+        let from_nothing = self.start.is(nothing);
+        charge & closed & deadline & (self.expired == 0) & from_nothing
     }
 }
 

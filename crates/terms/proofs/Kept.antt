@@ -18,6 +18,6 @@ terms-are-kept t calls admitted within later m earlier e i l closes =
     let on-time = p .1 within .closed-jobs later m earlier e i l closes in
     record {
       in-time = omega (arith, on-time .in-time, truly .due);
-      more = omega (arith, on-time .more-than, nothing-is-carried t calls admitted (within-never (historyOf t calls) within .0) later m earlier e i l closes .sum, nothing-cut (t .worst) (t .padding) (reservedAt t i));
+      more = omega (arith, on-time .more-than, nothing-is-carried t calls admitted (within-never (historyOf t calls) within .0) .1 later m earlier e i l closes .sum, nothing-cut (t .worst) (t .padding) (reservedAt t i));
       served = requests-served t calls admitted within later m earlier e i l closes;
     }

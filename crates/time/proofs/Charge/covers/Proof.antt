@@ -2,12 +2,12 @@
 use borrow.Author.Needs.{needs}
 use borrow.Author.Tests.{lt-leb, ltb-true, ltb-false}
 use mathlib.Core.Bool.{Bool, true, false, _||_, false≢true}
-use mathlib.Core.Path.{_≡_, refl, sym, _∙_}
+use mathlib.Core.Path.{_≡_, refl, sym}
 use Prim.Native.Nat.{ℕ, _+_, _*_, _≤_, _<_}
 use native.Mathlib.Nat.{mul-le-mul, le-refl}
 use native.Mathlib.Omega.{arith}
 use lib.Dec.{ltb}
-use Rattle.time.specs.Time.{session-end, duration-max}
+use Rattle.time.specs.Time.{session-end}
 use Rattle.time.proofs.Charge.covers.Statement.{statement}
 use Rattle.time.proofs.Charge.covers.Tie as tie
 

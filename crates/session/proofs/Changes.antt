@@ -12,7 +12,7 @@ use Rattle.table.specs.Fold.{if, smallestTo}
 use Rattle.table.specs.Admission.{admissionOf}
 use Rattle.table.proofs.Lists.{set-each, set-alike}
 use Rattle.time.specs.Time.{session-end, duration-max}
-use Rattle.stream.specs.Stream.{slots, withQueue, withCharge, soundQueue, unusedStream}
+use Rattle.stream.specs.Stream.{slots, worked, withQueue, withCharge, soundQueue, unusedStream}
 use Rattle.session.specs.Session.{noStream, streamAt, horizon, slotsAt, tableOf, soundDisk, withStreams, withStream, withDisk}
 use Rattle.time.specs.declared.Clock.{Clock}
 use Rattle.stream.specs.declared.Stream.{Stream}
@@ -54,10 +54,6 @@ streams-kept s q xs es ps many each others disk =
 pub idle-kept : (s : Session) (xs : List Stream) → Sound s → s .served ≡ 0 → soundDisk (withStreams s xs) ≡ true
 unfolding soundDisk if
 idle-kept s xs q idle = rw (eq-eqb (s .served) 0 idle) (rw (eq-eqb (s .served) 0 idle) at (q .disk))
-
--- a stream with another charge and another queue
-abbrev pub worked : Stream → ℕ → ℕ → ℕ → List ℕ → Stream
-worked x charge expired queued places = withQueue (withCharge x charge expired) queued places
 
 module _ (s : Session) (q : Sound s) (i : ℕ) (l : i < s .count) (charge expired queued : ℕ) (places : List ℕ) where
   abbrev new : Stream

@@ -11,13 +11,13 @@ use Rattle.table.specs.Fold.{sumTo}
 use Rattle.table.proofs.Tests.{by-if}
 use Rattle.table.proofs.Folds.{at-or-below, sum-le, sum-agree}
 use Rattle.table.proofs.Lists.{set-each}
-use Rattle.stream.specs.Stream.{carry, closed, moved}
+use Rattle.stream.specs.Stream.{worked, carry, closed, moved}
 use Rattle.session.specs.Session.{noStream, streamAt, horizon, scaledPart, latest, withStream}
 use Rattle.stream.specs.declared.Stream.{Stream}
 use Rattle.session.specs.declared.Session.{Session}
 use Rattle.session.proofs.Sound.{Sound, of-sound, admits, bounded}
 use Rattle.session.proofs.Latest.{latest-rounds-once}
-use Rattle.session.proofs.Changes.{worked, horizon-kept}
+use Rattle.session.proofs.Changes.{horizon-kept}
 use Rattle.session.proofs.MoveKept.{moved-keeps, moving, next, moved-at, horizon-later}
 use Rattle.session.proofs.Halves.{rate, used, rateAt, usedAt, Room, InTime, rates-high, whole, due-most}
 

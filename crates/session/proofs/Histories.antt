@@ -11,7 +11,7 @@ use borrow.Author.Tests.{eqb-true, eqb-false, eq-eqb, ne-eqb}
 use Rattle.table.specs.Fold.{if}
 use Rattle.table.specs.Admission.{periodAt}
 use Rattle.table.specs.declared.Table.{Table}
-use Rattle.stream.specs.Stream.{arrived, without, charged, lapsed, carry, closed, moved}
+use Rattle.stream.specs.Stream.{worked, arrived, without, charged, lapsed, carry, closed, moved}
 use Rattle.session.specs.Session.{noStream, streamAt, horizon}
 use Rattle.session.specs.Calls.{Verdict, refuse, append, send, move, wait, expire, finish, set-clock, apply, replyTo}
 use Rattle.session.specs.History.{Moment, closes, closings, dueOf, sinceClosing, durationOf, reported, expiry, addedOf, budgetOf, startOf, chargeOf}
@@ -21,7 +21,6 @@ use Rattle.calls.specs.declared.Call.{Call}
 use Rattle.calls.specs.declared.Reply.{Reply}
 use Rattle.session.proofs.Sound.{Sound, admits}
 use Rattle.session.proofs.Grounds.{Grounds}
-use Rattle.session.proofs.Changes.{worked}
 use Rattle.session.proofs.MoveKept.{moved-at}
 use Rattle.session.proofs.Reasons.{Reasons, done-or-overlong, clock-or-late}
 

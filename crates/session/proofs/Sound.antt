@@ -1,24 +1,25 @@
 -- A sound session, test by test: what each test says, and that these facts make it sound.
-use mathlib.Core.Bool.{Bool, true, false, _||_, and-false, false≢true}
-use mathlib.Core.Path.{_≡_, refl}
+use mathlib.Core.Bool.{true, _||_}
+use mathlib.Core.Path.{_≡_, ap}
 use mathlib.Core.Logic.{⊎-elim}
 use Prim.Native.Nat.{ℕ, _≤_, _<_}
 use native.Mathlib.Omega.{arith}
 use lib.ListN.{length, List·getD-map}
-use lib.Dec.{ltb, eqb}
+use lib.Dec.{ltb}
 use borrow.Author.Tests.{leb-true, eqb-true, le-leb, lt-ltb, le-ltb, eq-eqb}
 use Rattle.table.specs.Admission.{grantedOf, admissionOf}
 use Rattle.table.proofs.Tests.{both, le-or-lt}
 use Rattle.table.proofs.Folds.{all-at, all-of, smallest-le}
 use Rattle.table.proofs.Judged.{Fits-in, Admits, admits-of}
 use Rattle.time.specs.Time.{session-end, moment}
-use Rattle.stream.specs.Stream.{soundStream, unusedStream}
+use Rattle.stream.specs.Stream.{freshStream, soundStream, unusedStream}
 use Rattle.stream.specs.Bounds.{Bounded}
 use Rattle.session.specs.Session.{noStream, streamAt, horizon, tableOf, soundDisk, soundRest, usedStreams, sound}
 use Rattle.time.specs.declared.Clock.{Clock}
 use Rattle.stream.specs.declared.Stream.{Stream}
 use Rattle.session.specs.declared.Session.{Session}
 use Rattle.stream.proofs.Orderly.{InOrder, used-or-zero, or-right, stream-of, of-stream}
+use Rattle.stream.proofs.Unused.{unused-is-zero}
 
 pub record Sound (s : Session) : Type 0 where
   pub admitted : admissionOf (tableOf s) ≡ 0
@@ -134,12 +135,8 @@ bounded-by s q h ahead i l = rw ahead (bounded s q i l)
 
 -- an unused stream has the deadline 0
 pub unused-deadline : (x : Stream) → unusedStream x ≡ true → x .deadline .0 ≡ 0
-unfolding unusedStream
-unused-deadline x t = go (eqb (x .deadline .0) 0) refl
-  where
-    go : (b : Bool) → eqb (x .deadline .0) 0 ≡ b → x .deadline .0 ≡ 0
-    go true e = eqb-true (x .deadline .0) 0 e
-    go false e = absurd (false≢true (simp (e, and-false) at t))
+unfolding freshStream
+unused-deadline x t = ap (λ (y : Stream). y .deadline .0) (unused-is-zero x .0 t)
 
 -- no deadline passes the session's end, used or not
 pub deadline-high : (s : Session) → Sound s → (i : ℕ) → i < 8 → streamAt s i .deadline .0 ≤ session-end

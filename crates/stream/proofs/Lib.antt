@@ -2,6 +2,7 @@ pub mod Slots
 pub mod Queue
 pub mod Orderly
 pub mod Carried
+pub mod Unused
 pub mod Queues
 pub mod Fits
 pub mod Best

@@ -12,7 +12,7 @@ use Rattle.table.specs.Admission.{grantedOf}
 use Rattle.table.proofs.Tests.{both, le-or-lt}
 use Rattle.table.proofs.Folds.{all-at, all-of}
 use Rattle.time.specs.Time.{session-end, duration-max}
-use Rattle.stream.specs.Stream.{queue-max, freshStream, withQueue, withCharge, closed, soundQueue, soundCells, soundStream}
+use Rattle.stream.specs.Stream.{queue-max, freshStream, worked, closed, soundQueue, soundCells, soundStream}
 use Rattle.time.specs.declared.Clock.{Clock}
 use Rattle.stream.specs.declared.Stream.{Stream}
 
@@ -113,7 +113,7 @@ module _ (worst k h : ℕ) (x : Stream) (q : InOrder worst k h x) where
       }
 
   pub worked-order : (charge expired queued : ℕ) (places : List ℕ) → charge ≤ x .granted .0 + duration-max → x .start .0 + worst * expired ≤ charge
-      → Queue (withQueue (withCharge x charge expired) queued places) → InOrder worst k h (withQueue (withCharge x charge expired) queued places)
+      → Queue (worked x charge expired queued places) → InOrder worst k h (worked x charge expired queued places)
   worked-order charge expired queued places high low queue =
       record {
         budget = q .budget;

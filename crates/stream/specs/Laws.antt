@@ -8,7 +8,7 @@ use lib.ListN.{getD}
 use lib.Dec.{leb}
 use Rattle.table.specs.Fold.{countTo}
 use Rattle.time.specs.declared.Clock.{Clock}
-use Rattle.stream.specs.Stream.{slots, microDeadline, shifted, charged, closed}
+use Rattle.stream.specs.Stream.{slots, microDeadline, shifted, charged, closed, freshStream, unusedStream}
 use Rattle.stream.specs.Choice.{distance, nearest}
 use Rattle.stream.specs.declared.Stream.{Stream}
 
@@ -41,6 +41,10 @@ pub record CarriedOn (budget : ℕ) (old new : Stream) : Type 0 where
 -- A stream that closes its job carries on what is above its granted budget.
 abbrev pub ClosedIsCarriedOn : Type 0
 ClosedIsCarriedOn = (now : Clock) (x : Stream) → CarriedOn (x .granted .0) x (closed now x)
+
+-- "every unused cell is 0 (.. streams past the count ..)": an unused stream is the one of zeros, and no other.
+abbrev pub UnusedIsZero : Type 0
+UnusedIsZero = (x : Stream) → (unusedStream x ≡ true) ↔ (x ≡ freshStream 0 0 0)
 
 -- Of the indices below n that have one or more, `first` goes first: none goes before it, and it goes before each lower one, so that of equals the lowest is taken.
 abbrev pub GoesFirst : (ℕ → ℕ) → (ℕ → ℕ → Bool) → ℕ → ℕ → Type 0

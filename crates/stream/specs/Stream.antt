@@ -51,22 +51,29 @@ microDeadline worst x n =
 unfoldable pub shifted : ℕ → ℕ → Stream → Fraction → Fraction
 shifted worst a x m = record { above = m .above - (worst - a) * x .period; below = m .below }
 
--- a stream with another queue
-abbrev pub withQueue : Stream → ℕ → List ℕ → Stream
-withQueue x queued places =
+-- a stream with another charge, expired count and queue
+abbrev pub worked : Stream → ℕ → ℕ → ℕ → List ℕ → Stream
+worked x charge expired queued places =
     record {
       reserved = x .reserved;
       period = x .period;
       granted = x .granted;
       release = x .release;
       deadline = x .deadline;
-      charge = x .charge;
-      expired = x .expired;
+      charge = diskTime charge;
+      expired = expired;
       start = x .start;
       queued = queued;
       places = places;
       last = x .last;
     }
+
+-- with another queue alone, and with another charge and expired count alone
+abbrev pub withQueue : Stream → ℕ → List ℕ → Stream
+withQueue x queued places = worked x (x .charge .0) (x .expired) queued places
+
+abbrev pub withCharge : Stream → ℕ → ℕ → Stream
+withCharge x charge expired = worked x charge expired (x .queued) (x .places)
 
 -- "put at the queue's end"
 unfoldable pub arrived : ℕ → Stream → Stream
@@ -78,23 +85,6 @@ closedUp j places = take j places ++ (drop (suc j) places ++ (0 ∷ []))
 
 unfoldable pub without : ℕ → Stream → Stream
 without j x = withQueue x (x .queued - 1) (closedUp j (x .places))
-
--- a stream with another charge and expired count
-abbrev pub withCharge : Stream → ℕ → ℕ → Stream
-withCharge x charge expired =
-    record {
-      reserved = x .reserved;
-      period = x .period;
-      granted = x .granted;
-      release = x .release;
-      deadline = x .deadline;
-      charge = diskTime charge;
-      expired = expired;
-      start = x .start;
-      queued = x .queued;
-      places = x .places;
-      last = x .last;
-    }
 
 -- "clock and charge of the stream served both grow by a"
 unfoldable pub charged : ℕ → Stream → Stream

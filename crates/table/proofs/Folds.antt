@@ -34,6 +34,30 @@ unfolding sumTo
 sum-high b f zero h = omega arith
 sum-high b f (suc n) h = omega (arith, sum-high b f n (λ i l. h i (omega arith)), h n (omega arith))
 
+-- a sum of nothing
+pub sum-none : (f : ℕ → ℕ) (n : ℕ) → ((i : ℕ) → i < n → f i ≡ 0) → sumTo f n ≡ 0
+sum-none f n none = omega (arith, sum-high 0 f n (λ i l. omega (arith, none i l)))
+
+-- a part of a sum is at most the sum, and so is a term
+pub sum-part : (f : ℕ → ℕ) (n m : ℕ) → n ≤ m → sumTo f n ≤ sumTo f m
+unfolding sumTo
+sum-part f n zero le = let e : n ≡ 0 = omega arith in rw e (omega arith)
+sum-part f n (suc m) le =
+    ⊎-elim
+    (λ (u : n ≤ m). omega (arith, sum-part f n m u))
+    (λ (u : m < n). let e : n ≡ suc m = omega arith in rw e (omega arith))
+    (le-or-lt n m)
+
+pub sum-term : (f : ℕ → ℕ) (n i : ℕ) → i < n → f i ≤ sumTo f n
+unfolding sumTo
+sum-term f n i l = omega (arith, sum-part f (suc i) n l)
+
+-- a sum of sums, term by term
+pub sum-add : (f g : ℕ → ℕ) (n : ℕ) → sumTo (λ i. f i + g i) n ≡ sumTo f n + sumTo g n
+unfolding sumTo
+sum-add f g zero = refl
+sum-add f g (suc n) = omega (arith, sum-add f g n)
+
 pub smallest-le : (f : ℕ → ℕ) (n i : ℕ) → i < n → smallestTo f n ≤ f i
 unfolding smallestTo
 smallest-le f zero i l = absurd (not-suc-le-zero l)

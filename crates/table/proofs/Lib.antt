@@ -1,7 +1,9 @@
 pub mod Tests
 pub mod Folds
+pub mod Grouped
 pub mod Lists
 pub mod Judged
+pub mod Gathered
 pub mod Paddings
 pub mod LentTables
 pub mod Taking

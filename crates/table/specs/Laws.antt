@@ -7,7 +7,9 @@ use Prim.Native.Nat.{ℕ, _+_, _*_, _/_, _<_}
 use lib.ListN.{length}
 use Rattle.table.specs.Ranges.{streams-max}
 use Rattle.table.specs.Refusal.{outside}
-use Rattle.table.specs.Admission.{periodAt, withPadding, grantedOf, smallestPeriod, numbersRefusal, streamsRefusal, admissionOf}
+use Rattle.table.specs.Fold.{sumTo}
+use Rattle.table.specs.Admission.{periodAt, withPadding, grantedOf, smallestPeriod, loadOf, numbersRefusal, streamsRefusal, admissionOf}
+use Rattle.table.specs.Groups.{firstWith, groupTo, groupedLoad}
 use Rattle.table.specs.Reservations.{lentTable}
 use Rattle.table.specs.declared.Table.{Table}
 use Rattle.table.specs.declared.reservations.Reservation.{Reservation}
@@ -18,6 +20,24 @@ LoadIsExact =
     (t : Table) → numbersRefusal t ≡ 0 → streamsRefusal t ≡ 0
     → ((i : ℕ) → i < t .count → t .span / periodAt t i * periodAt t i ≡ t .span)
     × (t .span / smallestPeriod t * smallestPeriod t ≡ t .span)
+
+-- Document 02, Req 04: sums over groups of equal periods are the sum over all streams, of any count and in any order, whatever quotient a period has.
+abbrev pub GroupsAddUp : Type 0
+GroupsAddUp =
+    (budget period quotient : ℕ → ℕ) (n : ℕ)
+    → sumTo (λ j. groupTo budget period n j * quotient (period j)) n ≡ sumTo (λ i. budget i * quotient (period i)) n
+
+-- "The load is the same number": of any table, and of one with any count.
+abbrev pub LoadByGroups : Type 0
+LoadByGroups = (t : Table) → groupedLoad t ≡ loadOf t
+
+-- "divide once for each distinct period": streams are of one group exactly if they have one period, and where no group stands there is nothing to divide for.
+abbrev pub OneGroupForEachPeriod : Type 0
+OneGroupForEachPeriod =
+    (budget period : ℕ → ℕ) (n i j : ℕ)
+    → (period i ≡ period j → firstWith period i ≡ firstWith period j)
+    × (firstWith period i ≡ firstWith period j → period i ≡ period j)
+    × ((firstWith period j ≡ j → ⊥) → groupTo budget period n j ≡ 0)
 
 -- "Granted budget g = e + k × W", and by document 02, Req 02, "Padding of three unless told otherwise": with 3 where k is 0, and with any other k as it is told.
 abbrev pub GrantedAsTold : Type 0

@@ -2,5 +2,6 @@ pub mod Fold
 pub mod Refusal
 pub mod Ranges
 pub mod Admission
+pub mod Groups
 pub mod Reservations
 pub mod Laws

@@ -1,10 +1,11 @@
 // Reservation tables: their numbers, the ranges of these, and which are admitted.
+mod groups;
 mod reservations;
 
 ghost use mathlib.Core.Path.{_≡_};
-ghost use Prim.Native.Nat.{_*_, _≤_};
+ghost use Prim.Native.Nat.{_≤_};
 ghost use Rattle.table.specs.Ranges.{streams-max};
-ghost use Rattle.table.specs.Admission.{paddingOf, grantedOf, shareOf, sharesOf, smallestPeriod, loadOf, judgedLoad, numbersRefusal, streamRefusal, streamsRefusal, partsRefusal, admissionOf, answered};
+ghost use Rattle.table.specs.Admission.{paddingOf, grantedOf, loadOf, judgedLoad, numbersRefusal, streamRefusal, streamsRefusal, partsRefusal, admissionOf, answered};
 pub use reservations::Records;
 pub use reservations::Reservation;
 pub use reservations::record_at;
@@ -163,49 +164,5 @@ fn load(t: Table) -> u64
     requires { ⌜ (numbersRefusal t ≡ 0) × (streamsRefusal t ≡ 0) ⌝ }
     ensures { λ r. ⌜ r ≡ loadOf t ⌝ }
 {
-    let least = smallest_period(t);
-    let blocking = t.worst as u64 * (t.span / least) as u64;
-    shares(t) + blocking
-}
-
-// The smallest of the periods.
-fn smallest_period(t: Table) -> u32
-    requires { ⌜ t .count ≤ streams-max ⌝ }
-    ensures { λ r. ⌜ r ≡ smallestPeriod t ⌝ }
-{
-    let period = t.period;
-    let mut least = period[0];
-    let mut i: usize = 0;
-    while i < t.count {
-        let p = period[i];
-        if p < least {
-            least = p;
-        }
-        i += 1;
-    }
-    least
-}
-
-// The sum of the streams' shares.
-fn shares(t: Table) -> u64
-    requires { ⌜ (t .count ≤ streams-max) × (streamsRefusal t ≡ 0) ⌝ }
-    ensures { λ r. ⌜ (r ≡ sharesOf t) × (r ≤ streams-max * t .span) ⌝ }
-{
-    let reserved = t.reserved;
-    let period = t.period;
-    let mut sum: u64 = 0;
-    let mut i: usize = 0;
-    while i < t.count {
-        sum += share(t.worst, t.span, t.padding, reserved[i], period[i]);
-        i += 1;
-    }
-    sum
-}
-
-// A stream's granted budgets over the whole span.
-fn share(worst: u32, span: u32, k: u32, reserved: u32, period: u32) -> u64
-    requires { ⌜ streamRefusal worst span k reserved period ≡ 0 ⌝ }
-    ensures { λ r. ⌜ (r ≡ shareOf worst span k reserved period) × (r ≤ span) ⌝ }
-{
-    granted(worst, k, reserved) * (span / period) as u64
+    groups::grouped_load(t)
 }

@@ -24,10 +24,10 @@
 /* The version of this header and of its library. Another major number: the layout of a struct changed, or the answer to some input; read what
  * changed, and compile anew. Another minor number: something was added, and programs go on as they are. Another patch: neither.
  * The numbers of replies keep their meaning through all of them. */
-#define YERBAGUNT_VERSION "3.0.0"
+#define YERBAGUNT_VERSION "3.0.1"
 #define YERBAGUNT_VERSION_MAJOR 3
 #define YERBAGUNT_VERSION_MINOR 0
-#define YERBAGUNT_VERSION_PATCH 0
+#define YERBAGUNT_VERSION_PATCH 1
 
 #ifdef __cplusplus
 extern "C" {

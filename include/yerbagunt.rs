@@ -6,7 +6,7 @@
 #![allow(dead_code)]
 
 /// The version of this wrapper and its library, that of `yerbagunt.h`.
-pub const VERSION: &str = "3.0.0";
+pub const VERSION: &str = "3.0.1";
 
 pub const STREAMS_MAX: usize = 8;
 pub const QUEUE_MAX: usize = 16;

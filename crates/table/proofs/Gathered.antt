@@ -3,7 +3,7 @@ use mathlib.Core.Bool.{Bool, true, false}
 use mathlib.Core.List.{List}
 use mathlib.Core.Logic.{⊎-elim}
 use mathlib.Core.Path.{_≡_, refl, sym, _∙_, ap, subst}
-use Prim.Native.Nat.{ℕ, zero, suc, _+_, _*_, _/_, min, max, _≤_, _<_}
+use Prim.Native.Nat.{ℕ, suc, _+_, _*_, _/_, min, max, _≤_, _<_}
 use native.Mathlib.Nat.{mul-le-mul, le-trans}
 use native.Mathlib.Omega.{arith}
 use lib.Dec.{eqb}
@@ -12,14 +12,15 @@ use lib.Seq.{getD-set-same, getD-set-other}
 use borrow.Author.Tests.{eqb-true, eqb-false}
 use Rattle.table.specs.Fold.{if, sumTo, largestTo, listTo}
 use Rattle.table.specs.Ranges.{streams-max, span-max, period-max}
-use Rattle.table.specs.Admission.{periodAt, grantedOf, shareAt, sharesOf, numbersRefusal, streamsRefusal}
+use Rattle.table.specs.Admission.{periodAt, grantedOf, shareAt, sharesOf, smallestPeriod, numbersRefusal, streamsRefusal}
 use Rattle.table.specs.Groups.{grantedAt, quotientAt, firstWith, groupTo, groupAt, groupShareAt, groupedShares}
+use Rattle.table.specs.Laws.{SmallestHasLargestQuotient}
 use Rattle.table.specs.declared.Table.{Table}
 use Rattle.table.proofs.Tests.{le-or-lt}
 use Rattle.table.proofs.Folds.{sum-high, sum-part, largest-le}
 use Rattle.table.proofs.Lists.{filled-on, filled-all}
 use Rattle.table.proofs.Judged.{numbers-of, streams-of, share-high}
-use Rattle.table.proofs.Grouped.{first-with-low, first-with-same, group-high, group-own, group-past, grouped-shares}
+use Rattle.table.proofs.Grouped.{first-with-low, first-with-same, group-high, group-own, group-past, group-share, grouped-shares, smallest-most}
 
 -- of the first i places those of streams are so many
 pub used-passed : (i n : ℕ) → i < n → (min i n ≡ i) × (min (i + 1) n ≡ suc i)
@@ -81,13 +82,13 @@ module _ (t : Table) where
 
   -- with the group of one place more
   pub passed-group : (shares most i : ℕ) → i < t .count → Passed shares most (min i (t .count))
-      → Passed (shares + groupShareAt t i) (max most (quotientAt t i)) (min (i + 1) (t .count))
+      → Passed (shares + groupAt t i * quotientAt t i) (max most (quotientAt t i)) (min (i + 1) (t .count))
   unfolding sumTo largestTo
   passed-group shares most i l q =
       let n = used-passed i (t .count) l in
       let at = subst (Passed shares most) (n .0) q in
-      subst (Passed (shares + groupShareAt t i) (max most (quotientAt t i))) (sym (n .1))
-      (record { sum = ap (λ m. m + groupShareAt t i) (at .sum); largest = ap (λ m. max m (quotientAt t i)) (at .largest) })
+      subst (Passed (shares + groupAt t i * quotientAt t i) (max most (quotientAt t i))) (sym (n .1))
+      (record { sum = omega (arith, at .sum, group-share t i); largest = ap (λ m. max m (quotientAt t i)) (at .largest) })
 
   -- a place with a group is one of a stream
   pub grouped-used : (i : ℕ) → (groupAt t i ≡ 0 → ⊥) → i < t .count
@@ -129,7 +130,7 @@ module _ (t : Table) (streams : streamsRefusal t ≡ 0) where
       let before : quotientAt t i ≤ largestTo (quotientAt t) i
       = subst (λ p. t .span / p ≤ largestTo (quotientAt t) i) (first-with-same (periodAt t) i) (largest-le (quotientAt t) i (firstWith (periodAt t) i) (group-before i u none)) in
       subst (Passed t shares most) (sym (n .1))
-      (record { sum = omega (arith, at .sum, ap (λ g. g * quotientAt t i) none); largest = omega (arith, at .largest, before) }))
+      (record { sum = omega (arith, at .sum, group-share t i, ap (λ g. g * quotientAt t i) none); largest = omega (arith, at .largest, before) }))
       (le-or-lt (t .count) i)
 
   -- the shares of all groups are those of all streams, each at most the span
@@ -140,3 +141,8 @@ module _ (t : Table) (streams : streamsRefusal t ≡ 0) where
       let q = numbers-of t numbers in
       let most : t .count * t .span ≤ streams-max * span-max = mul-le-mul (q .count-high) (q .span-high) in
       omega (arith, sum-part (groupShareAt t) n (t .count) le, grouped-shares t, each, most)
+
+pub smallest-has-largest-quotient : SmallestHasLargestQuotient
+unfolding smallestPeriod
+smallest-has-largest-quotient t numbers streams =
+    smallest-most (t .span) (periodAt t) (t .count) (numbers-of t numbers .count-low) (λ i l. omega (arith, streams-of t streams i l .period-low))

@@ -8,7 +8,7 @@ use lib.Dec.{eqb}
 use borrow.Author.Tests.{eq-eqb, ne-eqb, eqb-true}
 use Rattle.table.specs.Fold.{if, sumTo, smallestTo, largestTo}
 use Rattle.table.specs.Admission.{periodAt, shareOf, sharesOf, smallestPeriod, loadOf}
-use Rattle.table.specs.Groups.{grantedAt, firstWith, groupTo, groupedShares, groupedLoad}
+use Rattle.table.specs.Groups.{grantedAt, quotientAt, firstWith, groupTo, groupAt, groupShareAt, groupedShares, groupedLoad}
 use Rattle.table.specs.Laws.{GroupsAddUp, LoadByGroups, OneGroupForEachPeriod}
 use Rattle.table.specs.declared.Table.{Table}
 use Rattle.table.proofs.Tests.{le-or-lt, by-if}
@@ -76,10 +76,18 @@ groups-add-up budget period quotient n =
     (λ i. budget i * quotient (period (firstWith period i))) (λ i. budget i * quotient (period i)) n
     (λ i _. ap (λ p. budget i * quotient p) (first-with-same period i))
 
+-- where no group stands, its budgets are 0 and so is their share
+pub group-share : (t : Table) (j : ℕ) → groupShareAt t j ≡ groupAt t j * quotientAt t j
+group-share t j =
+    by-if (λ x. x ≡ groupAt t j * quotientAt t j) (eqb (groupAt t j) 0) 0 (groupAt t j * quotientAt t j)
+    (λ e. omega (arith, ap (λ g. g * quotientAt t j) (eqb-true (groupAt t j) 0 e))) (λ _. refl)
+
 -- the shares by groups are the shares
 pub grouped-shares : (t : Table) → groupedShares t ≡ sharesOf t
 unfolding groupedShares sharesOf shareOf
-grouped-shares t = groups-add-up (grantedAt t) (periodAt t) (λ p. t .span / p) (t .count)
+grouped-shares t =
+    sum-agree (groupShareAt t) (λ j. groupAt t j * quotientAt t j) (t .count) (λ j _. group-share t j)
+    ∙ groups-add-up (grantedAt t) (periodAt t) (λ p. t .span / p) (t .count)
 
 pub load-by-groups : LoadByGroups
 unfolding groupedLoad loadOf
@@ -96,14 +104,17 @@ one-group period i j e =
         let back = first-with-least period j (firstWith period i) (omega arith) (first-with-same period i ∙ e) in
         le-antisymm (first-with-least period i (firstWith period j) (omega arith) (first-with-same period j ∙ sym e)) back
 
-pub one-group-for-each-period : OneGroupForEachPeriod
+-- a place at which no stream's group stands
+group-none : (budget period : ℕ → ℕ) (n j : ℕ) → ((i : ℕ) → i < n → firstWith period i ≡ j → ⊥) → groupTo budget period n j ≡ 0
 unfolding groupTo if
+group-none budget period n j none =
+    sum-none (λ i. if (eqb (firstWith period i) j) (budget i) 0) n (λ i l. rw (ne-eqb (firstWith period i) j (none i l)))
+
+pub one-group-for-each-period : OneGroupForEachPeriod
 one-group-for-each-period budget period n i j = (
   one-group period i j,
   (λ e. sym (first-with-same period i) ∙ ap period e ∙ first-with-same period j),
-  (λ none. sum-none (λ i. if (eqb (firstWith period i) j) (budget i) 0) n
-      (λ i _. rw (ne-eqb (firstWith period i) j
-      (λ (e : firstWith period i ≡ j). none (one-group period j i (sym (ap period e) ∙ first-with-same period i) ∙ e))))),
+  (λ none. group-none budget period n j (λ i _ e. none (one-group period j i (sym (ap period e) ∙ first-with-same period i) ∙ e))),
 )
 
 -- the smallest of the periods has the largest quotient
@@ -131,7 +142,4 @@ group-own budget period n i l e =
     rw (eq-eqb (firstWith period i) i e) at (sum-term (λ j. if (eqb (firstWith period j) i) (budget j) 0) n i l)
 
 pub group-past : (budget period : ℕ → ℕ) (n j : ℕ) → n ≤ j → groupTo budget period n j ≡ 0
-unfolding groupTo if
-group-past budget period n j le =
-    sum-none (λ i. if (eqb (firstWith period i) j) (budget i) 0) n
-    (λ i l. rw (ne-eqb (firstWith period i) j (λ (e : firstWith period i ≡ j). omega (arith, first-with-low period i))))
+group-past budget period n j le = group-none budget period n j (λ i l e. omega (arith, first-with-low period i))

@@ -13,7 +13,7 @@ grantedAt t i = grantedOf (t .worst) (t .padding) (reservedAt t i)
 abbrev pub quotientAt : Table → ℕ → ℕ
 quotientAt t i = t .span / periodAt t i
 
--- where a group stands: at the first stream that has the period of stream i, which is one before it or i itself
+-- where the group of stream i stands: at the smallest j before i with i's period, and at i itself where none has it
 unfoldable pub firstWith : (ℕ → ℕ) → ℕ → ℕ
 firstWith period i = smallestTo (λ j. if (eqb (period j) (period i)) j i) i
 
@@ -21,16 +21,18 @@ firstWith period i = smallestTo (λ j. if (eqb (period j) (period i)) j i) i
 unfoldable pub groupTo : (ℕ → ℕ) → (ℕ → ℕ) → ℕ → ℕ → ℕ
 groupTo budget period n j = sumTo (λ i. if (eqb (firstWith period i) j) (budget i) 0) n
 
+-- of all streams of a table
 abbrev pub groupAt : Table → ℕ → ℕ
 groupAt t = groupTo (grantedAt t) (periodAt t) (t .count)
 
--- "and divide once for each distinct period": the share of the group that stands at j
+-- "and divide once for each distinct period": the share of the group that stands at j; where none stands nothing is divided
 abbrev pub groupShareAt : Table → ℕ → ℕ
-groupShareAt t j = groupAt t j * quotientAt t j
+groupShareAt t j = if (eqb (groupAt t j) 0) 0 (groupAt t j * quotientAt t j)
 
+-- and of all groups
 unfoldable pub groupedShares : Table → ℕ
 groupedShares t = sumTo (groupShareAt t) (t .count)
 
--- with W times the quotient of the smallest period, which is that of its group
+-- "plus W × (H / smallest p)", whose quotient is that of its group, and the largest of all (`SmallestHasLargestQuotient`)
 unfoldable pub groupedLoad : Table → ℕ
 groupedLoad t = groupedShares t + t .worst * (t .span / smallestPeriod t)

@@ -7,9 +7,9 @@ use Prim.Native.Nat.{ℕ, _+_, _*_, _/_, _<_}
 use lib.ListN.{length}
 use Rattle.table.specs.Ranges.{streams-max}
 use Rattle.table.specs.Refusal.{outside}
-use Rattle.table.specs.Fold.{sumTo}
+use Rattle.table.specs.Fold.{sumTo, largestTo}
 use Rattle.table.specs.Admission.{periodAt, withPadding, grantedOf, smallestPeriod, loadOf, numbersRefusal, streamsRefusal, admissionOf}
-use Rattle.table.specs.Groups.{firstWith, groupTo, groupedLoad}
+use Rattle.table.specs.Groups.{quotientAt, firstWith, groupTo, groupedLoad}
 use Rattle.table.specs.Reservations.{lentTable}
 use Rattle.table.specs.declared.Table.{Table}
 use Rattle.table.specs.declared.reservations.Reservation.{Reservation}
@@ -27,11 +27,16 @@ GroupsAddUp =
     (budget period quotient : ℕ → ℕ) (n : ℕ)
     → sumTo (λ j. groupTo budget period n j * quotient (period j)) n ≡ sumTo (λ i. budget i * quotient (period i)) n
 
--- "The load is the same number": of any table, and of one with any count.
+-- "The load is the same number": of any table, whatever its count.
 abbrev pub LoadByGroups : Type 0
 LoadByGroups = (t : Table) → groupedLoad t ≡ loadOf t
 
--- "divide once for each distinct period": streams are of one group exactly if they have one period, and where no group stands there is nothing to divide for.
+-- "W × (H / smallest p)" takes no division of its own: where the load is judged, the quotient of the smallest period is the largest of all.
+abbrev pub SmallestHasLargestQuotient : Type 0
+SmallestHasLargestQuotient =
+    (t : Table) → numbersRefusal t ≡ 0 → streamsRefusal t ≡ 0 → largestTo (quotientAt t) (t .count) ≡ t .span / smallestPeriod t
+
+-- "divide once for each distinct period": streams are of one group exactly if they have one period, and at a place that is not the first with its period there is nothing to divide for.
 abbrev pub OneGroupForEachPeriod : Type 0
 OneGroupForEachPeriod =
     (budget period : ℕ → ℕ) (n i j : ℕ)

@@ -15,20 +15,21 @@ pub(crate) fn grouped_load(t: Table) -> u64
     requires { ⌜ (numbersRefusal t ≡ 0) × (streamsRefusal t ≡ 0) ⌝ }
     ensures { λ r. ⌜ r ≡ groupedLoad t ⌝ }
 {
-    let budget = budgets(t);
+    let group = budgets(t);
     let period = t.period;
     let mut shares: u64 = 0;
-    let mut most: u64 = 0;
+    let mut largest: u64 = 0;
     let mut j: usize = 0;
     while j < Table::STREAMS_MAX {
-        if budget[j] != 0 {
+        // Where no group stands nothing is divided.
+        if group[j] != 0 {
             let quotient = (t.span / period[j]) as u64;
-            shares += budget[j] * quotient;
-            most = larger(most, quotient);
+            shares += group[j] * quotient;
+            largest = larger(largest, quotient);
         }
         j += 1;
     }
-    shares + t.worst as u64 * most
+    shares + t.worst as u64 * largest
 }
 
 // The granted budgets of each group, added up where it stands, and 0 at the other places.

@@ -43,14 +43,12 @@ loop-holds c =
 first-with-requires : tie.Need-first-with-requires Inv-loop μ-loop
 first-with-requires c κs = omega arith
 
-within : tie.Need-array-read-budget Inv-loop μ-loop
-within c = placed (c .before .before .before .before .before .before .before .args .t) (c .before .before .before .before .loop .i) (c .first-with .result) (omega arith) (c .first-with .ensures)
+array-read-budget : tie.Need-array-read-budget Inv-loop μ-loop
+array-read-budget c =
+    placed (c .before .before .before .before .before .before .before .args .t) (c .before .before .before .before .loop .i) (c .first-with .result) (omega arith) (c .first-with .ensures)
 
 mul-budget : tie.Need-mul-budget Inv-loop μ-loop
-mul-budget c = omega (arith, within c)
-
-array-read-budget : tie.Need-array-read-budget Inv-loop μ-loop
-array-read-budget c = within c
+mul-budget c = omega (arith, array-read-budget c)
 
 mul-granted : tie.Need-mul-granted Inv-loop μ-loop
 mul-granted c = omega arith
@@ -66,13 +64,13 @@ add-budget c =
     let s = c .before .before .before .before .before .before .before .before in
     let at = c .before .before .before .before .before .loop in
     let t = s .args .t in
-    omega (arith, c .granted .ensures, budgets-fit t (s .pre .1) (at .budget) (min (at .i) (t .count)) (c .before .first-with .result) (at .i) (omega arith) (omega arith) (within (c .before)) (omega arith) (at .inv .1))
+    omega (arith, c .granted .ensures, budgets-fit t (s .pre .1) (at .budget) (min (at .i) (t .count)) (c .before .first-with .result) (at .i) (omega arith) (omega arith) (array-read-budget (c .before)) (omega arith) (at .inv .1))
 
 mul-budget-2 : tie.Need-mul-budget-2 Inv-loop μ-loop
-mul-budget-2 c = omega (arith, within (c .before))
+mul-budget-2 c = omega (arith, array-read-budget (c .before))
 
 array-write-budget : tie.Need-array-write-budget Inv-loop μ-loop
-array-write-budget c = within (c .before)
+array-write-budget c = array-read-budget (c .before)
 
 add-i : tie.Need-add-i Inv-loop μ-loop
 add-i c = omega arith

@@ -14,25 +14,26 @@ use Rattle.table.specs.Groups.{quotientAt, groupAt, groupedShares, group
 use Rattle.table.specs.declared.Table.{Table}
 use Rattle.table.proofs.Lists.{getD-listTo}
 use Rattle.table.proofs.Judged.{numbers-of, streams-of}
-use Rattle.table.proofs.Grouped.{smallest-most}
-use Rattle.table.proofs.Gathered.{used-passed, Passed, passed-none, passed-group, passed-by, grouped-used, shares-high}
+use Rattle.table.proofs.Grouped.{group-share}
+use Rattle.table.proofs.Gathered.{used-passed, Passed, passed-none, passed-group, passed-by, grouped-used, shares-high, smallest-has-largest-quotient}
 use Rattle.table.proofs.groups.grouped_load.Statement.{statement}
 use Rattle.table.proofs.groups.grouped_load.Tie as tie
 
 -- at a place of the eight
-module _ (t : Table) (numbers : numbersRefusal t ≡ 0) (streams : streamsRefusal t ≡ 0) (xs : List ℕ) (e : xs ≡ listTo (groupAt t) streams-max) (j : ℕ) (l : j < 8) where
+module _ (t : Table) (xs : List ℕ) (e : xs ≡ listTo (groupAt t) streams-max) (j : ℕ) (l : j < 8) where
   here : getD xs j 0 ≡ groupAt t j
   here = ap (λ ys. getD ys j 0) e ∙ getD-listTo (groupAt t) 0 streams-max j l
 
   used : (getD xs j 0 ≡ 0 → ⊥) → j < t .count
   used some = grouped-used t j (λ none. some (here ∙ none))
 
-  share-fits : (shares most : ℕ) → (getD xs j 0 ≡ 0 → ⊥) → Passed t shares most (min j (t .count)) → shares + getD xs j 0 * quotientAt t j ≤ streams-max * span-max
+  share-fits : (shares most : ℕ) → numbersRefusal t ≡ 0 → streamsRefusal t ≡ 0 → (getD xs j 0 ≡ 0 → ⊥)
+      → Passed t shares most (min j (t .count)) → shares + getD xs j 0 * quotientAt t j ≤ streams-max * span-max
   unfolding sumTo
-  share-fits shares most some q =
+  share-fits shares most numbers streams some q =
       let n = used-passed j (t .count) (used some) in
       let sum = subst (Passed t shares most) (n .0) q .sum in
-      rw (here, sum) (shares-high t streams numbers (suc j) (used some))
+      rw (here, sum, sym (group-share t j)) (shares-high t streams numbers (suc j) (used some))
 
   -- with a group, and without one
   more : (shares most shares' most' larger : ℕ) → (getD xs j 0 ≡ 0 → ⊥) → larger ≡ max most (quotientAt t j)
@@ -40,9 +41,9 @@ module _ (t : Table) (numbers : numbersRefusal t ≡ 0) (streams : streamsRefusa
       → Passed t shares most (min j (t .count)) → Passed t shares' most' (min (j + 1) (t .count))
   more shares most shares' most' larger some is-larger sum is-most q = rw (sum, is-most, is-larger, here) (passed-group t shares most j (used some) q)
 
-  same : (shares most shares' most' : ℕ) → getD xs j 0 ≡ 0 → shares' ≡ shares → most' ≡ most
+  same : (shares most shares' most' : ℕ) → streamsRefusal t ≡ 0 → getD xs j 0 ≡ 0 → shares' ≡ shares → most' ≡ most
       → Passed t shares most (min j (t .count)) → Passed t shares' most' (min (j + 1) (t .count))
-  same shares most shares' most' none sum is-most q = rw (sum, is-most) (passed-by t streams shares most j (sym here ∙ none) q)
+  same shares most shares' most' streams none sum is-most q = rw (sum, is-most) (passed-by t streams shares most j (sym here ∙ none) q)
 
 -- past the last place
 module _ (t : Table) (numbers : numbersRefusal t ≡ 0) (streams : streamsRefusal t ≡ 0) (shares most j : ℕ) (l : 8 ≤ j) (q : Passed t shares most (min j (t .count))) where
@@ -50,8 +51,7 @@ module _ (t : Table) (numbers : numbersRefusal t ≡ 0) (streams : streamsRefusa
   all = let e : min j (t .count) ≡ t .count = omega (arith, numbers-of t numbers .count-high) in subst (Passed t shares most) e q
 
   smallest : most ≡ t .span / smallestPeriod t
-  unfolding smallestPeriod
-  smallest = all .largest ∙ smallest-most (t .span) (periodAt t) (t .count) (numbers-of t numbers .count-low) (λ i l. omega (arith, streams-of t streams i l .period-low))
+  smallest = all .largest ∙ smallest-has-largest-quotient t numbers streams
 
   blocking-fits : t .worst * most ≤ worst-max * span-max
   blocking-fits =
@@ -66,10 +66,10 @@ module _ (t : Table) (numbers : numbersRefusal t ≡ 0) (streams : streamsRefusa
   whole = rw (all .sum, smallest)
 
 abbrev Inv-loop : tie.InvT-loop
-Inv-loop t budget period shares₀ most₀ j₀ shares most j = (j ≤ 8) × Passed t shares most (min j (t .count))
+Inv-loop t group period shares₀ largest₀ j₀ shares largest j = (j ≤ 8) × Passed t shares largest (min j (t .count))
 
 abbrev μ-loop : tie.MeasureT-loop
-μ-loop t budget period shares₀ most₀ j₀ shares most j = 8 - j
+μ-loop t group period shares₀ largest₀ j₀ shares largest j = 8 - j
 
 budgets-requires : tie.Need-budgets-requires Inv-loop μ-loop
 budgets-requires c κs = (numbers-of _ (c .pre .0) .count-high, c .pre .1)
@@ -97,7 +97,7 @@ div-quotient c =
     let s = c .before .before .before .before .before .before in
     let t = s .args .t in
     let at = c .before .before .before .loop in
-    omega (arith, streams-of t (s .pre .1) (at .j) (used t (s .pre .0) (s .pre .1) _ (c .before .before .before .before .before .budgets .ensures) (at .j) (omega arith) (c .before .if1 .taken)))
+    omega (arith, streams-of t (s .pre .1) (at .j) (used t _ (c .before .before .before .before .before .budgets .ensures) (at .j) (omega arith) (c .before .if1 .taken)))
 
 cast-quotient : tie.Need-cast-quotient Inv-loop μ-loop
 cast-quotient c =
@@ -110,17 +110,14 @@ mul-shares c = omega arith
 array-read-shares : tie.Need-array-read-shares Inv-loop μ-loop
 array-read-shares c = omega arith
 
-sum-fits : tie.Need-add-shares Inv-loop μ-loop
-sum-fits c =
+add-shares : tie.Need-add-shares Inv-loop μ-loop
+add-shares c =
     let s = c .before .before .before .before .before .before in
     let at = c .before .before .before .loop in
-    omega (arith, share-fits (s .args .t) (s .pre .0) (s .pre .1) _ (c .before .before .before .before .before .budgets .ensures) (at .j) (omega arith) (at .shares) (at .most) (c .before .if1 .taken) (at .inv .1))
+    omega (arith, share-fits (s .args .t) _ (c .before .before .before .before .before .budgets .ensures) (at .j) (omega arith) (at .shares) (at .largest) (s .pre .0) (s .pre .1) (c .before .if1 .taken) (at .inv .1))
 
 mul-shares-2 : tie.Need-mul-shares-2 Inv-loop μ-loop
-mul-shares-2 c = omega (arith, sum-fits c)
-
-add-shares : tie.Need-add-shares Inv-loop μ-loop
-add-shares c = sum-fits c
+mul-shares-2 c = omega (arith, add-shares c)
 
 larger-requires : tie.Need-larger-requires Inv-loop μ-loop
 larger-requires c κs = tt
@@ -139,8 +136,8 @@ loop-again c =
     let e = c .before .before .before .before .budgets .ensures in (
       omega arith,
       ⊎-elim
-          (λ w. more t (s .pre .0) (s .pre .1) _ e (at .j) (omega arith) (at .shares) (at .most) (c .if1 .shares) (c .if1 .most) (w .2 .result) (w .0 .taken) (w .2 .ensures) (w .3) (w .4) (at .inv .1))
-          (λ w. same t (s .pre .0) (s .pre .1) _ e (at .j) (omega arith) (at .shares) (at .most) (c .if1 .shares) (c .if1 .most) (w .0 .left) (w .1) (w .2) (at .inv .1))
+          (λ w. more t _ e (at .j) (omega arith) (at .shares) (at .largest) (c .if1 .shares) (c .if1 .largest) (w .2 .result) (w .0 .taken) (w .2 .ensures) (w .3) (w .4) (at .inv .1))
+          (λ w. same t _ e (at .j) (omega arith) (at .shares) (at .largest) (c .if1 .shares) (c .if1 .largest) (s .pre .1) (w .0 .left) (w .1) (w .2) (at .inv .1))
           (c .if1 .came),
     )
 
@@ -151,19 +148,19 @@ mul-result : tie.Need-mul-result Inv-loop μ-loop
 mul-result c =
     let s = c .before .before .before .before .before in
     let at = c .before .before .loop in
-    omega (arith, blocking-fits (s .args .t) (s .pre .0) (s .pre .1) (at .shares) (at .most) (at .j) (omega arith) (at .inv .1))
+    omega (arith, blocking-fits (s .args .t) (s .pre .0) (s .pre .1) (at .shares) (at .largest) (at .j) (omega arith) (at .inv .1))
 
 add-result : tie.Need-add-result Inv-loop μ-loop
 add-result c =
     let s = c .before .before .before .before .before in
     let at = c .before .before .loop in
-    omega (arith, load-fits (s .args .t) (s .pre .0) (s .pre .1) (at .shares) (at .most) (at .j) (omega arith) (at .inv .1))
+    omega (arith, load-fits (s .args .t) (s .pre .0) (s .pre .1) (at .shares) (at .largest) (at .j) (omega arith) (at .inv .1))
 
 returns : tie.Need-returns Inv-loop μ-loop
 returns c =
     let s = c .before .before .before .before .before in
     let at = c .before .before .loop in
-    whole (s .args .t) (s .pre .0) (s .pre .1) (at .shares) (at .most) (at .j) (omega arith) (at .inv .1)
+    whole (s .args .t) (s .pre .0) (s .pre .1) (at .shares) (at .largest) (at .j) (omega arith) (at .inv .1)
 
 pub grouped-load-spec : {M : Type 1} → statement M
 grouped-load-spec =

@@ -3,8 +3,30 @@
 
 #include <string.h>
 
+// Three tables in four have at most so many distinct periods.
+#define FEW_PERIODS 3
+
+static bool is_among(uint64_t period, const uint64_t *pool, uint64_t kinds)
+{
+    for (uint64_t i = 0; i < kinds; i++)
+        if (pool[i] == period)
+            return true;
+    return false;
+}
+
+// Each period of the pool goes to one stream, as far as there are streams, and any of them to each of the others, in any order.
+static void share_periods(struct chance *c, struct table *t, const uint64_t *pool, uint64_t kinds)
+{
+    for (uint32_t i = 0; i < t->count; i++) {
+        uint64_t period = pool[i < kinds ? i : below(c, kinds)];
+        uint64_t at = below(c, i + 1);
+        t->reservations[i].period = t->reservations[at].period;
+        t->reservations[at].period = (uint32_t)period;
+    }
+}
+
 // Periods that are a base times small numbers; H is a common multiple, so each divides it.
-static bool make_periods(struct chance *c, struct table *t)
+static bool make_periods(struct chance *c, struct table *t, uint64_t kinds)
 {
     static const uint32_t bases[] = {1000, 1000, 1001, 2500, 10000, 25000, 50000, 250000, 1000000, 20000000, 60000000};
     static const uint32_t factors[] = {1, 1, 2, 3, 4, 5, 6, 8, 10, 12, 30, 60};
@@ -13,11 +35,12 @@ static bool make_periods(struct chance *c, struct table *t)
         base = PERIOD_MIN + spread(c, 100000);
     else if (percent(c, 20))
         base = PERIOD_MIN + spread(c, PERIOD_MAX - PERIOD_MIN);
-    uint64_t pool[3];
-    uint64_t kinds = 1 + below(c, LENGTH(pool));
+    uint64_t pool[STREAM_MAX];
     uint64_t span = base;
     for (uint64_t i = 0; i < kinds; i++) {
-        pool[i] = base * ONE_OF(c, factors);
+        do
+            pool[i] = base * ONE_OF(c, factors);
+        while (is_among(pool[i], pool, i));
         if (pool[i] > PERIOD_MAX)
             return false;
         uint64_t step = span;
@@ -26,13 +49,12 @@ static bool make_periods(struct chance *c, struct table *t)
     }
     if (percent(c, 30))
         span *= ONE_OF(c, factors);
-    if (percent(c, 5))
-        span *= SPAN_MAX / span;
     if (span > SPAN_MAX)
         return false;
+    if (percent(c, 5))
+        span *= SPAN_MAX / span;
     t->span = (uint32_t)span;
-    for (uint32_t i = 0; i < t->count; i++)
-        t->reservations[i].period = (uint32_t)pool[below(c, kinds)];
+    share_periods(c, t, pool, kinds);
     return true;
 }
 
@@ -105,10 +127,13 @@ void make_table(struct chance *c, struct table *t)
         known_table(c, t);
         return;
     }
+    bool many = percent(c, 25);
+    uint64_t kinds = many ? FEW_PERIODS + 1 + below(c, STREAM_MAX - FEW_PERIODS) : 1 + below(c, FEW_PERIODS);
+    uint64_t least = many ? kinds : 1;
     for (;;) {
-        t->count = 1 + (uint32_t)below(c, STREAM_MAX);
+        t->count = (uint32_t)(least + below(c, STREAM_MAX + 1 - least));
         t->padding = (uint32_t)below(c, PADDING_MAX + 1);
-        if (!make_periods(c, t))
+        if (!make_periods(c, t, kinds))
             continue;
         bool whole = percent(c, 50);
         t->worst = (uint32_t)make_worst(c, t, whole);
@@ -200,6 +225,16 @@ static void spoil(struct chance *c, struct table *t)
         spoil_stream(c, t);
 }
 
+// One microsecond too much in the longest period, where it adds least: most often the load is then just past H.
+static void overload(struct table *t)
+{
+    struct reservation *longest = t->reservations;
+    for (uint32_t i = 1; i < t->count; i++)
+        if (t->reservations[i].period > longest->period)
+            longest = &t->reservations[i];
+    longest->reserved++;
+}
+
 void make_faulty_table(struct chance *c, struct table *t)
 {
     if (percent(c, 10)) {
@@ -211,6 +246,10 @@ void make_faulty_table(struct chance *c, struct table *t)
         return;
     }
     make_table(c, t);
+    if (percent(c, 25)) {
+        overload(t);
+        return;
+    }
     for (uint64_t n = 1 + below(c, 3); n > 0; n--)
         spoil(c, t);
     if (percent(c, 8)) {

@@ -246,7 +246,7 @@ void make_faulty_table(struct chance *c, struct table *t)
         return;
     }
     make_table(c, t);
-    if (percent(c, 25)) {
+    if (percent(c, 10)) {
         overload(t);
         return;
     }

@@ -4,7 +4,7 @@ use mathlib.Core.List.{List}
 use mathlib.Core.Logic.{⊎-elim}
 use mathlib.Core.Path.{_≡_, refl, sym, _∙_, ap, subst}
 use Prim.Native.Nat.{ℕ, suc, _+_, _*_, _/_, min, max, _≤_, _<_}
-use native.Mathlib.Nat.{mul-le-mul, le-trans}
+use native.Mathlib.Nat.{le-trans}
 use native.Mathlib.Omega.{arith}
 use lib.Dec.{eqb}
 use lib.ListN.{length, getD, set, replicate, length-set, getD-replicate}
@@ -12,14 +12,14 @@ use lib.Seq.{getD-set-same, getD-set-other}
 use borrow.Author.Tests.{eqb-true, eqb-false}
 use Rattle.table.specs.Fold.{if, sumTo, largestTo, listTo}
 use Rattle.table.specs.Ranges.{streams-max, span-max, period-max}
-use Rattle.table.specs.Admission.{periodAt, grantedOf, shareAt, sharesOf, smallestPeriod, numbersRefusal, streamsRefusal}
+use Rattle.table.specs.Admission.{periodAt, grantedOf, smallestPeriod, numbersRefusal, streamsRefusal}
 use Rattle.table.specs.Groups.{grantedAt, quotientAt, firstWith, groupTo, groupAt, groupShareAt, groupedShares}
 use Rattle.table.specs.Laws.{SmallestHasLargestQuotient}
 use Rattle.table.specs.declared.Table.{Table}
 use Rattle.table.proofs.Tests.{le-or-lt}
-use Rattle.table.proofs.Folds.{sum-high, sum-part, largest-le}
+use Rattle.table.proofs.Folds.{sum-part, largest-le}
 use Rattle.table.proofs.Lists.{filled-on, filled-all}
-use Rattle.table.proofs.Judged.{numbers-of, streams-of, share-high}
+use Rattle.table.proofs.Judged.{numbers-of, streams-of, shares-high}
 use Rattle.table.proofs.Grouped.{first-with-low, first-with-same, group-high, group-own, group-past, group-share, grouped-shares, smallest-most}
 
 -- of the first i places those of streams are so many
@@ -134,13 +134,10 @@ module _ (t : Table) (streams : streamsRefusal t ≡ 0) where
       (le-or-lt (t .count) i)
 
   -- the shares of all groups are those of all streams, each at most the span
-  pub shares-high : numbersRefusal t ≡ 0 → (n : ℕ) → n ≤ t .count → sumTo (groupShareAt t) n ≤ streams-max * span-max
-  unfolding groupedShares sharesOf
-  shares-high numbers n le =
-      let each = sum-high (t .span) (shareAt t) (t .count) (λ j u. share-high _ _ _ _ _ (streams-of t streams j u)) in
-      let q = numbers-of t numbers in
-      let most : t .count * t .span ≤ streams-max * span-max = mul-le-mul (q .count-high) (q .span-high) in
-      omega (arith, sum-part (groupShareAt t) n (t .count) le, grouped-shares t, each, most)
+  pub group-shares-high : numbersRefusal t ≡ 0 → (n : ℕ) → n ≤ t .count → sumTo (groupShareAt t) n ≤ streams-max * span-max
+  unfolding groupedShares
+  group-shares-high numbers n le =
+      omega (arith, sum-part (groupShareAt t) n (t .count) le, grouped-shares t, shares-high t numbers streams)
 
 pub smallest-has-largest-quotient : SmallestHasLargestQuotient
 unfolding smallestPeriod

@@ -3,7 +3,7 @@ use mathlib.Core.Bool.{not}
 use mathlib.Core.Path.{_≡_}
 use mathlib.Core.List.{List}
 use Prim.Native.Nat.{ℕ, _*_, _/_, _%_, _≤_, _<_}
-use native.Mathlib.Nat.{mul-le-mul-right, mul-div-le, le-trans, div-add-mod'}
+use native.Mathlib.Nat.{mul-le-mul, mul-le-mul-right, mul-div-le, div-le-self, le-trans, div-add-mod'}
 use native.Mathlib.Omega.{arith}
 use lib.ListN.{getD}
 use lib.Dec.{ltb, eqb}
@@ -12,10 +12,11 @@ use Rattle.table.specs.Ranges.{streams-max, worst-min, worst-max, span-m
 use Rattle.table.specs.Fold.{if}
 use Rattle.table.specs.Refusal.{outside, _or-next_}
 use Rattle.table.specs.Admission.{reservedAt, periodAt, grantedOf, shareOf, shareAt, sharesOf, smallestPeriod, numbersRefusal, streamRefusal, streamRefusalAt, streamsRefusal, loadOf, admissionOf, partsRefusal, judgedLoad}
+use Rattle.table.specs.Margin.{load-max}
 use Rattle.table.specs.Laws.{LoadIsExact}
 use Rattle.table.specs.declared.Table.{Table}
 use Rattle.table.proofs.Tests.{within, neither, given-none, or-next-none}
-use Rattle.table.proofs.Folds.{first-none, smallest-is, sum-agree, smallest-agree, first-agree}
+use Rattle.table.proofs.Folds.{sum-high, first-none, smallest-is, sum-agree, smallest-agree, first-agree}
 
 -- the numbers of the whole table are in their ranges
 pub record Numbers (t : Table) : Type 0 where
@@ -81,7 +82,24 @@ pub share-high : (worst span k e p : ℕ) → Fits-in worst span k e p → share
 unfolding shareOf
 share-high worst span k e p q = le-trans (mul-le-mul-right (span / p) (q .budget)) (mul-div-le span p)
 
--- where 1 to 6 refuse nothing, neither the numbers nor a stream do
+-- where 1 to 6 refuse nothing, all shares come to eight spans at most, and the load is far from passing 63 bits
+pub shares-high : (t : Table) → numbersRefusal t ≡ 0 → streamsRefusal t ≡ 0 → sharesOf t ≤ streams-max * span-max
+unfolding sharesOf
+shares-high t numbers streams =
+    let q = numbers-of t numbers in
+    le-trans
+    (sum-high (t .span) (shareAt t) (t .count) (λ j u. share-high _ _ _ _ _ (streams-of t streams j u)))
+    (mul-le-mul (q .count-high) (q .span-high))
+
+pub load-high : (t : Table) → numbersRefusal t ≡ 0 → streamsRefusal t ≡ 0 → loadOf t ≤ load-max
+unfolding loadOf
+load-high t numbers streams =
+    let q = numbers-of t numbers in
+    let least = t .span / smallestPeriod t in
+    let term : t .worst * least ≤ worst-max * span-max = mul-le-mul (q .worst-high) (le-trans (div-le-self (t .span) (smallestPeriod t)) (q .span-high)) in
+    omega (arith, shares-high t numbers streams, term)
+
+-- neither the numbers nor a stream do, where 1 to 6 refuse nothing
 pub parts-none : (t : Table) → partsRefusal t ≡ 0 → (numbersRefusal t ≡ 0) × (streamsRefusal t ≡ 0)
 unfolding partsRefusal
 parts-none t = or-next-none (numbersRefusal t) (streamsRefusal t)
@@ -107,21 +125,25 @@ admits-of t h =
       fits = ltb-false (t .span) (loadOf t) (given-none _ 6 (b .1));
     }
 
--- admission reads the arrays below the count only: with others that agree there, a table that is admitted still is
-pub admits-alike : (t : Table) (reserved period : List ℕ) → admissionOf t ≡ 0
-    → ((i : ℕ) → i < t .count → getD reserved i 0 ≡ reservedAt t i)
-    → ((i : ℕ) → i < t .count → getD period i 0 ≡ periodAt t i)
-    → admissionOf (record { worst = t .worst; span = t .span; padding = t .padding; count = t .count; reserved = reserved; period = period }) ≡ 0
-unfolding admissionOf numbersRefusal streamsRefusal loadOf sharesOf smallestPeriod
-admits-alike t reserved period h es ps =
-    let refusals = first-agree
-    (λ i. streamRefusal (t .worst) (t .span) (t .padding) (getD reserved i 0) (getD period i 0)) (streamRefusalAt t) (t .count)
-    (λ i l. rw (es i l, ps i l)) in
-    let shares = sum-agree
-    (λ i. shareOf (t .worst) (t .span) (t .padding) (getD reserved i 0) (getD period i 0)) (shareAt t) (t .count)
-    (λ i l. rw (es i l, ps i l)) in
-    let least = smallest-agree (λ i. getD period i 0) (periodAt t) (t .count) (admits-of t h .numbers .count-low) ps in
-    rw (refusals, shares, least) h
+-- load and admission read the arrays below the count only: with others that agree there, the load is the same, and a table that is admitted still is
+module _ (t : Table) (reserved period : List ℕ) (h : admissionOf t ≡ 0)
+    (es : (i : ℕ) → i < t .count → getD reserved i 0 ≡ reservedAt t i)
+    (ps : (i : ℕ) → i < t .count → getD period i 0 ≡ periodAt t i) where
+  abbrev alike : Table
+  alike = record { worst = t .worst; span = t .span; padding = t .padding; count = t .count; reserved = reserved; period = period }
+
+  pub load-alike : loadOf alike ≡ loadOf t
+  unfolding loadOf sharesOf smallestPeriod
+  load-alike =
+      let shares = sum-agree (shareAt alike) (shareAt t) (t .count) (λ i l. rw (es i l, ps i l)) in
+      let least = smallest-agree (periodAt alike) (periodAt t) (t .count) (admits-of t h .numbers .count-low) ps in
+      rw (shares, least)
+
+  pub admits-alike : admissionOf alike ≡ 0
+  unfolding admissionOf numbersRefusal streamsRefusal
+  admits-alike =
+      let refusals = first-agree (streamRefusalAt alike) (streamRefusalAt t) (t .count) (λ i l. rw (es i l, ps i l)) in
+      rw (refusals, load-alike) h
 
 -- a period divides the span, and so does the smallest
 pub load-is-exact : LoadIsExact

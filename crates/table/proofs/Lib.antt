@@ -2,7 +2,10 @@ pub mod Tests
 pub mod Folds
 pub mod Grouped
 pub mod Lists
+pub mod Bits
 pub mod Judged
+pub mod Margins
+pub mod Others
 pub mod Gathered
 pub mod Paddings
 pub mod LentTables

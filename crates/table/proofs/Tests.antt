@@ -9,8 +9,6 @@ use lib.Dec.{ltb}
 use borrow.Author.Tests.{ltb-false}
 use Rattle.table.specs.Fold.{if}
 use Rattle.table.specs.Refusal.{given, _or-next_, outside}
-use Rattle.table.specs.Admission.{answered}
-use Rattle.table.specs.declared.Admission.the-variants.{Admitted, Refused}
 
 pub le-or-lt : (a b : ℕ) → (a ≤ b) ⊎ (b < a)
 le-or-lt a b = go (decLe a b)
@@ -86,20 +84,3 @@ pub or-next-assoc : (n m o : ℕ) → n or-next m or-next o ≡ (n or-next m) or
 unfolding _or-next_
 or-next-assoc zero m o = refl
 or-next-assoc (suc n) m o = refl
-
--- a number other than 0 is the answer's refusal
-pub answered-refused : (n : ℕ) → (n ≡ 0 → ⊥) → answered n ≡ Refused n
-unfolding answered
-answered-refused zero h = absurd (h refl)
-answered-refused (suc n) h = refl
-
--- a table is admitted only at 0, and refused only at another number
-pub answered-admits : (n : ℕ) → answered n ≡ Admitted → n ≡ 0
-unfolding answered
-answered-admits zero h = refl
-answered-admits (suc n) h = cc
-
-pub answered-refuses : (n m : ℕ) → answered n ≡ Refused m → n ≡ 0 → ⊥
-unfolding answered
-answered-refuses zero m h z = let never : _≡_ {A = ℕ} 0 1 = cc in omega arith
-answered-refuses (suc n) m h z = omega arith

@@ -1,14 +1,12 @@
 -- The reservation table of document 01: granted budgets, load and admission.
 use mathlib.Core.Bool.{not, _||_}
-use Prim.Native.Nat.{ℕ, zero, suc, _+_, _*_, _/_, _%_}
+use Prim.Native.Nat.{ℕ, _+_, _*_, _/_, _%_}
 use lib.ListN.{getD}
 use lib.Dec.{ltb, eqb}
-use Rattle.table.specs.Fold.{if, sumTo, smallestTo}
+use Rattle.table.specs.Fold.{if, sumTo, smallestTo, listTo}
 use Rattle.table.specs.Refusal.{given, _or-next_, firstTo, outside}
 use Rattle.table.specs.Ranges.{streams-max, worst-min, worst-max, span-min, span-max, padding-max, padding-default, period-min, period-max}
 use Rattle.table.specs.declared.Table.{Table}
-use Rattle.table.specs.declared.Admission.{Admission}
-use Rattle.table.specs.declared.Admission.the-variants.{Admitted, Refused}
 
 -- the reserved time e and the period p of a stream, counted from 0
 abbrev pub reservedAt : Table → ℕ → ℕ
@@ -21,6 +19,18 @@ periodAt t i = getD (t .period) i 0
 abbrev pub withPadding : Table → ℕ → Table
 withPadding t k =
     record { worst = t .worst; span = t .span; padding = k; count = t .count; reserved = t .reserved; period = t .period }
+
+-- and with another reserved time for stream i
+abbrev pub withReserved : Table → ℕ → ℕ → Table
+withReserved t i e =
+    record {
+      worst = t .worst;
+      span = t .span;
+      padding = t .padding;
+      count = t .count;
+      reserved = listTo (λ j. if (eqb j i) e (reservedAt t j)) streams-max;
+      period = t .period;
+    }
 
 -- "Zero stands for the default"
 unfoldable pub paddingOf : ℕ → ℕ
@@ -80,8 +90,3 @@ partsRefusal t = numbersRefusal t or-next streamsRefusal t
 
 unfoldable pub judgedLoad : Table → ℕ
 judgedLoad t = if (eqb (partsRefusal t) 0) (loadOf t) 0
-
--- the answer for a number of admission
-unfoldable pub answered : ℕ → Admission
-answered zero = Admitted
-answered (suc n) = Refused (suc n)

@@ -1,14 +1,17 @@
 -- What is proved of tables.
 use mathlib.Core.Bool.{true}
 use mathlib.Core.List.{List}
-use mathlib.Core.Logic.{_⊎_}
+use mathlib.Core.Logic.{_⊎_, _↔_}
 use mathlib.Core.Path.{_≡_}
-use Prim.Native.Nat.{ℕ, _+_, _*_, _/_, _<_}
+use Prim.Native.Nat.{ℕ, _+_, _*_, _/_, _≤_, _<_}
 use lib.ListN.{length}
+use lib.IntN.{pos, _+ℤ_, _-ℤ_}
+use lib.Signed.{_≤ℤ_, _<ℤ_}
 use Rattle.table.specs.Ranges.{streams-max}
 use Rattle.table.specs.Refusal.{outside}
 use Rattle.table.specs.Fold.{sumTo, largestTo}
-use Rattle.table.specs.Admission.{periodAt, withPadding, grantedOf, smallestPeriod, loadOf, numbersRefusal, streamsRefusal, admissionOf}
+use Rattle.table.specs.Admission.{reservedAt, periodAt, withPadding, withReserved, grantedOf, smallestPeriod, loadOf, numbersRefusal, streamsRefusal, partsRefusal, admissionOf}
+use Rattle.table.specs.Margin.{margin, marginOf, overOf, answerOf, numberIn, marginIn}
 use Rattle.table.specs.Groups.{quotientAt, firstWith, groupTo, groupedLoad}
 use Rattle.table.specs.Reservations.{lentTable}
 use Rattle.table.specs.declared.Table.{Table}
@@ -43,6 +46,34 @@ OneGroupForEachPeriod =
     → (period i ≡ period j → firstWith period i ≡ firstWith period j)
     × (firstWith period i ≡ firstWith period j → period i ≡ period j)
     × ((firstWith period j ≡ j → ⊥) → groupTo budget period n j ≡ 0)
+
+-- Document 02, Req 05: "the exact margin, span less load": the load and the margin come to the span, as whole numbers.
+abbrev pub MarginIsExact : Type 0
+MarginIsExact = (t : Table) → pos (loadOf t) +ℤ marginOf t ≡ pos (t .span)
+
+-- "negative when refused": where the load is judged, 7 is given exactly if the margin is below 0, and nothing exactly if it is not.
+abbrev pub MarginDecides : Type 0
+MarginDecides =
+    (t : Table) → partsRefusal t ≡ 0
+    → ((admissionOf t ≡ 7) ↔ (marginOf t <ℤ pos 0)) × ((admissionOf t ≡ 0) ↔ (pos 0 ≤ℤ marginOf t))
+
+-- "`refused 7 N` with N the amount over the span": it is what the load has above the span, and never 0; nothing is cut off.
+abbrev pub OverIsExact : Type 0
+OverIsExact = (t : Table) → admissionOf t ≡ 7 → (t .span + overOf (marginOf t) ≡ loadOf t) × (1 ≤ overOf (marginOf t))
+
+-- What admission answers has the number of the first refusal, or 0, and the margin where the load is judged. "Other refusals carry margin 0".
+abbrev pub AnswerCarriesMargin : Type 0
+AnswerCarriesMargin =
+    (t : Table)
+    → (numberIn (answerOf t) ≡ admissionOf t)
+    × (partsRefusal t ≡ 0 → marginIn (answerOf t) ≡ margin (marginOf t))
+    × ((partsRefusal t ≡ 0 → ⊥) → marginIn (answerOf t) ≡ margin (pos 0))
+
+-- What the clerks use it for: a reserved time that is raised by x lowers the margin by x × (H / p).
+abbrev pub RaisingLowers : Type 0
+RaisingLowers =
+    (t : Table) (i x : ℕ) → t .count ≤ streams-max → i < t .count
+    → marginOf (withReserved t i (reservedAt t i + x)) ≡ marginOf t -ℤ pos (x * (t .span / periodAt t i))
 
 -- "Granted budget g = e + k × W", and by document 02, Req 02, "Padding of three unless told otherwise": with 3 where k is 0, and with any other k as it is told.
 abbrev pub GrantedAsTold : Type 0

@@ -1,11 +1,14 @@
 // Reservation tables: their numbers, the ranges of these, and which are admitted.
 mod groups;
+mod margin;
 mod reservations;
 
 ghost use mathlib.Core.Path.{_≡_};
 ghost use Prim.Native.Nat.{_≤_};
 ghost use Rattle.table.specs.Ranges.{streams-max};
-ghost use Rattle.table.specs.Admission.{paddingOf, grantedOf, loadOf, judgedLoad, numbersRefusal, streamRefusal, streamsRefusal, partsRefusal, admissionOf, answered};
+ghost use Rattle.table.specs.Admission.{paddingOf, grantedOf, loadOf, judgedLoad, numbersRefusal, streamRefusal, streamsRefusal, partsRefusal};
+ghost use Rattle.table.specs.Margin.{answerOf, numberIn, marginIn, overIn};
+pub use margin::Margin;
 pub use reservations::Records;
 pub use reservations::Reservation;
 pub use reservations::record_at;
@@ -22,10 +25,43 @@ pub struct Table {
     pub period: [u32; Table::STREAMS_MAX],
 }
 
-// What is said of a table: it is admitted, or refused by number.
+// What is said of a table: it is admitted, with what is left of the span; refused by a number of 1 to 6; or refused by 7, since its load is over the span.
 pub enum Admission {
-    Admitted,
+    Admitted(Margin),
     Refused(u64),
+    Over(Margin),
+}
+
+impl Admission {
+    // 0, or the number of a refusal.
+    pub fn number(self) -> u64
+        ensures { λ r. ⌜ r ≡ numberIn self ⌝ }
+    {
+        match self {
+            Admission::Admitted(_) => 0,
+            Admission::Refused(number) => number,
+            Admission::Over(_) => 7,
+        }
+    }
+
+    // The margin: 1 to 6 carry 0.
+    pub fn margin(self) -> Margin
+        ensures { λ r. ⌜ r ≡ marginIn self ⌝ }
+    {
+        match self {
+            Admission::Admitted(margin) => margin,
+            Admission::Refused(_) => Margin::none(),
+            Admission::Over(margin) => margin,
+        }
+    }
+
+    // The amount over the span: 0 where the load is not, or is not judged.
+    pub fn over(self) -> u64
+        ensures { λ r. ⌜ r ≡ overIn self ⌝ }
+    {
+        let margin = self.margin();
+        margin.over()
+    }
 }
 
 impl Table {
@@ -43,18 +79,20 @@ impl Table {
 
     pub const PERIOD_MAX: u32 = 60_000_000;
 
-    // Whether the table is admitted, or the first refusal that applies.
+    // The first refusal that applies, or none, with the margin where the load is judged.
     pub fn admission(self) -> Admission
-        ensures { λ r. ⌜ r ≡ answered (admissionOf self) ⌝ }
+        ensures { λ r. ⌜ r ≡ answerOf self ⌝ }
     {
         let first = parts_refusal(self);
         if first != 0 {
             return Admission::Refused(first);
         }
-        if (self.span as u64) < load(self) {
-            return Admission::Refused(7);
+        let load = load(self);
+        let margin = Margin::of(self.span, load);
+        if (self.span as u64) < load {
+            return Admission::Over(margin);
         }
-        Admission::Admitted
+        Admission::Admitted(margin)
     }
 
     // The load of a table that 1 to 6 do not refuse; 0 of another.

@@ -1,30 +1,14 @@
--- `Table::admission` gives the first refusal of 1 to 6, and where there is none that of the load.
-use mathlib.Core.Path.{_≡_, sym, _∙_}
-use Prim.Native.Nat.{ℕ, _≤_, _<_}
-use lib.Dec.{ltb}
+-- `Table::admission` gives the first refusal of 1 to 6, and where there is none the margin, with 7 where the load is over the span.
+use mathlib.Core.Path.{_≡_, sym, _∙_, ap}
+use Prim.Native.Nat.{_≤_, _<_}
 use borrow.Author.Needs.{needs}
-use borrow.Author.Tests.{lt-ltb, le-ltb}
-use Rattle.table.specs.Refusal.{given, _or-next_}
-use Rattle.table.specs.Admission.{loadOf, partsRefusal, admissionOf, answered}
-use Rattle.table.specs.declared.Table.{Table}
-use Rattle.table.proofs.Tests.{or-next-first, or-next-assoc, answered-refused}
-use Rattle.table.proofs.Judged.{parts-none}
+use Rattle.table.specs.Admission.{partsRefusal, loadOf}
+use Rattle.table.specs.Margin.{lessLoad, margin, marginOf}
+use Rattle.table.specs.declared.Admission.the-variants.{Admitted, Refused, Over}
+use Rattle.table.proofs.Judged.{parts-none, load-high}
+use Rattle.table.proofs.Margins.{answered-first, answered-left, answered-over}
 use Rattle.table.proofs.Table.admission.Statement.{statement}
 use Rattle.table.proofs.Table.admission.Tie as tie
-
--- 1 to 6, and then 7
-in-order : (t : Table) → admissionOf t ≡ partsRefusal t or-next given (ltb (t .span) (loadOf t)) 7
-unfolding admissionOf partsRefusal
-in-order t = or-next-assoc _ _ _
-
--- where 1 to 6 refuse nothing, the load decides
-last : (t : Table) → partsRefusal t ≡ 0 → admissionOf t ≡ given (ltb (t .span) (loadOf t)) 7
-unfolding _or-next_
-last t z = rw (in-order t, z)
-
--- and where they refuse, that is the answer
-first : (t : Table) (n : ℕ) → n ≡ partsRefusal t → (n ≡ 0 → ⊥) → admissionOf t ≡ n
-first t n e ne = rw (in-order t, ← e) (or-next-first n _ ne)
 
 parts-refusal-requires : tie.Need-parts-refusal-requires
 parts-refusal-requires c κs = tt
@@ -32,30 +16,41 @@ parts-refusal-requires c κs = tt
 returns : tie.Need-returns
 returns c =
     let n = c .before .parts-refusal in
-    rw (first (c .before .before .args .self) (n .result) (n .ensures) (c .if1 .taken)) (sym (answered-refused (n .result) (c .if1 .taken)))
+    ap Refused (n .ensures) ∙ sym (answered-first _ (λ z. c .if1 .taken (n .ensures ∙ z)))
+
+-- past the first test nothing is refused
+none : (c : tie.Else1) → partsRefusal (c .before .before .args .self) ≡ 0
+none c = sym (c .before .parts-refusal .ensures) ∙ c .if1 .left
+
+load-requires : tie.Need-load-requires
+load-requires c κs = parts-none _ (none c)
+
+of-requires : tie.Need-of-requires
+of-requires c κs =
+    let parts = parts-none _ (none (c .before)) in
+    rw (c .load .ensures) (load-high _ (parts .0) (parts .1))
 
 cast-if2 : tie.Need-cast-if2
 cast-if2 c = search needs
 
-load-requires : tie.Need-load-requires
-load-requires c κs = parts-none _ (sym (c .before .before .parts-refusal .ensures) ∙ c .before .if1 .left)
+-- and the margin is that of the table
+margin-is : (c : tie.After-of) → c .of .result ≡ margin (marginOf (c .before .before .before .before .args .self))
+unfolding marginOf
+margin-is c = c .of .ensures ∙ ap (λ l. margin (lessLoad (c .before .before .before .before .args .self .span) l)) (c .before .load .ensures)
 
 returns-2 : tie.Need-returns-2
-unfolding given answered
 returns-2 c =
-    let s = c .before .before .before in
-    let t = s .before .before .args .self in
-    let l : t .span < loadOf t = rw (c .before .load .ensures) at (c .if2 .taken) in
-    rw (last t (sym (s .before .parts-refusal .ensures) ∙ s .if1 .left), lt-ltb _ _ l)
+    let at = c .before .before in
+    let over : at .before .before .before .before .args .self .span < loadOf (at .before .before .before .before .args .self) = rw (at .before .load .ensures) at (c .if2 .taken) in
+    ap Over (margin-is at) ∙ sym (answered-over _ (none (at .before .before)) over)
 
 returns-3 : tie.Need-returns-3
-unfolding given answered
 returns-3 c =
-    let s = c .before .before .before in
-    let t = s .before .before .args .self in
-    let l : loadOf t ≤ t .span = rw (c .before .load .ensures) at (c .if2 .left) in
-    rw (last t (sym (s .before .parts-refusal .ensures) ∙ s .if1 .left), le-ltb _ _ l)
+    let at = c .before .before in
+    let fits : loadOf (at .before .before .before .before .args .self) ≤ at .before .before .before .before .args .self .span = rw (at .before .load .ensures) at (c .if2 .left) in
+    ap Admitted (margin-is at) ∙ sym (answered-left _ (none (at .before .before)) fits)
 
 pub admission-spec : {M : Type 1} → statement M
 admission-spec =
-    tie.close (tie.spec parts-refusal-requires returns cast-if2 load-requires returns-2 returns-3)
+    tie.close
+    (tie.spec parts-refusal-requires returns load-requires of-requires cast-if2 returns-2 returns-3)

@@ -15,7 +15,7 @@ use Rattle.table.specs.declared.Table.{Table}
 use Rattle.table.proofs.Lists.{getD-listTo}
 use Rattle.table.proofs.Judged.{numbers-of, streams-of}
 use Rattle.table.proofs.Grouped.{group-share}
-use Rattle.table.proofs.Gathered.{used-passed, Passed, passed-none, passed-group, passed-by, grouped-used, shares-high, smallest-has-largest-quotient}
+use Rattle.table.proofs.Gathered.{used-passed, Passed, passed-none, passed-group, passed-by, grouped-used, group-shares-high, smallest-has-largest-quotient}
 use Rattle.table.proofs.groups.grouped_load.Statement.{statement}
 use Rattle.table.proofs.groups.grouped_load.Tie as tie
 
@@ -33,7 +33,7 @@ module _ (t : Table) (xs : List ℕ) (e : xs ≡ listTo (groupAt t) streams-max)
   share-fits shares most numbers streams some q =
       let n = used-passed j (t .count) (used some) in
       let sum = subst (Passed t shares most) (n .0) q .sum in
-      rw (here, sum, sym (group-share t j)) (shares-high t streams numbers (suc j) (used some))
+      rw (here, sum, sym (group-share t j)) (group-shares-high t streams numbers (suc j) (used some))
 
   -- with a group, and without one
   more : (shares most shares' most' larger : ℕ) → (getD xs j 0 ≡ 0 → ⊥) → larger ≡ max most (quotientAt t j)
@@ -59,7 +59,7 @@ module _ (t : Table) (numbers : numbersRefusal t ≡ 0) (streams : streamsRefusa
       mul-le-mul {m₂ = span-max} (n .worst-high) (rw smallest (le-trans (div-le-self (t .span) (smallestPeriod t)) (n .span-high)))
 
   load-fits : shares + t .worst * most ≤ (streams-max + worst-max) * span-max
-  load-fits = omega (arith, blocking-fits, all .sum, shares-high t streams numbers (t .count) (omega arith))
+  load-fits = omega (arith, blocking-fits, all .sum, group-shares-high t streams numbers (t .count) (omega arith))
 
   whole : shares + t .worst * most ≡ groupedLoad t
   unfolding groupedLoad groupedShares

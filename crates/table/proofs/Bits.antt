@@ -1,0 +1,125 @@
+-- A number of 64 bits with a sign, by its bits: `ofZ` gives the bits of a number, and `toZ` the number of bits.
+use mathlib.Core.Bool.{true, false, false≢true}
+use mathlib.Core.Path.{_≡_, refl, sym, subst, _∙_, ap}
+use mathlib.Core.Logic.{⊎-elim}
+use Prim.Native.Nat.{ℕ, zero, suc, _+_, _-_, _≤_, _<_, _^_}
+use native.Mathlib.Omega.{arith}
+use lib.Dec.{eqb}
+use lib.IntN.{ℤ, pos, negsuc, negℤ, subℕ, _+ℤ_, _-ℤ_}
+use lib.Signed.{ltZ}
+use mir.Syntax.{w64}
+use mir.Val.{SFits, toZ, ofZ}
+use mir.ValLaws.{toZ-pos, toZ-ofZ}
+use borrow.Author.Tests.{lt-ltb, le-ltb, ne-eqb, eq-eqb, eqb-true}
+use Rattle.table.specs.Margin.{leftOf, overOf, eqZ}
+use Rattle.table.proofs.Tests.{le-or-lt, same-test}
+
+-- a difference of two numbers is what is left, or what is over
+pub sub-left : (a b : ℕ) → b ≤ a → subℕ a b ≡ pos (a - b)
+sub-left a b l = rw (le-ltb a b l)
+
+pub sub-over : (a b : ℕ) → a < b → subℕ a b ≡ negsuc (b - suc a)
+sub-over a b l = rw (lt-ltb a b l)
+
+-- of two numbers of 63 bits the difference is read as it is
+pub record Difference (a b : ℕ) : Type 0 where
+  pub fits : SFits w64 (toZ w64 a -ℤ toZ w64 b)
+  pub is : toZ w64 (ofZ w64 (toZ w64 a -ℤ toZ w64 b)) ≡ pos a -ℤ pos b
+
+less-fits : (a b : ℕ) → a < 2 ^ 63 → b < 2 ^ 63 → SFits w64 (pos a -ℤ pos b)
+less-fits a zero k l = record { sfits = omega arith }
+less-fits a (suc b) k l = ⊎-elim
+    (λ (u : suc b ≤ a). subst (SFits w64) (sym (sub-left a (suc b) u)) (record { sfits = omega arith }))
+    (λ (u : a < suc b). subst (SFits w64) (sym (sub-over a (suc b) u)) (record { sfits = omega arith }))
+    (le-or-lt (suc b) a)
+
+pub difference : (a b : ℕ) → a < 2 ^ 63 → b < 2 ^ 63 → Difference a b
+difference a b k l =
+    let same : toZ w64 a -ℤ toZ w64 b ≡ pos a -ℤ pos b = ap (λ (z : ℤ). z -ℤ toZ w64 b) (toZ-pos w64 a k) ∙ ap (λ (z : ℤ). pos a -ℤ z) (toZ-pos w64 b l) in
+    let fits = subst (SFits w64) (sym same) (less-fits a b k l) in
+    record { fits = fits; is = toZ-ofZ w64 _ fits ∙ same }
+
+one-up : (n : ℕ) → negsuc n +ℤ pos 1 ≡ negℤ (pos n)
+one-up zero = refl
+one-up (suc n) = sub-over 1 (suc (suc n)) (omega arith) ∙ ap negsuc (let e : suc (suc n) - 2 ≡ n = omega arith in e)
+
+turns : (n : ℕ) → pos 0 -ℤ negℤ (pos n) ≡ pos n
+turns zero = refl
+turns (suc n) = ap pos (let e : 0 + suc n ≡ suc n = omega arith in e)
+
+neg-fits : (n : ℕ) → n < 2 ^ 63 → SFits w64 (negℤ (pos n))
+neg-fits zero l = record { sfits = omega arith }
+neg-fits (suc n) l = record { sfits = omega arith }
+
+-- a number and 1
+abbrev up : ℤ → ℤ
+up z = toZ w64 (ofZ w64 z) +ℤ pos 1
+
+-- and that turned
+abbrev turned : ℤ → ℤ
+turned z = pos 0 -ℤ toZ w64 (ofZ w64 (up z))
+
+-- what is known of a number below 0
+pub record Below (z : ℤ) : Type 0 where
+  pub up-fits : SFits w64 (up z)
+  pub turned-fits : SFits w64 (turned z)
+  pub is-turned : toZ w64 (ofZ w64 (turned z)) ≡ pos (overOf z - 1)
+  pub some : 1 ≤ overOf z
+  pub few : overOf z ≤ 2 ^ 63
+  pub none : 0 ≡ leftOf z
+
+pub below : (z : ℤ) → SFits w64 z → ltZ (toZ w64 (ofZ w64 z)) (pos 0) ≡ true → Below z
+unfolding leftOf overOf
+below (pos n) f l = absurd (false≢true (sym (ap (λ (x : ℤ). ltZ x (pos 0)) (toZ-ofZ w64 (pos n) f) ∙ le-ltb n 0 (omega arith)) ∙ l))
+below (negsuc n) f l =
+    let is-up = ap (λ (x : ℤ). x +ℤ pos 1) (toZ-ofZ w64 (negsuc n) f) ∙ one-up n in
+    let fits = neg-fits n (f .sfits) in
+    let up-fits = subst (SFits w64) (sym is-up) fits in
+    let is-turned = ap (λ (x : ℤ). pos 0 -ℤ x) (toZ-ofZ w64 (up (negsuc n)) up-fits ∙ is-up) ∙ turns n in
+    let turned-fits = subst (SFits w64) (sym is-turned) (record { sfits = f .sfits }) in
+    record {
+      up-fits = up-fits;
+      turned-fits = turned-fits;
+      is-turned = toZ-ofZ w64 (turned (negsuc n)) turned-fits ∙ is-turned ∙ ap pos (let e : n ≡ suc n - 1 = omega arith in e);
+      some = omega arith;
+      few = f .sfits;
+      none = refl;
+    }
+
+-- and of one that is not
+pub record NotBelow (z : ℤ) : Type 0 where
+  pub is : toZ w64 (ofZ w64 z) ≡ pos (leftOf z)
+  pub few : leftOf z < 2 ^ 63
+  pub none : 0 ≡ overOf z
+
+pub not-below : (z : ℤ) → SFits w64 z → ltZ (toZ w64 (ofZ w64 z)) (pos 0) ≡ false → NotBelow z
+unfolding leftOf overOf
+not-below (pos n) f l = record { is = toZ-ofZ w64 (pos n) f; few = f .sfits; none = refl }
+not-below (negsuc n) f l = absurd (false≢true (sym l ∙ ap (λ (x : ℤ). ltZ x (pos 0)) (toZ-ofZ w64 (negsuc n) f)))
+
+-- two numbers are one exactly if their bits are
+pub same-bits : (a b : ℤ) → SFits w64 a → SFits w64 b → eqb (ofZ w64 a) (ofZ w64 b) ≡ eqZ a b
+unfolding eqZ
+same-bits (pos a) (pos b) f g = refl
+same-bits (pos a) (negsuc b) f g = ne-eqb a (2 ^ 64 - suc b) (λ e. omega (arith, f .sfits, g .sfits))
+same-bits (negsuc a) (pos b) f g = ne-eqb (2 ^ 64 - suc a) b (λ e. omega (arith, f .sfits, g .sfits))
+same-bits (negsuc a) (negsuc b) f g =
+    same-test _ _
+    (λ t. eq-eqb a b (omega (arith, eqb-true (2 ^ 64 - suc a) (2 ^ 64 - suc b) t, f .sfits, g .sfits)))
+    (λ t. eq-eqb (2 ^ 64 - suc a) (2 ^ 64 - suc b) (omega (arith, eqb-true a b t)))
+
+-- and the test says that
+pub same-is : (a b : ℤ) → eqZ a b ≡ true → a ≡ b
+unfolding eqZ
+same-is (pos a) (pos b) t = ap pos (eqb-true a b t)
+same-is (pos a) (negsuc b) t = absurd (false≢true t)
+same-is (negsuc a) (pos b) t = absurd (false≢true t)
+same-is (negsuc a) (negsuc b) t = ap negsuc (eqb-true a b t)
+
+pub is-same : (a b : ℤ) → a ≡ b → eqZ a b ≡ true
+unfolding eqZ
+is-same a b e = ap (eqZ a) (sym e) ∙ self a
+  where
+    self : (a : ℤ) → eqZ a a ≡ true
+    self (pos a) = eq-eqb a a refl
+    self (negsuc a) = eq-eqb a a refl

@@ -1,0 +1,28 @@
+-- `Margin::left` is the number itself, where it is not below 0.
+use mathlib.Core.Path.{sym, subst}
+use native.Mathlib.Omega.{arith}
+use lib.Dec.{T}
+use lib.IntN.{ℤ, natAbs}
+use lib.Signed.{nonNeg}
+use mir.Syntax.{w64}
+use mir.Val.{Fits}
+use Rattle.table.proofs.Bits.{NotBelow, below, not-below}
+use Rattle.table.proofs.margin.Margin.left.Statement.{statement}
+use Rattle.table.proofs.margin.Margin.left.Tie as tie
+
+returns : tie.Need-returns
+returns c = below (c .before .before .before .args .self .0) (record { sfits = c .before .struct-told .given .0 .1 }) (c .if1 .taken) .none
+
+-- what is known of a margin that is not below 0
+above : (c : tie.After-struct-told2) → NotBelow (c .before .before .before .before .before .args .self .0)
+above c = not-below _ (record { sfits = c .before .before .before .struct-told .given .0 .1 }) (c .before .before .if1 .left)
+
+cast-result : tie.Need-cast-result
+cast-result c =
+    subst (λ (z : ℤ). T (nonNeg z) × Fits w64 (natAbs z)) (sym (above c .is)) (tt, record { fits = omega (arith, above c .few) })
+
+returns-2 : tie.Need-returns-2
+returns-2 c = rw (above c .is)
+
+pub left-spec : {M : Type 1} → statement M
+left-spec = tie.close (tie.spec returns cast-result returns-2)

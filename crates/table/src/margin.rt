@@ -1,0 +1,52 @@
+// The margin of a table: what the load leaves of the span, a whole number of either sign.
+ghost use mathlib.Core.Path.{_≡_};
+ghost use lib.IntN.{pos};
+ghost use Prim.Native.Nat.{_≤_};
+ghost use Rattle.table.specs.Margin.{load-max, lessLoad, margin, leftOf, overOf, eqZ};
+
+// Microseconds of the span. It is below 0 where the load is above the span.
+#[repr(C)]
+pub struct Margin(pub i64);
+
+impl Margin {
+    // The span less the load.
+    pub fn of(span: u32, load: u64) -> Margin
+        requires { ⌜ load ≤ load-max ⌝ }
+        ensures { λ r. ⌜ r ≡ margin (lessLoad span load) ⌝ }
+    {
+        Margin(span as i64 - load as i64)
+    }
+
+    // What stands where none is told.
+    pub fn none() -> Margin
+        ensures { λ r. ⌜ r ≡ margin (pos 0) ⌝ }
+    {
+        Margin(0)
+    }
+
+    pub fn is(self, other: Margin) -> bool
+        ensures { λ r. ⌜ r ≡ eqZ (self .0) (other .0) ⌝ }
+    {
+        self.0 == other.0
+    }
+
+    // What is left of the span: how far the margin is above 0, and 0 where it is not.
+    pub fn left(self) -> u64
+        ensures { λ r. ⌜ r ≡ leftOf (self .0) ⌝ }
+    {
+        if self.0 < 0 {
+            return 0;
+        }
+        self.0 as u64
+    }
+
+    // The amount over the span: how far the margin is below 0, and 0 where it is not.
+    pub fn over(self) -> u64
+        ensures { λ r. ⌜ r ≡ overOf (self .0) ⌝ }
+    {
+        if self.0 < 0 {
+            return (-(self.0 + 1)) as u64 + 1;
+        }
+        0
+    }
+}

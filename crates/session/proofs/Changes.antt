@@ -10,6 +10,7 @@ use lib.Seq.{getD-set-other, map-set-same}
 use borrow.Author.Tests.{le-leb, eq-eqb, ne-eqb}
 use Rattle.table.specs.Fold.{if, smallestTo}
 use Rattle.table.specs.Admission.{admissionOf}
+use Rattle.table.specs.Margin.{marginOf}
 use Rattle.table.proofs.Lists.{set-each, set-alike}
 use Rattle.time.specs.Time.{session-end, duration-max}
 use Rattle.stream.specs.Stream.{slots, worked, withQueue, withCharge, soundQueue, unusedStream}
@@ -20,16 +21,13 @@ use Rattle.session.specs.declared.Session.{Session}
 use Rattle.stream.proofs.Orderly.{Queue, queue-of, of-queue, InOrder, worked-order}
 use Rattle.session.proofs.Sound.{Sound, admits}
 
--- the table of a session is admitted as it was, where no stream's reservation changes
-table-kept : (s : Session) → Sound s → (xs : List Stream)
+-- the table of a session is as it was, where no stream's reservation changes
+table-kept : (s : Session) (xs : List Stream)
     → map (λ (x : Stream). x .reserved) xs ≡ map (λ (x : Stream). x .reserved) (s .streams)
     → map (λ (x : Stream). x .period) xs ≡ map (λ (x : Stream). x .period) (s .streams)
-    → admissionOf (tableOf (withStreams s xs)) ≡ 0
-table-kept s q xs es ps = ap admissionOf same ∙ q .admitted
-  where
-    same : tableOf (withStreams s xs) ≡ tableOf s
-    same i =
-        record { worst = s .worst; span = s .span; padding = s .padding; count = s .count; reserved = es i; period = ps i }
+    → tableOf (withStreams s xs) ≡ tableOf s
+table-kept s xs es ps i =
+    record { worst = s .worst; span = s .span; padding = s .padding; count = s .count; reserved = es i; period = ps i }
 
 -- so a session is sound with other streams of the same reservations, if they and the disk are in order
 pub streams-kept : (s : Session) → Sound s → (xs : List Stream)
@@ -41,8 +39,10 @@ pub streams-kept : (s : Session) → Sound s → (xs : List Stream)
     → ((i : ℕ) → s .count ≤ i → i < 8 → unusedStream (streamAt next i) ≡ true)
     → soundDisk next ≡ true → Sound next
 streams-kept s q xs es ps many each others disk =
+    let same = table-kept s xs es ps in
     record {
-      admitted = table-kept s q xs es ps;
+      admitted = ap admissionOf same ∙ q .admitted;
+      margin-is = q .margin-is ∙ sym (ap marginOf same);
       eight = many ∙ q .eight;
       each = each;
       others = others;
@@ -122,6 +122,7 @@ unfolding horizon
 clock-kept s q clock head served place high disk =
     record {
       admitted = q .admitted;
+      margin-is = q .margin-is;
       eight = q .eight;
       each = q .each;
       others = q .others;

@@ -11,8 +11,10 @@ use borrow.Author.Tests.{leb-true, eqb-true, eqb-false, le-leb, le-ltb, eq-eqb}
 use Rattle.table.specs.Fold.{sumTo, smallestTo, largestTo}
 use Rattle.table.specs.Refusal.{given, _or-next_}
 use Rattle.table.specs.Admission.{periodAt, grantedOf, shareOf, shareAt, streamRefusalAt, numbersRefusal, streamRefusal, streamsRefusal, sharesOf, smallestPeriod, loadOf, admissionOf}
+use Rattle.table.specs.Margin.{lessLoad, marginOf, eqZ}
 use Rattle.table.proofs.Tests.{both, by-if, or-next-none}
 use Rattle.table.proofs.Folds.{at-or-below, first-none, first-all, largest-le, largest-high, sum-agree, sum-high, smallest-agree, smallest-is}
+use Rattle.table.proofs.Bits.{same-is, is-same}
 use Rattle.table.proofs.Judged.{Numbers, numbers-of, Fits-in, stream-of, share-high, admits-of}
 use Rattle.time.specs.Time.{moment}
 use Rattle.stream.specs.Stream.{soundCells, soundStream}
@@ -177,6 +179,10 @@ module _ (s : Session) where
         let least = smallest-agree (periodAt (tableOf s)) (λ i. streamAt s i .period) (s .count) (numbers-in .count-low) (λ i l. period-is i) in
         rw (shares, least, p .shares, p .least, m .worst, m .span)
 
+    margin-counted : marginOf (tableOf s) ≡ lessLoad (c .span) (loadSo c)
+    unfolding marginOf
+    margin-counted = rw (load-is, m .span)
+
     pub horizon-is : c .horizon ≡ moment (horizon s)
     unfolding horizon
     horizon-is = p .horizon
@@ -202,17 +208,23 @@ module _ (s : Session) where
         }
 
     -- what the census says is what a sound session's used streams are
-    pub says-used : says c ≡ true → Used s
+    pub says-used : says c (s .margin .0) ≡ true → Used s
     unfolding says
     says-used t =
-        let a = both (c .sound && leb (loadSo c) (c .span)) (leb (c .released .0) (c .horizon .0)) t in
-        let b = both (c .sound) (leb (loadSo c) (c .span)) (a .0) in
-        record { admitted = admitted-of (leb-true _ _ (b .1)); each = each-of (leb-true _ _ (a .1)) }
+        let left = eqZ (s .margin .0) (lessLoad (c .span) (loadSo c)) in
+        let a = both (c .sound && leb (loadSo c) (c .span) && left) (leb (c .released .0) (c .horizon .0)) t in
+        let b = both (c .sound && leb (loadSo c) (c .span)) left (a .0) in
+        let d = both (c .sound) (leb (loadSo c) (c .span)) (b .0) in
+        record {
+          admitted = admitted-of (leb-true _ _ (d .1));
+          margin-is = same-is _ _ (b .1) ∙ sym margin-counted;
+          each = each-of (leb-true _ _ (a .1));
+        }
 
-    pub used-says : Used s → says c ≡ true
+    pub used-says : Used s → says c (s .margin .0) ≡ true
     unfolding says
     used-says q =
         let fits : loadSo c ≤ c .span = rw (sym load-is, m .span) (admits-of (tableOf s) (q .admitted) .fits) in
         let released : c .released .0 ≤ c .horizon .0 =
         rw (p .released, horizon-is) (largest-high (horizon s) (λ i. streamAt s i .release .0) (s .count) (λ i l. q .each i l .released)) in
-        rw (ok, le-leb _ _ fits, le-leb _ _ released)
+        rw (ok, le-leb _ _ fits, is-same _ _ (q .margin-is ∙ margin-counted), le-leb _ _ released)

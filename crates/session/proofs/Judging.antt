@@ -9,6 +9,7 @@ use lib.Dec.{leb, ltb, eqb}
 use lib.ListN.{length}
 use borrow.Author.Tests.{leb-true, ltb-true, ltb-false, le-leb, eq-eqb, ne-eqb}
 use Rattle.table.specs.Fold.{if}
+use Rattle.table.specs.Margin.{lessLoad, eqZ}
 use Rattle.table.proofs.Tests.{both, le-or-lt, same-test}
 use Rattle.table.proofs.Folds.{at-or-below}
 use Rattle.table.proofs.Judged.{numbers-of}
@@ -128,7 +129,7 @@ module _ (s : Session) where
     tested streams in-time = streams && in-time && leb (s .served) (s .count)
 
     abbrev pub tests : Bool
-    tests = tested (says c) (leb (s .clock .0) session-end)
+    tests = tested (says c (s .margin .0)) (leb (s .clock .0) session-end)
 
     -- a sound session passes
     needed : Sound s → tests ≡ true
@@ -149,15 +150,18 @@ module _ (s : Session) where
     pub passes : tests c i looked ≡ true
 
   module _ (c : Census) (i : ℕ) (past : Passed c i) where
-    a : (says c && leb (s .clock .0) session-end ≡ true) × (leb (s .served) (s .count) ≡ true)
-    a = both (says c && leb (s .clock .0) session-end) (leb (s .served) (s .count)) (past .passes)
+    a : (says c (s .margin .0) && leb (s .clock .0) session-end ≡ true) × (leb (s .served) (s .count) ≡ true)
+    a = both (says c (s .margin .0) && leb (s .clock .0) session-end) (leb (s .served) (s .count)) (past .passes)
 
-    b : (says c ≡ true) × (leb (s .clock .0) session-end ≡ true)
-    b = both (says c) (leb (s .clock .0) session-end) (a .0)
+    b : (says c (s .margin .0) ≡ true) × (leb (s .clock .0) session-end ≡ true)
+    b = both (says c (s .margin .0)) (leb (s .clock .0) session-end) (a .0)
 
     fine : c .sound ≡ true
     unfolding says
-    fine = both (c .sound) _ (both (c .sound && leb (loadSo c) (c .span)) (leb (c .released .0) (c .horizon .0)) (b .0) .0) .0
+    fine =
+        let left = eqZ (s .margin .0) (lessLoad (c .span) (loadSo c)) in
+        let all = both (c .sound && leb (loadSo c) (c .span) && left) (leb (c .released .0) (c .horizon .0)) (b .0) .0 in
+        both (c .sound) _ (both (c .sound && leb (loadSo c) (c .span)) left all .0) .0
 
     used : Used s
     used = says-used s c (counted-all c i (past .looked) fine) fine (b .0)
@@ -173,6 +177,7 @@ module _ (s : Session) where
             of-sound s
             (record {
               admitted = used .admitted;
+              margin-is = used .margin-is;
               eight = past .looked .judging .eight;
               each = used .each;
               others = λ j low l. past .looked .judging .zeros fine j low (omega (arith, l, past-all c i (past .looked) fine));

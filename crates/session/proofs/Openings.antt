@@ -1,7 +1,7 @@
 -- Opening makes a sound session, and so 31 is never answered after it.
 use mathlib.Core.Bool.{true}
 use mathlib.Core.List.{List, [], _∷_, map}
-use mathlib.Core.Path.{_≡_, refl, _∙_, ap}
+use mathlib.Core.Path.{_≡_, refl, sym, _∙_, ap}
 use Prim.Native.Nat.{ℕ, _≤_, _<_}
 use native.Mathlib.Omega.{arith}
 use lib.ListN.{getD, List·getD-map}
@@ -10,16 +10,18 @@ use borrow.Author.Tests.{lt-ltb, le-ltb, eq-eqb}
 use Rattle.table.specs.Fold.{if, allTo}
 use Rattle.table.specs.Ranges.{streams-max}
 use Rattle.table.specs.Admission.{reservedAt, periodAt, grantedOf, admissionOf}
+use Rattle.table.specs.Margin.{lessLoad, marginOf}
 use Rattle.table.specs.declared.Table.{Table}
+use Rattle.table.specs.declared.margin.Margin.{Margin}
 use Rattle.table.proofs.Tests.{by-if}
 use Rattle.table.proofs.Lists.{length-listTo, getD-listTo}
-use Rattle.table.proofs.Judged.{Admits, admits-of, admits-alike}
+use Rattle.table.proofs.Judged.{Admits, admits-of, load-alike, admits-alike}
 use Rattle.stream.specs.Stream.{soundQueue, unusedStream, zeroJob, freshStream}
 use Rattle.session.specs.Session.{noStream, streamAt, horizon, tableOf, soundDisk, sound}
 use Rattle.calls.specs.Replies.{numberOf}
-use Rattle.session.specs.Calls.{Verdict, refuse, append, send, move, wait, expire, finish, set-clock, verdict, replyTo, answerTo, after}
+use Rattle.session.specs.Calls.{Verdict, refuse, append, send, move, wait, expire, finish, set-clock, verdict, apply, replyTo, answerTo, after}
 use Rattle.session.specs.Opening.{openedStream, freshSession, openingOf}
-use Rattle.session.specs.Laws.{OpeningIsSound, NeverUnsound}
+use Rattle.session.specs.Laws.{OpeningIsSound, NeverUnsound, MarginIsKept}
 use Rattle.stream.specs.declared.Stream.{Stream}
 use Rattle.session.specs.declared.Session.{Session}
 use Rattle.calls.specs.declared.Call.{Call}
@@ -51,16 +53,26 @@ module _ (t : Table) (admitted : admissionOf t ≡ 0) where
       rw (fresh-at i l) (fresh-order (t .worst) (t .padding) h (reservedAt t i) (periodAt t i) (omega (arith, judged .each i l .period-high)))
 
   -- the table of the session is the one that was admitted, as far as it is used
+  cell : (f : Stream → ℕ) (i : ℕ) → i < t .count → getD (map f (freshSession t .streams)) i (f noStream)
+      ≡ f (freshStream (reservedAt t i) (periodAt t i) (grantedOf (t .worst) (t .padding) (reservedAt t i)))
+  cell f i l = List·getD-map f (freshSession t .streams) i noStream ∙ ap f (fresh-at i l)
+
   fresh-admitted : admissionOf (tableOf (freshSession t)) ≡ 0
   unfolding freshSession freshStream
   fresh-admitted =
       admits-alike t (tableOf (freshSession t) .reserved) (tableOf (freshSession t) .period) admitted
       (cell (λ x. x .reserved))
       (cell (λ x. x .period))
-    where
-      cell : (f : Stream → ℕ) (i : ℕ) → i < t .count → getD (map f (freshSession t .streams)) i (f noStream)
-          ≡ f (freshStream (reservedAt t i) (periodAt t i) (grantedOf (t .worst) (t .padding) (reservedAt t i)))
-      cell f i l = List·getD-map f (freshSession t .streams) i noStream ∙ ap f (fresh-at i l)
+
+  -- and so its margin is that
+  fresh-margin : marginOf t ≡ marginOf (tableOf (freshSession t))
+  unfolding marginOf freshSession freshStream
+  fresh-margin =
+      ap (lessLoad (t .span))
+      (sym
+      (load-alike t (tableOf (freshSession t) .reserved) (tableOf (freshSession t) .period) admitted
+      (cell (λ x. x .reserved))
+      (cell (λ x. x .period))))
 
   -- the others are 0
   fresh-others : (i : ℕ) → t .count ≤ i → i < streams-max → unusedStream (streamAt (freshSession t) i) ≡ true
@@ -73,6 +85,7 @@ module _ (t : Table) (admitted : admissionOf t ≡ 0) where
   fresh-sound =
       record {
         admitted = fresh-admitted;
+        margin-is = fresh-margin;
         eight = length-listTo (openedStream t) streams-max;
         each = order-at (horizon (freshSession t));
         others = fresh-others;
@@ -95,6 +108,38 @@ pub sound-after : (s : Session) (ks : List Call) → sound s ≡ true → sound 
 unfolding after
 sound-after s [] t = t
 sound-after s (k ∷ ks) t = sound-after (answerTo s k .session) ks (calls-keep-sound s k t)
+
+-- a verdict leaves the margin as it is, and so does every call
+margin-stays : (s : Session) (v : Verdict) → apply s v .margin ≡ s .margin
+unfolding apply
+margin-stays s (refuse n) = refl
+margin-stays s (append i place) = refl
+margin-stays s (send i j) = refl
+margin-stays s move = refl
+margin-stays s wait = refl
+margin-stays s (expire i) = refl
+margin-stays s (finish i a) = refl
+margin-stays s (set-clock t) = refl
+
+call-keeps-margin : (s : Session) (k : Call) → answerTo s k .session .margin ≡ s .margin
+unfolding answerTo
+call-keeps-margin s k = margin-stays s (verdict s k)
+
+margin-after : (s : Session) (ks : List Call) → after s ks .margin ≡ s .margin
+unfolding after
+margin-after s [] = refl
+margin-after s (k ∷ ks) = margin-after (answerTo s k .session) ks ∙ call-keeps-margin s k
+
+opened-margin : (t : Table) → admissionOf t ≡ 0 → openingOf t .session .margin .0 ≡ marginOf t
+unfolding openingOf freshSession if
+opened-margin t admitted = rw (eq-eqb (admissionOf t) 0 admitted)
+
+pub margin-is-kept : MarginIsKept
+margin-is-kept = (
+  λ t calls admitted. ap (λ (m : Margin). m .0) (margin-after (openingOf t .session) calls) ∙ opened-margin t admitted,
+  call-keeps-margin,
+  λ s t. sound-of s t .margin-is,
+)
 
 -- a reply has the number of its refusal, or one from 20 to 28
 number-low : (s : Session) (v : Verdict) → Grounds s v → numberOf (replyTo s v) < 31

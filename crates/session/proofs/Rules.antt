@@ -2,7 +2,8 @@
 use Prim.Native.Nat.{ℕ}
 use Rattle.table.specs.Fold.{if, sumTo, smallestTo, allTo, someTo, listTo, countTo}
 use Rattle.table.specs.Refusal.{given, _or-next_, firstTo, outside}
-use Rattle.table.specs.Admission.{paddingOf, grantedOf, shareOf, sharesOf, smallestPeriod, loadOf, numbersRefusal, streamRefusal, streamsRefusal, admissionOf, answered}
+use Rattle.table.specs.Admission.{paddingOf, grantedOf, shareOf, sharesOf, smallestPeriod, loadOf, numbersRefusal, streamRefusal, streamsRefusal, admissionOf}
+use Rattle.table.specs.Margin.{marginOf, leftOf, overOf, eqZ, answered, answerOf}
 use Rattle.time.specs.Exact.{less, same}
 use Rattle.stream.specs.Stream.{slots, filled, microDeadline, shifted, arrived, without, charged, lapsed, closed, moved, soundQueue, soundCells, soundStream, zeroJob, unusedStream, freshStream}
 use Rattle.session.specs.Session.{horizon, someFilled, noSlot, latest, soundDisk, soundRest, usedStreams, sound}
@@ -12,5 +13,5 @@ use Rattle.session.specs.Calls.{noSuchStream, busy, movePassesEnd, callR
 use Rattle.session.specs.Opening.{openedStream, freshSession, zeroSession, openingOf}
 
 unfoldable pub rules : ℕ
-unfolding if sumTo smallestTo allTo someTo listTo countTo given _or-next_ firstTo outside paddingOf grantedOf shareOf sharesOf smallestPeriod loadOf numbersRefusal streamRefusal streamsRefusal admissionOf answered slots filled less same microDeadline shifted arrived without charged lapsed closed moved soundQueue soundCells soundStream zeroJob unusedStream horizon someFilled noSlot latest soundDisk soundRest usedStreams sound firstBest distance nearest sentBefore chosen expiresFirst expiring noSuchStream busy movePassesEnd callRefusal refusal turnEffect effect ruled verdict apply overlong late replyTo answerTo after lineOf linesFrom freshStream openedStream freshSession zeroSession openingOf
+unfolding if sumTo smallestTo allTo someTo listTo countTo given _or-next_ firstTo outside paddingOf grantedOf shareOf sharesOf smallestPeriod loadOf numbersRefusal streamRefusal streamsRefusal admissionOf marginOf leftOf overOf eqZ answered answerOf slots filled less same microDeadline shifted arrived without charged lapsed closed moved soundQueue soundCells soundStream zeroJob unusedStream horizon someFilled noSlot latest soundDisk soundRest usedStreams sound firstBest distance nearest sentBefore chosen expiresFirst expiring noSuchStream busy movePassesEnd callRefusal refusal turnEffect effect ruled verdict apply overlong late replyTo answerTo after lineOf linesFrom freshStream openedStream freshSession zeroSession openingOf
 rules = 0

@@ -8,8 +8,10 @@ use lib.ListN.{length, List·getD-map}
 use lib.Dec.{ltb}
 use borrow.Author.Tests.{leb-true, eqb-true, le-leb, lt-ltb, le-ltb, eq-eqb}
 use Rattle.table.specs.Admission.{grantedOf, admissionOf}
+use Rattle.table.specs.Margin.{marginOf}
 use Rattle.table.proofs.Tests.{both, le-or-lt}
 use Rattle.table.proofs.Folds.{all-at, all-of, smallest-le}
+use Rattle.table.proofs.Bits.{same-is, is-same}
 use Rattle.table.proofs.Judged.{Fits-in, Admits, admits-of}
 use Rattle.time.specs.Time.{session-end, moment}
 use Rattle.stream.specs.Stream.{freshStream, soundStream, unusedStream}
@@ -23,6 +25,7 @@ use Rattle.stream.proofs.Unused.{unused-is-zero}
 
 pub record Sound (s : Session) : Type 0 where
   pub admitted : admissionOf (tableOf s) ≡ 0
+  pub margin-is : s .margin .0 ≡ marginOf (tableOf s)
   pub eight : length (s .streams) ≡ 8
   pub each : (i : ℕ) → i < s .count → InOrder (s .worst) (s .padding) (horizon s) (streamAt s i)
   pub others : (i : ℕ) → s .count ≤ i → i < 8 → unusedStream (streamAt s i) ≡ true
@@ -45,8 +48,10 @@ sound-of s t =
     let d = both _ _ (b .0) in
     let rest = rest-of s (d .1) in
     let e = both _ _ (d .0) in
+    let f = both _ _ (e .0) in
     record {
-      admitted = eqb-true _ _ (e .0);
+      admitted = eqb-true _ _ (f .0);
+      margin-is = same-is _ _ (f .1);
       eight = rest .0;
       each = λ i l. stream-of (s .worst) (s .padding) (horizon s) (streamAt s i) (all-at _ (s .count) (e .1) i l);
       others = rest .1;
@@ -59,6 +64,7 @@ unfolding sound usedStreams soundRest
 of-sound s q =
     rw (
       eq-eqb _ _ (q .admitted),
+      is-same _ _ (q .margin-is),
       all-of (λ i. soundStream (s .worst) (s .padding) (horizon s) (streamAt s i)) (s .count)
           (λ i l. of-stream (s .worst) (s .padding) (horizon s) (streamAt s i) (q .each i l)),
       eq-eqb _ _ (q .eight),
@@ -79,10 +85,11 @@ granted-low worst k e ne = omega arith
 -- the part of a sound session that says what its streams' numbers are
 pub record Used (s : Session) : Type 0 where
   pub admitted : admissionOf (tableOf s) ≡ 0
+  pub margin-is : s .margin .0 ≡ marginOf (tableOf s)
   pub each : (i : ℕ) → i < s .count → InOrder (s .worst) (s .padding) (horizon s) (streamAt s i)
 
 abbrev pub used : (s : Session) → Sound s → Used s
-used s q = record { admitted = q .admitted; each = q .each }
+used s q = record { admitted = q .admitted; margin-is = q .margin-is; each = q .each }
 
 -- the table's facts, read off the session
 pub admits : (s : Session) → Sound s → Admits (tableOf s)

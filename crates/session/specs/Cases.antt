@@ -5,6 +5,7 @@ use lib.ListN.{length, replicate, take}
 use Rattle.table.specs.Fold.{listTo}
 use Rattle.table.specs.Ranges.{streams-max}
 use Rattle.table.specs.Admission.{admissionOf}
+use Rattle.table.specs.Margin.{leftOf, overOf, numberIn, marginIn}
 use Rattle.table.specs.declared.Table.{Table}
 use Rattle.time.specs.Exact.{Fraction}
 use Rattle.stream.specs.Stream.{slots, microDeadline, charged, freshStream}
@@ -48,6 +49,16 @@ alone k e = table 25_000 1_000_000 k (e ∷ []) (1_000_000 ∷ [])
 abbrev pub byZeroAndOne : ℕ → ℕ → ℕ → Case
 byZeroAndOne e by-zero by-one =
     record { rules = (admissionOf (alone 0 e) ∷ admissionOf (alone 1 e) ∷ []) ∷ []; document = (by-zero ∷ by-one ∷ []) ∷ [] }
+
+-- what opening answers of a table: the number, and its margin as what is left of the span and what is over it
+abbrev pub opens : Table → ℕ → ℕ → ℕ → Case
+opens t number left over =
+    let m = marginIn (openingOf t .admission) .0 in
+    record { rules = (numberIn (openingOf t .admission) ∷ leftOf m ∷ overOf m ∷ []) ∷ []; document = (number ∷ left ∷ over ∷ []) ∷ [] }
+
+-- a stream with a short period beside seven with a long one
+abbrev pub crowded : ℕ → Table
+crowded e = table 100 20_000 1 (e ∷ replicate 7 20) (10_000 ∷ replicate 7 20_000)
 
 -- "g 50,000, p 250,000, W 25,000, release 0", after completions of the given durations
 unfoldable pub completed : List ℕ → Stream → Stream
@@ -190,7 +201,7 @@ markedCases =
     ∷ answers listed (replicate 17 (Arrival 1 5)) (replicate 16 20 ++ (9 ∷ []))
     ∷ []
 
--- the lines of the document that are not marked, and what else a reader may ask: a duration of W, W + 1, 0, 10,000,000 and 10,000,001; a clock at L = 200,000, at L + 1, and at the present time past L; two streams that share a deadline both close; stream 1's 6 comes before stream 2's 5; document 02, Req 02, "A padding of 0 in a table now stands for 3": the lines of k 3 are those of k 0, and two tables that opened with 0 while it stood for 1 give 7 and 6 now; Req 03, "the new job starts with the old charge less the granted budget, or zero if that is negative": two due streams of which one has overrun, a charge above three budgets over three closings and one above four over five, one that just reaches the budget, one above it by 1, one below it, and a completion after a carry
+-- the lines of the document that are not marked, and what else a reader may ask: a duration of W, W + 1, 0, 10,000,000 and 10,000,001; a clock at L = 200,000, at L + 1, and at the present time past L; two streams that share a deadline both close; stream 1's 6 comes before stream 2's 5; document 02, Req 02, "A padding of 0 in a table now stands for 3": the lines of k 3 are those of k 0, and two tables that opened with 0 while it stood for 1 give 7 and 6 now; Req 03, "the new job starts with the old charge less the granted budget, or zero if that is negative": two due streams of which one has overrun, a charge above three budgets over three closings and one above four over five, one that just reaches the budget, one above it by 1, one below it, and a completion after a carry; Req 05, "the exact margin, span less load": of the listing's table, of one whose load is the span and of the same with a reserved time raised by 1, of the stream alone that is over by 1, and of one that 6 refuses
 unfoldable pub otherCases : List Case
 otherCases =
     answers single (oneRequest 25_000) (20 ∷ 21 ∷ 25 ∷ [])
@@ -238,4 +249,9 @@ otherCases =
     ∷ (8 ∷ 21 ∷ 1 ∷ 100 ∷ 170_000 ∷ [])
     ∷ (9 ∷ 25 ∷ 1 ∷ 30_000 ∷ 180_000 ∷ [])
     ∷ [])
+    ∷ opens listed 0 300_000 0
+    ∷ opens (crowded 9_380) 0 0 0
+    ∷ opens (crowded 9_381) 7 0 2
+    ∷ opens (alone 1 950_001) 7 0 1
+    ∷ opens (alone 1 975_001) 6 0 0
     ∷ []

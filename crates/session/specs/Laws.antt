@@ -7,9 +7,10 @@ use Prim.Native.Nat.{ℕ, _+_, _-_, _*_, _≤_, _<_}
 use lib.ListN.{getD}
 use Rattle.table.specs.Fold.{sumTo}
 use Rattle.table.specs.Admission.{admissionOf}
+use Rattle.table.specs.Margin.{marginOf}
 use Rattle.table.specs.declared.Table.{Table}
 use Rattle.stream.specs.Laws.{CarriedOn, GoesFirst}
-use Rattle.session.specs.Session.{streamAt, horizon, slotsAt, filledAt, inSet, someFilled, noSlot, scaledPart, latest, sound}
+use Rattle.session.specs.Session.{streamAt, horizon, slotsAt, filledAt, inSet, someFilled, noSlot, scaledPart, latest, tableOf, sound}
 use Rattle.stream.specs.Choice.{distance}
 use Rattle.session.specs.Choice.{nearestAt, sentBefore, chosen, expiresBefore, expiring}
 use Rattle.calls.specs.Replies.{numberOf}
@@ -53,6 +54,13 @@ NumbersAreKept =
     (t : Table) (calls : List Call) → admissionOf t ≡ 0
     → let s = after (openingOf t .session) calls in
     (s .worst ≡ t .worst) × (s .span ≡ t .span) × (s .padding ≡ t .padding) × (s .count ≡ t .count)
+
+-- Document 02, Req 05: "the session keeps it when admitted". The margin of a session is that of the table that it was opened with, whatever calls are made; no call changes it, not even of a session that is not sound; and of any sound session it is that of its own table.
+abbrev pub MarginIsKept : Type 0
+MarginIsKept =
+    ((t : Table) (calls : List Call) → admissionOf t ≡ 0 → after (openingOf t .session) calls .margin .0 ≡ marginOf t)
+    × ((s : Session) (k : Call) → answerTo s k .session .margin ≡ s .margin)
+    × ((s : Session) → sound s ≡ true → s .margin .0 ≡ marginOf (tableOf s))
 
 -- What a job started with and W for each of its expired slots are in its charge, in any sound session: its own disk time, charge − start − W × expired, is never negative.
 abbrev pub StartIsInCharge : Type 0

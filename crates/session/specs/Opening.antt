@@ -2,9 +2,11 @@
 use Prim.Native.Nat.{ℕ}
 use lib.ListN.{replicate}
 use lib.Dec.{ltb, eqb}
+use lib.IntN.{pos}
 use Rattle.table.specs.Fold.{if, listTo}
 use Rattle.table.specs.Ranges.{streams-max}
-use Rattle.table.specs.Admission.{reservedAt, periodAt, grantedOf, admissionOf, answered}
+use Rattle.table.specs.Admission.{reservedAt, periodAt, grantedOf, admissionOf}
+use Rattle.table.specs.Margin.{margin, marginOf, answerOf}
 use Rattle.table.specs.declared.Table.{Table}
 use Rattle.time.specs.Time.{moment}
 use Rattle.stream.specs.Stream.{freshStream}
@@ -19,7 +21,7 @@ openedStream t i =
     (freshStream (reservedAt t i) (periodAt t i) (grantedOf (t .worst) (t .padding) (reservedAt t i)))
     (freshStream 0 0 0)
 
--- "Clock t, starting at 0. Head place, starting at 0. The stream and place of the request at the disk, none at first."
+-- "Clock t, starting at 0. Head place, starting at 0. The stream and place of the request at the disk, none at first." Of the margin, document 02, Req 05: "the session keeps it when admitted"
 unfoldable pub freshSession : Table → Session
 freshSession t =
     record {
@@ -27,6 +29,7 @@ freshSession t =
       span = t .span;
       padding = t .padding;
       count = t .count;
+      margin = margin (marginOf t);
       clock = moment 0;
       head = 0;
       served = 0;
@@ -42,6 +45,7 @@ zeroSession =
       span = 0;
       padding = 0;
       count = 0;
+      margin = margin (pos 0);
       clock = moment 0;
       head = 0;
       served = 0;
@@ -49,9 +53,10 @@ zeroSession =
       streams = replicate streams-max (freshStream 0 0 0);
     }
 
+-- "Opening passes it on with 7"
 unfoldable pub openingOf : Table → Opened
 openingOf t =
     record {
       session = if (eqb (admissionOf t) 0) (freshSession t) zeroSession;
-      admission = answered (admissionOf t);
+      admission = answerOf t;
     }

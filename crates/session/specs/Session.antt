@@ -7,6 +7,7 @@ use lib.Dec.{leb, ltb, eqb}
 use Rattle.table.specs.Fold.{if, sumTo, smallestTo, allTo, someTo}
 use Rattle.table.specs.Ranges.{streams-max}
 use Rattle.table.specs.Admission.{admissionOf}
+use Rattle.table.specs.Margin.{marginOf, eqZ}
 use Rattle.table.specs.declared.Table.{Table}
 use Rattle.time.specs.Time.{session-end, moment, diskTime}
 use Rattle.stream.specs.Stream.{slots, filled, soundStream, unusedStream}
@@ -93,10 +94,11 @@ soundRest streams count =
 unfoldable pub usedStreams : Session → Bool
 usedStreams s = allTo (λ i. soundStream (s .worst) (s .padding) (horizon s) (streamAt s i)) (s .count)
 
--- "A session is sound if its table numbers are ones that opening admits", and the rest of that sentence, which stands above part by part
+-- "A session is sound if its table numbers are ones that opening admits", and the rest of that sentence, which stands above part by part; since "What a later request adds to the state joins this rule", the margin that it keeps is that of its table
 unfoldable pub sound : Session → Bool
 sound s =
     eqb (admissionOf (tableOf s)) 0
+    && eqZ (s .margin .0) (marginOf (tableOf s))
     && usedStreams s
     && soundRest (s .streams) (s .count)
     && leb (s .clock .0) session-end
@@ -110,6 +112,7 @@ withStreams s streams =
       span = s .span;
       padding = s .padding;
       count = s .count;
+      margin = s .margin;
       clock = s .clock;
       head = s .head;
       served = s .served;
@@ -128,6 +131,7 @@ withDisk s clock head served place =
       span = s .span;
       padding = s .padding;
       count = s .count;
+      margin = s .margin;
       clock = clock;
       head = head;
       served = served;

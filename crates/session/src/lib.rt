@@ -14,21 +14,24 @@ ghost use mathlib.Core.Path.{_≡_};
 ghost use Prim.Native.Nat.{_<_};
 ghost use Rattle.table.specs.Fold.{listTo};
 ghost use Rattle.table.specs.Ranges.{streams-max};
+ghost use Rattle.table.specs.Margin.{marginOf};
 ghost use Rattle.session.specs.Opening.{openedStream, freshSession, zeroSession, openingOf};
 use calls::Reply;
 pub use searches::Outlook;
 pub use soundness::Judged;
 use stream::Stream;
 use table::Admission;
+use table::Margin;
 use table::Table;
 use time::Clock;
 
-// The first `count` of the eight streams are used. `served` is the stream whose request is at the disk, counted from 1, or 0.
+// The first `count` of the eight streams are used. The margin is that of the table. `served` is the stream whose request is at the disk, counted from 1, or 0.
 pub struct Session {
     pub worst: u32,
     pub span: u32,
     pub padding: u32,
     pub count: usize,
+    pub margin: Margin,
     pub clock: Clock,
     pub head: u64,
     pub served: usize,
@@ -53,14 +56,14 @@ impl Session {
     {
         let admission = table.admission();
         match admission {
-            Admission::Admitted => {
-                let session = fresh(table);
+            Admission::Admitted(margin) => {
+                let session = fresh(table, margin);
                 Opened {
                     session: session,
                     admission: admission,
                 }
             }
-            Admission::Refused(_) => {
+            _ => {
                 let session = Session::zero();
                 Opened {
                     session: session,
@@ -77,11 +80,13 @@ impl Session {
         let unused = Stream::fresh(0, 0, 0);
         let streams = [unused; Table::STREAMS_MAX];
         let start = Clock::at(0);
+        let margin = Margin::none();
         Session {
             worst: 0,
             span: 0,
             padding: 0,
             count: 0,
+            margin: margin,
             clock: start,
             head: 0,
             served: 0,
@@ -91,8 +96,9 @@ impl Session {
     }
 }
 
-// A session at the first release of every stream.
-fn fresh(t: Table) -> Session
+// A session at the first release of every stream, with the margin of its table.
+fn fresh(t: Table, margin: Margin) -> Session
+    requires { ⌜ margin .0 ≡ marginOf t ⌝ }
     ensures { λ r. ⌜ r ≡ freshSession t ⌝ }
 {
     let streams = opened_streams(t);
@@ -102,6 +108,7 @@ fn fresh(t: Table) -> Session
         span: t.span,
         padding: t.padding,
         count: t.count,
+        margin: margin,
         clock: start,
         head: 0,
         served: 0,

@@ -34,7 +34,7 @@ impl Session {
         }
         let h = census.horizon;
         let in_time = self.clock.is_by(Clock::at(Clock::END));
-        if !(census.is_sound() & in_time & (self.served <= self.count)) {
+        if !(census.is_sound(self.margin) & in_time & (self.served <= self.count)) {
             return judgement(false, h);
         }
         if self.served == 0 {

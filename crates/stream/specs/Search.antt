@@ -4,9 +4,11 @@ use mathlib.Core.List.{List}
 use Prim.Native.Nat.{ℕ, _+_, _*_, _/_, _≤_, _<_, min, max}
 use lib.ListN.{getD, replicate}
 use lib.Dec.{leb, ltb, eqb}
+use lib.IntN.{ℤ}
 use Rattle.table.specs.Fold.{if}
 use Rattle.table.specs.Ranges.{streams-max, worst-max}
 use Rattle.table.specs.Admission.{numbersRefusal, streamRefusal}
+use Rattle.table.specs.Margin.{lessLoad, eqZ}
 use Rattle.time.specs.Time.{moment}
 use Rattle.stream.specs.Stream.{filled, soundCells}
 use Rattle.stream.specs.Choice.{distance, nearest}
@@ -70,12 +72,16 @@ pub record Countable (c : Census) : Type 0 where
   pub worst-high : c .worst ≤ worst-max
   pub shares-high : c .shares ≤ shares-max
 
--- what it says of the streams once all are passed
+-- what it says of the streams, and of the margin that a session keeps, once all are passed
 abbrev pub loadSo : Census → ℕ
 loadSo c = c .shares + c .worst * (c .span / c .least)
 
-unfoldable pub says : Census → Bool
-says c = c .sound && leb (loadSo c) (c .span) && leb (c .released .0) (c .horizon .0)
+unfoldable pub says : Census → ℤ → Bool
+says c margin =
+    c .sound
+    && leb (loadSo c) (c .span)
+    && eqZ margin (lessLoad (c .span) (loadSo c))
+    && leb (c .released .0) (c .horizon .0)
 
 -- and with these it can say it
 pub record Judgeable (c : Census) : Type 0 where

@@ -4,6 +4,7 @@ ghost use mathlib.Core.Bool.{true};
 ghost use Prim.Native.Nat.{min, _<_};
 ghost use Rattle.stream.specs.Search.{begun, counted, Countable, says, Judgeable};
 use crate::Stream;
+use table::Margin;
 use table::Table;
 use time::Clock;
 
@@ -67,17 +68,18 @@ impl Census {
         next
     }
 
-    // Whether all streams are in order, the load fits the span, and no release is past the horizon.
-    pub fn is_sound(self) -> bool
+    // Whether all streams are in order, the load fits the span and leaves that margin, and no release is past the horizon.
+    pub fn is_sound(self, margin: Margin) -> bool
         requires { ⌜ (self .sound ≡ true → Judgeable self) ⌝ }
-        ensures { λ r. ⌜ r ≡ says self ⌝ }
+        ensures { λ r. ⌜ r ≡ says self (margin .0) ⌝ }
     {
         if !self.sound {
             return false;
         }
         let load = self.shares + self.worst as u64 * (self.span / self.least) as u64;
+        let kept = margin.is(Margin::of(self.span, load));
         let released = self.released.is_by(self.horizon);
-        (load <= self.span as u64) & released
+        (load <= self.span as u64) & kept & released
     }
 }
 

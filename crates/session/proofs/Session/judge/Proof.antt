@@ -78,25 +78,25 @@ is-by-requires : tie.Need-is-by-requires Inv-loop μ-loop
 is-by-requires c κs = tt
 
 is-sound-requires : tie.Need-is-sound-requires Inv-loop μ-loop
-is-sound-requires c κs = can-say _ _ _ (looked (c .before .before .before .before))
+is-sound-requires c κs = can-say _ _ _ (looked (c .before .before .before .before .before))
 
 judgement-requires : tie.Need-judgement-requires Inv-loop μ-loop
 judgement-requires c κs = tt
 
-tests-are : (c : tie.After-is-sound Inv-loop μ-loop) → let all = looked (c .before .before .before .before .before) in
-    tested _ _ _ all (c .is-sound .result) (c .before .is-by .result) ≡ tests _ _ _ all
-tests-are c = rw (c .is-sound .ensures, c .before .is-by .ensures, c .before .before .at .ensures)
+tests-are : (c : tie.After-is-sound Inv-loop μ-loop) → let all = looked (c .before .before .before .before .before .before) in
+    tested _ _ _ all (c .is-sound .result) (c .before .before .is-by .result) ≡ tests _ _ _ all
+tests-are c = rw (c .is-sound .ensures, c .before .before .is-by .ensures, c .before .before .before .at .ensures)
 
 returns : tie.Need-returns Inv-loop μ-loop
 returns c =
     let at = c .before .before in
     c .judgement .ensures
-    ∙ judged-is _ _ _ (sym (refused _ _ _ (looked (at .before .before .before .before .before)) (sym (tests-are at) ∙ not-true _ (c .before .if3 .taken))), λ t. absurd (false≢true t))
+    ∙ judged-is _ _ _ (sym (refused _ _ _ (looked (at .before .before .before .before .before .before)) (sym (tests-are at) ∙ not-true _ (c .before .if3 .taken))), λ t. absurd (false≢true t))
 
 -- past them the disk decides
-passed : (c : tie.Else3 Inv-loop μ-loop) → let at = c .before .before .before .before .before .before .before .before .loop in
-    Passed (c .before .before .before .before .before .before .before .before .before .before .before .args .t1) (at .census) (at .i)
-passed c = record { looked = looked (c .before .before .before .before .before .before); passes = sym (tests-are (c .before)) ∙ not-false _ (c .if3 .left) }
+passed : (c : tie.Else3 Inv-loop μ-loop) → let at = c .before .before .before .before .before .before .before .before .before .loop in
+    Passed (c .before .before .before .before .before .before .before .before .before .before .before .before .args .t1) (at .census) (at .i)
+passed c = record { looked = looked (c .before .before .before .before .before .before .before); passes = sym (tests-are (c .before)) ∙ not-false _ (c .if3 .left) }
 
 judgement-requires-2 : tie.Need-judgement-requires-2 Inv-loop μ-loop
 judgement-requires-2 c κs = tt

@@ -1,25 +1,38 @@
 -- `Session::open` gives a fresh session exactly for a table that is admitted: the answer's case says whether the number is 0.
-use mathlib.Core.Path.{sym, _∙_}
+use mathlib.Core.Bool.{false}
+use mathlib.Core.List.{[], _∷_}
+use mathlib.Core.Logic.{⊎-elim}
+use mathlib.Core.Path.{_≡_, refl, sym, ap, _∙_}
+use native.Mathlib.Omega.{arith}
+use types.Run.{OneOf}
+use denote.Enum.Declared.{tagOf}
 use borrow.Author.Needs.{needs}
 use borrow.Author.Tests.{eq-eqb, ne-eqb}
 use Rattle.table.specs.Fold.{if}
-use Rattle.table.specs.Admission.{admissionOf}
-use Rattle.table.proofs.Tests.{answered-admits, answered-refuses}
+use Rattle.table.specs.declared.Admission.{Admission}
+use Rattle.table.specs.declared.Admission.the-variants.{Admitted, Refused, Over}
+use Rattle.table.specs.declared.margin.Margin.{Margin}
+use Rattle.table.proofs.Admission.{the-type}
+use Rattle.table.proofs.Margins.{is-admitted, admitted-only, refused-only}
 use Rattle.session.specs.Opening.{openingOf}
 use Rattle.session.proofs.Session.open.Statement.{statement}
 use Rattle.session.proofs.Session.open.Tie as tie
 
+-- the other arm is for the two cases of a refusal
+not-admitted : (a : Admission) → OneOf (1 ∷ 2 ∷ []) (tagOf the-type a) → is-admitted a ≡ false
+not-admitted (Admitted m) tag = absurd (⊎-elim (λ (e : 0 ≡ 1). omega arith) (λ (e : 0 ≡ 2). omega arith) tag)
+not-admitted (Refused n) tag = refl
+not-admitted (Over m) tag = refl
+
 admission-requires : tie.Need-admission-requires
 admission-requires c κs = search needs
 
-enum-told : tie.Need-enum-told
-enum-told c = search needs
+enum-known-admission : tie.Need-enum-known-admission
+enum-known-admission c = search needs
 
 fresh-requires : tie.Need-fresh-requires
-fresh-requires c κs = search needs
-
-enum-told-2 : tie.Need-enum-told-2
-enum-told-2 c = search needs
+fresh-requires c κs =
+    ap (λ (m : Margin). m .0) (admitted-only _ _ (sym (c .before .before .before .admission .ensures) ∙ c .before .admission2 .given .1) .1)
 
 zero-requires : tie.Need-zero-requires
 zero-requires c κs = search needs
@@ -27,17 +40,14 @@ zero-requires c κs = search needs
 returns : tie.Need-returns
 unfolding openingOf if
 returns c =
-    let t = c .before .before .before .before .args .table in
-    let says = c .before .before .before .admission .ensures in
-    let admitted = answered-admits (admissionOf t) (sym says ∙ c .before .enum-told .given .1) in
-    rw (c .fresh .ensures, says, eq-eqb _ _ admitted)
+    let says = sym (c .before .before .before .before .admission .ensures) ∙ c .before .before .admission2 .given .1 in
+    rw (c .fresh .ensures, eq-eqb _ _ (admitted-only _ _ says .0), says)
 
 returns-2 : tie.Need-returns-2
 unfolding openingOf if
 returns-2 c =
-    let t = c .before .before .before .before .args .table in
-    let says = c .before .before .before .admission .ensures in
-    let refused = answered-refuses (admissionOf t) _ (sym says ∙ c .before .enum-told2 .given .1) in
+    let says = c .before .before .admission .ensures in
+    let refused = refused-only (c .before .before .before .args .table) _ (sym says) (not-admitted (c .before .before .admission .result) (c .before .match .keys2)) in
     rw (c .zero .ensures, says, ne-eqb _ _ refused)
 
 pub open-spec : {M : Type 1} → statement M
@@ -45,9 +55,8 @@ open-spec =
     tie.close
     (tie.spec
     admission-requires
-    enum-told
+    enum-known-admission
     fresh-requires
-    enum-told-2
     zero-requires
     returns
     returns-2)

@@ -10,9 +10,12 @@ fresh-requires c κs = search needs
 at-requires : tie.Need-at-requires
 at-requires c κs = search needs
 
+none-requires : tie.Need-none-requires
+none-requires c κs = search needs
+
 returns : tie.Need-returns
 unfolding zeroSession
-returns c = rw (c .at .ensures, c .before .fresh .ensures)
+returns c = rw (c .none .ensures, c .before .at .ensures, c .before .before .fresh .ensures)
 
 pub zero-spec : {M : Type 1} → statement M
-zero-spec = tie.close (tie.spec fresh-requires at-requires returns)
+zero-spec = tie.close (tie.spec fresh-requires at-requires none-requires returns)

@@ -1,4 +1,4 @@
--- `Census::is_sound` tests the load, whose sums are small where all streams are in order, and the releases.
+-- `Census::is_sound` tests the load, whose sums are small where all streams are in order, the margin that it leaves, and the releases.
 use mathlib.Core.Bool.{true, false}
 use mathlib.Core.Path.{_≡_}
 use Prim.Native.Nat.{_≤_, _*_, _/_}
@@ -38,6 +38,12 @@ mul-load c = omega (arith, blocking-high (c .before .before))
 add-load : tie.Need-add-load
 add-load c = omega (arith, blocking-high (c .before .before .before), c .before .before .before .before .before .pre (ok (c .before .before .before)) .countable .shares-high)
 
+of-requires : tie.Need-of-requires
+of-requires c κs = omega (arith, blocking-high (c .before .before .before), c .before .before .before .before .before .pre (ok (c .before .before .before)) .countable .shares-high)
+
+is-requires : tie.Need-is-requires
+is-requires c κs = search needs
+
 is-by-requires : tie.Need-is-by-requires
 is-by-requires c κs = search needs
 
@@ -46,7 +52,7 @@ cast-result c = search needs
 
 returns-2 : tie.Need-returns-2
 unfolding says
-returns-2 c = rw (ok (c .before .before .before .before .before), c .before .is-by .ensures)
+returns-2 c = rw (ok (c .before .before .before .before .before .before .before), c .before .before .is .ensures, c .before .before .before .of .ensures, c .before .is-by .ensures)
 
 pub is-sound-spec : {M : Type 1} → statement M
 is-sound-spec =
@@ -58,6 +64,8 @@ is-sound-spec =
     cast-load-2
     mul-load
     add-load
+    of-requires
+    is-requires
     is-by-requires
     cast-result
     returns-2)

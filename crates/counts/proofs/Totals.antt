@@ -68,7 +68,7 @@ unfolding filedOf openedFile listingOf runOf if
 refused-adds-nothing file some = go (isLaidOut file) (eqb (admissionOf (tableIn file)) 0) refl refl
   where
     go : (laid admitted : Bool) → isLaidOut file ≡ laid → eqb (admissionOf (tableIn file)) 0 ≡ admitted
-        → (filedOf file .counts ≡ none) × (listingOf file ≡ rendered (refusedFields (filedOf file .refusal)))
+        → (filedOf file .counts ≡ none) × (listingOf file ≡ rendered (refusedFields (filedOf file .refusal) (filedOf file .over)))
     go false admitted e f = (rw e, rw e)
     go true false e f = (rw (e, f), rw (e, f))
     go true true e f = absurd (some (rw (e, f)))

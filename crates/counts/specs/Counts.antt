@@ -7,8 +7,10 @@ use lib.ListN.{getD}
 use Rattle.table.specs.Fold.{if, allTo, listTo}
 use Rattle.table.specs.Ranges.{streams-max}
 use Rattle.table.specs.Admission.{admissionOf}
+use Rattle.table.specs.Margin.{overIn}
 use Rattle.table.specs.declared.Table.{Table}
 use Rattle.calls.specs.declared.Call.{Call}
+use Rattle.session.specs.Opening.{openingOf}
 use Rattle.session.specs.History.{Moment, historyOf}
 use Rattle.file.specs.Reading.{eventAt, eventsIn, tableIn, traceIn, isLaidOut}
 use Rattle.file.specs.declared.event.Event.{Event}
@@ -66,18 +68,18 @@ callsTo trace (suc n) = callsTo trace n ++ callsOf (eventAt trace n)
 abbrev pub countsOf : List Moment → Counts
 countsOf past = counts (λ i. tallyOf i past)
 
--- "A refused file gets its number and adds nothing."
-abbrev pub refusedFile : ℕ → Filed
-refusedFile number = record { refusal = number; count = 0; counts = none }
+-- "A refused file gets its number and adds nothing." Where its load is over the span, the amount over stands beside the number.
+abbrev pub refusedFile : ℕ → ℕ → Filed
+refusedFile number over = record { refusal = number; over = over; count = 0; counts = none }
 
 unfoldable pub openedFile : Table → List ℕ → Filed
 openedFile t trace =
     if (eqb (admissionOf t) 0)
-    (record { refusal = 0; count = t .count; counts = countsOf (historyOf t (callsTo trace (eventsIn trace))) })
-    (refusedFile (admissionOf t))
+    (record { refusal = 0; over = 0; count = t .count; counts = countsOf (historyOf t (callsTo trace (eventsIn trace))) })
+    (refusedFile (admissionOf t) (overIn (openingOf t .admission)))
 
 unfoldable pub filedOf : List ℕ → Filed
-filedOf file = if (isLaidOut file) (openedFile (tableIn file) (traceIn file)) (refusedFile 16)
+filedOf file = if (isLaidOut file) (openedFile (tableIn file) (traceIn file)) (refusedFile 16 0)
 
 -- "Then the same per stream number over all files"
 unfoldable pub totalsOf : List (List ℕ) → Counts

@@ -45,11 +45,11 @@ abbrev pub OneFileMore : Type 0
 OneFileMore =
     (files : List (List ℕ)) (file : List ℕ) → totalsOf (files ++ (file ∷ [])) ≡ both (totalsOf files) (filedOf file .counts)
 
--- "A refused file gets its number and adds nothing", and the number is in the line that `replay` prints of it.
+-- "A refused file gets its number and adds nothing", and the number, with the amount over the span, is in the line that `replay` prints of it.
 abbrev pub RefusedAddsNothing : Type 0
 RefusedAddsNothing =
     (file : List ℕ) → (filedOf file .refusal ≡ 0 → ⊥)
-    → (filedOf file .counts ≡ none) × (listingOf file ≡ rendered (refusedFields (filedOf file .refusal)))
+    → (filedOf file .counts ≡ none) × (listingOf file ≡ rendered (refusedFields (filedOf file .refusal) (filedOf file .over)))
 
 -- The call of an event is the one that `replay` makes of it.
 abbrev pub CallsAgree : Type 0

@@ -3,7 +3,6 @@ mod run;
 
 use file::Reading;
 use session::Session;
-use table::Admission;
 use table::Table;
 ghost use mathlib.Core.Path.{_≡_};
 ghost use mathlib.Core.Bool.{true, not};
@@ -27,9 +26,10 @@ pub struct Counts {
     pub rows: [Tally; Table::STREAMS_MAX],
 }
 
-// What is counted of a file: the refusal is 0, or its number beside counts of nothing.
+// What is counted of a file: the refusal is 0, or its number beside counts of nothing, with the amount over the span where the load is.
 pub struct Filed {
     pub refusal: u64,
+    pub over: u64,
     pub count: usize,
     pub counts: Counts,
 }
@@ -142,7 +142,7 @@ pub fn of_file(file: &[u8]) -> Filed
         events,
     } = reading
     else {
-        return refused(16);
+        return refused(16, 0);
     };
     of_opened(file::table_of(file), &file[start..end], events)
 }
@@ -154,23 +154,26 @@ fn of_opened(table: Table, trace: &[u8], events: usize) -> Filed
 {
     let opened = Session::open(table);
     let admission = opened.admission;
-    if let Admission::Refused(number) = admission {
-        return refused(number);
+    let number = admission.number();
+    if number != 0 {
+        return refused(number, admission.over());
     }
     let counts = run::run(opened.session, trace, events);
     Filed {
         refusal: 0,
+        over: 0,
         count: table.count,
         counts,
     }
 }
 
 // A file that was refused adds nothing.
-fn refused(number: u64) -> Filed
-    ensures { λ r. ⌜ r ≡ refusedFile number ⌝ }
+fn refused(number: u64, over: u64) -> Filed
+    ensures { λ r. ⌜ r ≡ refusedFile number over ⌝ }
 {
     Filed {
         refusal: number,
+        over: over,
         count: 0,
         counts: Counts::none(),
     }

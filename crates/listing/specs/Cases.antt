@@ -26,7 +26,8 @@ cases =
     ∷ prints (eventFields 9 10 0 0 105_000) "9 10 0 0 105000\n"
     ∷ prints (eventFields 10 25 2 50_000 130_000) "10 25 2 50000 130000\n"
     ∷ prints (eventFields 11 28 0 160_000 160_000) "11 28 0 160000 160000\n"
-    ∷ prints (refusedFields 16) "refused 16\n"
+    ∷ prints (refusedFields 16 0) "refused 16\n"
+    ∷ prints (refusedFields 7 2) "refused 7 2\n"
     ∷ prints
     (eventFields 4_000 21 8 18_446_744_073_709_551_615 1_000_000_000_000)
     "4000 21 8 18446744073709551615 1000000000000\n"

@@ -1,4 +1,4 @@
--- What the program prints, as bytes: "a header, then a line per event, fields parted by one space, numbers in decimal, each line ended by a newline", or one line that says `refused N`; and the lines of a tally.
+-- What the program prints, as bytes: "a header, then a line per event, fields parted by one space, numbers in decimal, each line ended by a newline", or one line that says `refused N`, or `refused 7 N`; and the lines of a tally.
 use mathlib.Core.List.{List, [], _∷_, _++_, map}
 use mathlib.Core.Path.{_≡_}
 use Prim.Native.Nat.{ℕ, zero, suc, _+_, _-_, _/_, _%_, _≤_}
@@ -58,12 +58,13 @@ eventFields number answer stream value clock = map decimal (number ∷ answer �
 unfoldable pub wordedFields : List ℕ → List ℕ → List (List ℕ)
 wordedFields word numbers = take 20 word ∷ map decimal (take 5 numbers)
 
--- "If reading or opening refuses it prints `refused N`, nothing more."
+-- "If reading or opening refuses it prints `refused N`, nothing more." Document 02, Req 05: "the program prints `refused 7 N` with N the amount over the span. Other refusals [...] print as before": the amount over stands behind the number where there is one.
 abbrev pub refusedWord : List ℕ
 refusedWord = ascii "refused"
 
-unfoldable pub refusedFields : ℕ → List (List ℕ)
-refusedFields number = wordedFields refusedWord (number ∷ [])
+unfoldable pub refusedFields : ℕ → ℕ → List (List ℕ)
+refusedFields number zero = wordedFields refusedWord (number ∷ [])
+refusedFields number (suc n) = wordedFields refusedWord (number ∷ suc n ∷ [])
 
 -- A tally (document 02's Req 01) has a header, and a line per stream: its number, "jobs closed, jobs closed after their deadline, slots expired, total disk time, and the largest single completion".
 unfoldable pub tallyHeaderFields : List (List ℕ)

@@ -40,13 +40,17 @@ pub fn line(number: u64, answer: u64, stream: u64, value: u64, clock: u64) -> Te
     numbered(number, &others)
 }
 
-// The line that says by which number a file was refused.
-pub fn refused(number: u64) -> Text
-    ensures { λ r. ⌜ r ≡ textOf (refusedFields number) ⌝ }
+// The line that says by which number a file was refused and, where its load is over the span, by how much.
+pub fn refused(number: u64, over: u64) -> Text
+    ensures { λ r. ⌜ r ≡ textOf (refusedFields number over) ⌝ }
     ensures { λ r. ⌜ Within r ⌝ }
 {
-    let numbers = [number];
-    worded(b"refused", &numbers)
+    if over == 0 {
+        let alone = [number];
+        return worded(b"refused", &alone);
+    }
+    let both = [number, over];
+    worded(b"refused", &both)
 }
 
 // The header of the lines of a tally.

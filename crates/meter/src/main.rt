@@ -5,7 +5,6 @@ use file::Event;
 use file::Reading;
 use listing::Text;
 use session::Session;
-use table::Admission;
 use table::Table;
 ghost use Rattle.listing.specs.Line.{Within};
 
@@ -49,7 +48,7 @@ fn print_unread(reading: Reading) {
             end: _,
             events: _,
         } => {}
-        Reading::Refused(number) => print(listing::refused(number)),
+        Reading::Refused(number) => print(listing::refused(number, 0)),
     }
 }
 
@@ -108,18 +107,11 @@ fn openings(table: Table, times: u64) -> Tally {
         kept.count = kept.count ^ zero as usize;
         let opened = Session::open(kept);
         let admission = opened.admission;
-        number = refusal(admission);
+        number = admission.number();
         mixed = mixed ^ opened.session.head;
         i += 1;
     }
     Tally { number, mixed }
-}
-
-fn refusal(admission: Admission) -> u64 {
-    match admission {
-        Admission::Admitted => 0,
-        Admission::Refused(number) => number,
-    }
 }
 
 fn arrivals(session: Session, stream: u64, place: u64, times: u64) -> Tally {

@@ -2,7 +2,6 @@
 use file::Reading;
 use listing::Text;
 use session::Session;
-use table::Admission;
 ghost use Rattle.listing.specs.Line.{Within};
 
 // The buffer holds more than the longest file, so that a longer one is refused without being read to its end.
@@ -33,10 +32,11 @@ fn replay(file: &[u8]) {
     };
     let opened = Session::open(file::table_of(file));
     let admission = opened.admission;
-    let Admission::Admitted = admission else {
-        print_refusal(admission);
+    let number = admission.number();
+    if number != 0 {
+        print(listing::refused(number, admission.over()));
         return;
-    };
+    }
     print(listing::header());
     run(opened.session, &file[start..end], events);
 }
@@ -49,14 +49,7 @@ fn print_unread(reading: Reading) {
             end: _,
             events: _,
         } => {}
-        Reading::Refused(number) => print(listing::refused(number)),
-    }
-}
-
-fn print_refusal(admission: Admission) {
-    match admission {
-        Admission::Admitted => {}
-        Admission::Refused(number) => print(listing::refused(number)),
+        Reading::Refused(number) => print(listing::refused(number, 0)),
     }
 }
 

@@ -44,7 +44,7 @@ fn tell_unread(reading: Reading) {
             end: _,
             events: _,
         } => {}
-        Reading::Refused(number) => print(STDERR_FILENO, listing::refused(number)),
+        Reading::Refused(number) => print(STDERR_FILENO, listing::refused(number, 0)),
     }
 }
 

@@ -18,7 +18,7 @@ pub(crate) fn tally_file(totals: Counts, name: &[u8], file: &mut [u8]) -> Counts
     if filed.refusal == 0 {
         print_counts(counts, filed.count);
     } else {
-        print(listing::refused(filed.refusal));
+        print(listing::refused(filed.refusal, filed.over));
     }
     totals.and(counts)
 }

@@ -1,2 +1,3 @@
 pub mod Worked
+pub mod Refusals
 pub mod ManyCalls

@@ -4,6 +4,7 @@ use Prim.Native.Nat.{ℕ, zero, suc, _+_}
 use lib.Dec.{eqb}
 use Rattle.table.specs.Fold.{if}
 use Rattle.table.specs.Admission.{admissionOf}
+use Rattle.table.specs.Margin.{overIn}
 use Rattle.table.specs.declared.Table.{Table}
 use Rattle.session.specs.Calls.{answerTo, Line, lineOf}
 use Rattle.session.specs.Opening.{openingOf}
@@ -50,12 +51,12 @@ printedFrom s trace i (suc left) =
     let o = applied s (i + 1) (eventAt trace i) in
     rendered (fieldsOf (o .line)) ++ printedFrom (o .session) trace (i + 1) left
 
--- "If reading or opening refuses it prints `refused N`, nothing more. Else a header, then a line per event"
+-- "If reading or opening refuses it prints `refused N`, nothing more. Else a header, then a line per event", and of a load over the span "`refused 7 N` with N the amount over the span"
 unfoldable pub runOf : Table → List ℕ → List ℕ
 runOf t trace =
     if (eqb (admissionOf t) 0)
     (rendered headerFields ++ printedFrom (openingOf t .session) trace 0 (eventsIn trace))
-    (rendered (refusedFields (admissionOf t)))
+    (rendered (refusedFields (admissionOf t) (overIn (openingOf t .admission))))
 
 unfoldable pub listingOf : List ℕ → List ℕ
-listingOf file = if (isLaidOut file) (runOf (tableIn file) (traceIn file)) (rendered (refusedFields 16))
+listingOf file = if (isLaidOut file) (runOf (tableIn file) (traceIn file)) (rendered (refusedFields 16 0))

@@ -1,8 +1,16 @@
--- `refused` is the line of its word and the number.
-use mathlib.Core.Path.{refl}
-use Rattle.listing.specs.Line.{ascii, refusedFields}
+-- `refused` is the line of its word and the number, and of the amount over where there is one.
+use mathlib.Core.Path.{_≡_, refl, sym, ap, _∙_}
+use Prim.Native.Nat.{ℕ, zero, suc}
+use mathlib.Core.List.{[], _∷_}
+use Rattle.listing.specs.Line.{ascii, refusedWord, wordedFields, refusedFields, textOf}
 use Rattle.listing.proofs.refused.Statement.{statement}
 use Rattle.listing.proofs.refused.Tie as tie
+
+-- an amount that is not 0 stands behind the number
+with-amount : (number over : ℕ) → (over ≡ 0 → ⊥) → wordedFields refusedWord (number ∷ over ∷ []) ≡ refusedFields number over
+unfolding refusedFields
+with-amount number zero some = absurd (some refl)
+with-amount number (suc n) some = refl
 
 slice-aggregate-worded : tie.Need-slice-aggregate-worded
 slice-aggregate-worded c = refl
@@ -15,7 +23,35 @@ worded-requires c κs = tt
 
 returns : tie.Need-returns
 unfolding ascii refusedFields
-returns c = c .worded .ensures
+returns c =
+    let a = c .before .before .before .before .args in
+    let alone : a .over ≡ 0 = c .before .before .before .if1 .taken in
+    (c .worded .ensures .0 ∙ ap (λ n. textOf (refusedFields (a .number) n)) (sym alone), c .worded .ensures .1)
+
+slice-aggregate-worded-3 : tie.Need-slice-aggregate-worded-3
+slice-aggregate-worded-3 c = refl
+
+slice-aggregate-worded-4 : tie.Need-slice-aggregate-worded-4
+slice-aggregate-worded-4 c = refl
+
+worded-requires-2 : tie.Need-worded-requires-2
+worded-requires-2 c κs = tt
+
+returns-2 : tie.Need-returns-2
+unfolding ascii
+returns-2 c =
+    let a = c .before .before .before .before .args in
+    (c .worded2 .ensures .0 ∙ ap textOf (with-amount (a .number) (a .over) (c .before .before .before .if1 .left)), c .worded2 .ensures .1)
 
 pub refused-spec : {M : Type 1} → statement M
-refused-spec = tie.close (tie.spec slice-aggregate-worded slice-aggregate-worded-2 worded-requires returns)
+refused-spec =
+    tie.close
+    (tie.spec
+    slice-aggregate-worded
+    slice-aggregate-worded-2
+    worded-requires
+    returns
+    slice-aggregate-worded-3
+    slice-aggregate-worded-4
+    worded-requires-2
+    returns-2)

@@ -20,8 +20,8 @@ loop-holds c = omega arith
 open-requires : tie.Need-open-requires Inv-loop μ-loop
 open-requires c κs = search needs
 
-refusal-requires : tie.Need-refusal-requires Inv-loop μ-loop
-refusal-requires c κs = search needs
+number-requires : tie.Need-number-requires Inv-loop μ-loop
+number-requires c κs = search needs
 
 add-i : tie.Need-add-i Inv-loop μ-loop
 add-i c = omega arith
@@ -44,7 +44,7 @@ openings-spec =
     zero-of-requires
     loop-holds
     open-requires
-    refusal-requires
+    number-requires
     add-i
     loop-less
     loop-again

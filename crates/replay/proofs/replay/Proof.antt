@@ -27,14 +27,17 @@ table-of-requires c κs = search needs
 open-requires : tie.Need-open-requires
 open-requires c κs = search needs
 
-enum-told-2 : tie.Need-enum-told-2
-enum-told-2 c = search needs
+number-requires : tie.Need-number-requires
+number-requires c κs = search needs
 
-enum-told-3 : tie.Need-enum-told-3
-enum-told-3 c = search needs
+over-requires : tie.Need-over-requires
+over-requires c κs = search needs
 
-print-refusal-requires : tie.Need-print-refusal-requires
-print-refusal-requires c κs = search needs
+refused-requires : tie.Need-refused-requires
+refused-requires c κs = search needs
+
+print-requires : tie.Need-print-requires
+print-requires c κs = search needs
 
 returns-2 : tie.Need-returns-2
 returns-2 c = search needs
@@ -42,8 +45,8 @@ returns-2 c = search needs
 header-requires : tie.Need-header-requires
 header-requires c κs = search needs
 
-print-requires : tie.Need-print-requires
-print-requires c κs = search needs
+print-requires-2 : tie.Need-print-requires-2
+print-requires-2 c κs = search needs
 
 sub-run : tie.Need-sub-run
 sub-run c =
@@ -77,12 +80,13 @@ replay-spec =
     returns
     table-of-requires
     open-requires
-    enum-told-2
-    enum-told-3
-    print-refusal-requires
+    number-requires
+    over-requires
+    refused-requires
+    print-requires
     returns-2
     header-requires
-    print-requires
+    print-requires-2
     sub-run
     part-run-start
     part-run-end

@@ -2,9 +2,8 @@
 use Prim.Native.Nat.{ℕ}
 use lib.Dec.{eqb}
 use Rattle.table.specs.Fold.{if}
+use Rattle.table.specs.Margin.{numberIn, marginIn}
 use Rattle.table.specs.declared.Table.{Table}
-use Rattle.table.specs.declared.Admission.{Admission}
-use Rattle.table.specs.declared.Admission.the-variants.{Admitted, Refused}
 use Rattle.session.specs.Opening.{zeroSession, openingOf}
 use Rattle.calls.specs.Replies.{numberOf, valueOf, streamOf}
 use Rattle.session.specs.Calls.{answerTo}
@@ -32,6 +31,7 @@ imageOf s =
       padding = s .padding;
       order = nearest-first;
       count = s .count;
+      margin = s .margin;
       clock = s .clock;
       head = s .head;
       served = s .served;
@@ -47,6 +47,7 @@ sessionOf i =
       span = i .span;
       padding = i .padding;
       count = i .count;
+      margin = i .margin;
       clock = i .clock;
       head = i .head;
       served = i .served;
@@ -54,12 +55,14 @@ sessionOf i =
       streams = i .streams;
     }
 
-abbrev pub refusalIn : Admission → ℕ
-refusalIn Admitted = 0
-refusalIn (Refused n) = n
-
+-- what opening answers: the number, and the margin that it carries
 unfoldable pub openedAs : Table → Opening
-openedAs t = record { number = refusalIn (openingOf t .admission); session = imageOf (openingOf t .session) }
+openedAs t =
+    record {
+      number = numberIn (openingOf t .admission);
+      margin = marginIn (openingOf t .admission);
+      session = imageOf (openingOf t .session);
+    }
 
 -- a reply to a call as three numbers
 unfoldable pub toldAs : Call → Reply → Told

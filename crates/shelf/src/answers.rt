@@ -1,7 +1,7 @@
 // What is answered to an image, by value.
 ghost use mathlib.Core.Path.{_≡_};
 ghost use Rattle.table.specs.Reservations.{tableOfRecords};
-ghost use Rattle.shelf.specs.Image.{imageOf, refusalIn, openedAs, toldAs, answeredAs, shownOf, viewedAs, stateAs, closingAs};
+ghost use Rattle.shelf.specs.Image.{imageOf, openedAs, toldAs, answeredAs, shownOf, viewedAs, stateAs, closingAs};
 ghost use Rattle.shelf.specs.Filed.{readAs, writtenAs};
 use crate::Answered;
 use crate::Filed;
@@ -15,7 +15,6 @@ use file::Reading;
 use file::Writing;
 use session::Answer;
 use session::Session;
-use table::Admission;
 use table::Records;
 use view::Closing;
 use view::State;
@@ -28,20 +27,10 @@ pub(crate) fn open(worst: u32, span: u32, padding: u32, records: Records) -> Ope
     let opened = Session::open_taken(worst, span, padding, records);
     let session = Image::of(opened.session);
     let admission = opened.admission;
-    let number = refusal(admission);
     Opening {
-        number: number,
+        number: admission.number(),
+        margin: admission.margin(),
         session: session,
-    }
-}
-
-// 0, or the number of a refusal.
-fn refusal(admission: Admission) -> u64
-    ensures { λ r. ⌜ r ≡ refusalIn admission ⌝ }
-{
-    match admission {
-        Admission::Admitted => 0,
-        Admission::Refused(number) => number,
     }
 }
 

@@ -3,6 +3,7 @@ ghost use mathlib.Core.Path.{_≡_};
 ghost use Rattle.shelf.specs.Image.{sessionOf, imageOf};
 use session::Session;
 use stream::Stream;
+use table::Margin;
 use table::Table;
 use time::Clock;
 
@@ -14,6 +15,7 @@ pub struct Image {
     pub padding: u32,
     pub order: u32,
     pub count: usize,
+    pub margin: Margin,
     pub clock: Clock,
     pub head: u64,
     pub served: usize,
@@ -35,10 +37,11 @@ pub struct Answered {
     pub reply: Told,
 }
 
-// A session that was opened, and 0; or the refusal, and the all-zero session.
+// A session that was opened, and 0, with its margin; or the refusal, with the margin where it is 7 and else 0, and the all-zero session.
 #[repr(C)]
 pub struct Opening {
     pub number: u64,
+    pub margin: Margin,
     pub session: Image,
 }
 
@@ -65,6 +68,7 @@ impl Image {
     pub fn of(s: Session) -> Image
         ensures { λ r. ⌜ r ≡ imageOf s ⌝ }
     {
+        let margin = s.margin;
         let clock = s.clock;
         let streams = s.streams;
         Image {
@@ -73,6 +77,7 @@ impl Image {
             padding: s.padding,
             order: Self::NEAREST,
             count: s.count,
+            margin: margin,
             clock: clock,
             head: s.head,
             served: s.served,
@@ -85,6 +90,7 @@ impl Image {
     pub fn session(self) -> Session
         ensures { λ r. ⌜ r ≡ sessionOf self ⌝ }
     {
+        let margin = self.margin;
         let clock = self.clock;
         let streams = self.streams;
         Session {
@@ -92,6 +98,7 @@ impl Image {
             span: self.span,
             padding: self.padding,
             count: self.count,
+            margin: margin,
             clock: clock,
             head: self.head,
             served: self.served,

@@ -2,8 +2,10 @@
 use mathlib.Core.Bool.{not}
 use Prim.Native.Nat.{ℕ, _-_}
 use lib.Dec.{eqb}
+use lib.IntN.{pos}
 use Rattle.table.specs.Fold.{if}
 use Rattle.table.specs.Refusal.{given, _or-next_}
+use Rattle.table.specs.Margin.{margin}
 use Rattle.time.specs.Time.{moment}
 use Rattle.session.specs.Session.{streamAt, horizon, latest, sound}
 use Rattle.session.specs.Calls.{noSuchStream}
@@ -13,12 +15,12 @@ use Rattle.view.specs.declared.View.{View}
 use Rattle.view.specs.declared.State.{State}
 use Rattle.view.specs.declared.Closing.{Closing}
 
--- clock, "horizon h" and "latest safe moment L", or 31 "the session handed to a call is not sound" beside zeros
+-- clock, "horizon h", "latest safe moment L" and the margin that the session keeps (document 02, Req 05), or 31 "the session handed to a call is not sound" beside zeros
 unfoldable pub viewOf : Session → View
 viewOf s =
     if (sound s)
-    (record { number = 0; clock = s .clock; horizon = moment (horizon s); latest = moment (latest s) })
-    (record { number = 31; clock = moment 0; horizon = moment 0; latest = moment 0 })
+    (record { number = 0; clock = s .clock; horizon = moment (horizon s); latest = moment (latest s); margin = s .margin })
+    (record { number = 31; clock = moment 0; horizon = moment 0; latest = moment 0; margin = margin (pos 0) })
 
 -- what refuses to show a stream, counted from 1: 31, then 8
 unfoldable pub stateRefusal : Session → ℕ → ℕ

@@ -4,6 +4,7 @@ ghost use Rattle.view.specs.View.{viewOf, stateOf, closingOf};
 use session::Session;
 use stream::Job;
 use stream::Stream;
+use table::Margin;
 use time::Clock;
 
 // The number is 0, or 31 beside zeros.
@@ -13,6 +14,7 @@ pub struct View {
     pub clock: Clock,
     pub horizon: Clock,
     pub latest: Clock,
+    pub margin: Margin,
 }
 
 // One stream. The number is 0, or 31 or 8 beside zeros.
@@ -29,28 +31,32 @@ pub struct Closing {
     pub job: Job,
 }
 
-// The clock, the horizon and the latest safe moment: 31.
+// The clock, the horizon, the latest safe moment and the margin: 31.
 pub fn view_of(session: Session) -> View
     ensures { λ r. ⌜ r ≡ viewOf session ⌝ }
 {
     let ahead = session.outlook();
     if !ahead.sound {
         let start = Clock::at(0);
+        let none = Margin::none();
         return View {
             number: 31,
             clock: start,
             horizon: start,
             latest: start,
+            margin: none,
         };
     }
     let now = session.clock;
     let h = ahead.horizon;
     let until = ahead.latest;
+    let margin = session.margin;
     View {
         number: 0,
         clock: now,
         horizon: h,
         latest: until,
+        margin: margin,
     }
 }
 

@@ -4,7 +4,9 @@ use file::Reading;
 use libc::STDERR_FILENO;
 use libc::STDIN_FILENO;
 use libc::STDOUT_FILENO;
+use table::Margin;
 use table::Table;
+use terms::Change;
 use terms::Finding;
 use terms::Terms;
 use terms::Verdict;
@@ -33,18 +35,26 @@ fn main() {
     print_card(file::table_of(file));
 }
 
-// The verdict; then what was reserved and is granted, where the table's own numbers are in order; and the promise, where the table is admitted.
+// The verdict, with the margin where the load is judged; then what was reserved and is granted, where the table's own numbers are in order; and the promise, where the table is admitted.
 fn print_card(table: Table) {
     let verdict = Verdict::on(table);
-    if verdict.number == 0 {
+    let number = verdict.number;
+    if number == 0 {
         print_load(verdict.finding);
     } else {
         print_refusal(table, verdict);
     }
-    if (verdict.number == 0) | (4 < verdict.number) {
-        print_streams(table);
+    let admission = table.admission();
+    let margin = admission.margin();
+    let judged = (number == 0) | (number == 7);
+    if judged {
+        print_margin(margin);
     }
-    if verdict.number == 0 {
+    say(b"\n");
+    if judged | (4 < number) {
+        print_streams(table, margin, judged);
+    }
+    if number == 0 {
         print_promises(table);
     }
 }
@@ -54,9 +64,18 @@ fn print_load(found: Finding) {
     print_number(found.value, 0);
     say(b" of the span ");
     print_number(found.limit, 0);
-    say(b", and ");
-    print_difference(found);
-    say(b" are left\n");
+}
+
+// What is left of the span, or the amount over it with a sign.
+fn print_margin(margin: Margin) {
+    say(b", and the margin is ");
+    let over = margin.over();
+    if over == 0 {
+        print_number(margin.left(), 0);
+    } else {
+        say(b"-");
+        print_number(over, 0);
+    }
 }
 
 fn print_refusal(table: Table, verdict: Verdict) {
@@ -74,7 +93,7 @@ fn print_refusal(table: Table, verdict: Verdict) {
         print_number(table.span as u64, 0);
         say(b", of which ");
         print_number(found.value, 0);
-        say(b" are left over\n");
+        say(b" are left over");
         return;
     }
     say_what(verdict.number, found);
@@ -83,7 +102,6 @@ fn print_refusal(table: Table, verdict: Verdict) {
     print_difference(found);
     say_limit(verdict.number, found);
     print_number(found.limit, 0);
-    say(b"\n");
 }
 
 // What is beyond a limit.
@@ -129,21 +147,64 @@ fn print_difference(found: Finding) {
     }
 }
 
-fn print_streams(table: Table) {
+// A row for each stream; the last column is there where the load is judged.
+fn print_streams(table: Table, margin: Margin, judged: bool) {
     say(b"\nworst-case request time W ");
     print_number(table.worst as u64, 0);
     say(b"; all times in microseconds\n\n");
-    say(b"stream       reserved         period  padding        granted  of the disk\n");
+    say(b"stream       reserved         period  padding        granted  of the disk");
+    if judged {
+        say_change(margin);
+    }
+    say(b"\n");
     let reserved = table.reserved;
     let period = table.period;
     let mut i: usize = 0;
     while i < Table::STREAMS_MAX {
         if i < table.count {
-            let terms = Terms::of(table.worst, table.padding, reserved[i]);
+            let e = reserved[i];
+            let p = period[i];
             print_number(i as u64 + 1, 6);
-            print_row(terms, reserved[i], period[i]);
+            print_row(Terms::of(table.worst, table.padding, e), e, p);
+            if judged {
+                print_change(Change::of(margin, table.worst, table.span, table.padding, e, p));
+            }
+            say(b"\n");
         }
         i += 1;
+    }
+    if judged {
+        explain_change(margin);
+    }
+}
+
+// What the last column tells of each stream.
+fn say_change(margin: Margin) {
+    if margin.over() == 0 {
+        say(b"     may grow by");
+    } else {
+        say(b"  must shrink by");
+    }
+}
+
+fn explain_change(margin: Margin) {
+    if margin.over() == 0 {
+        say(
+            b"\na stream may grow by that much reserved time alone, while the others stay as they are\n",
+        );
+    } else {
+        say(
+            b"\na stream must shrink by that much reserved time alone, while the others stay as they are;\n",
+        );
+        say(b"not alone: nothing would be left of it\n");
+    }
+}
+
+fn print_change(change: Change) {
+    match change {
+        Change::Grow(most) => print_number(most, 16),
+        Change::Shrink(least) => print_number(least, 16),
+        Change::NotAlone => say(b"       not alone"),
     }
 }
 
@@ -153,7 +214,7 @@ fn print_row(terms: Terms, reserved: u32, period: u32) {
     print_number(terms.padding as u64, 9);
     print_number(terms.granted, 15);
     if (period as u64) < terms.granted {
-        say(b"  above 100 %\n");
+        say(b"  above 100 %");
         return;
     }
     let share = terms::hundredths(terms.granted, period);
@@ -161,7 +222,7 @@ fn print_row(terms: Terms, reserved: u32, period: u32) {
     say(b".");
     print_number(share / 10 % 10, 0);
     print_number(share % 10, 0);
-    say(b" %\n");
+    say(b" %");
 }
 
 fn print_promises(table: Table) {

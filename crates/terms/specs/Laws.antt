@@ -1,15 +1,19 @@
 -- What is proved of the terms.
 use mathlib.Core.Bool.{true}
 use mathlib.Core.List.{List}
+use mathlib.Core.Logic.{_↔_}
 use mathlib.Core.Path.{_≡_}
-use Prim.Native.Nat.{ℕ, _+_, _≤_, _<_}
-use Rattle.table.specs.Admission.{reservedAt, grantedOf, admissionOf}
+use Prim.Native.Nat.{ℕ, _+_, _-_, _≤_, _<_}
+use Rattle.table.specs.Admission.{reservedAt, periodAt, withReserved, grantedOf, partsRefusal, admissionOf}
+use Rattle.table.specs.Margin.{marginOf}
 use Rattle.table.specs.declared.Table.{Table}
 use Rattle.calls.specs.declared.Call.{Call}
 use Rattle.session.specs.History.{Moment, historyOf, withinBounds, dueOf, addedOf, sinceClosing, expiry}
 use Rattle.session.specs.Promise.{completion, EachClosed}
 use Rattle.terms.specs.declared.Terms.{Terms}
-use Rattle.terms.specs.Terms.{termsOf, verdictOf}
+use Rattle.terms.specs.declared.Change.{Change}
+use Rattle.terms.specs.declared.Change.the-variants.{Grow, Shrink, NotAlone}
+use Rattle.terms.specs.Terms.{termsOf, changeOf, verdictOf}
 
 -- The number of a verdict is the one that opening answers.
 abbrev pub VerdictIsOpenings : Type 0
@@ -19,6 +23,22 @@ VerdictIsOpenings = (t : Table) → verdictOf t .number ≡ admissionOf t
 abbrev pub NothingCut : Type 0
 NothingCut =
     (worst k e : ℕ) → (e ≤ termsOf worst k e .above) × (termsOf worst k e .above + worst ≡ grantedOf worst k e)
+
+-- how a stream of a table could change alone, by the margin of the table
+abbrev pub changeAt : Table → ℕ → Change
+changeAt t i = changeOf (marginOf t) (t .worst) (t .span) (t .padding) (reservedAt t i) (periodAt t i)
+
+-- what a change says of a stream: with so much more, and no more, the table is admitted; with so much less, and no less, which leaves a reserved time; or with none that is less
+abbrev pub Holds : Table → ℕ → Change → Type 0
+Holds t i (Grow n) = (x : ℕ) → (admissionOf (withReserved t i (reservedAt t i + x)) ≡ 0) ↔ (x ≤ n)
+Holds t i (Shrink n) =
+    (n < reservedAt t i)
+    × ((x : ℕ) → x < reservedAt t i → (admissionOf (withReserved t i (reservedAt t i - x)) ≡ 0) ↔ (n ≤ x))
+Holds t i NotAlone = (x : ℕ) → x < reservedAt t i → admissionOf (withReserved t i (reservedAt t i - x)) ≡ 0 → ⊥
+
+-- It is so of each stream, where the load is judged: what a clerk reads off the card is what opening will say.
+abbrev pub ChangeIsExact : Type 0
+ChangeIsExact = (t : Table) (i : ℕ) → partsRefusal t ≡ 0 → i < t .count → Holds t i (changeAt t i)
 
 abbrev pub termsAt : Table → ℕ → Terms
 termsAt t i = termsOf (t .worst) (t .padding) (reservedAt t i)

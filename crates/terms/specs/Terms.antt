@@ -1,13 +1,17 @@
--- What a card may say of a table: the terms of each stream, and whether the table is admitted, or which number of it is beyond which limit.
+-- What a card may say of a table: the terms of each stream and how far it could change alone, and whether the table is admitted, or which number of it is beyond which limit.
 use mathlib.Core.Bool.{not}
-use Prim.Native.Nat.{ℕ, _+_, _-_, _*_, _/_, _%_}
+use Prim.Native.Nat.{ℕ, _+_, _-_, _*_, _/_, _%_, min}
 use lib.Dec.{ltb, eqb}
+use lib.IntN.{ℤ}
 use Rattle.table.specs.Fold.{if}
 use Rattle.table.specs.Refusal.{given, firstTo, outside}
 use Rattle.table.specs.Ranges.{streams-max, worst-min, worst-max, span-min, span-max, padding-max, period-min, period-max}
 use Rattle.table.specs.Admission.{reservedAt, periodAt, paddingOf, grantedOf, loadOf, numbersRefusal, streamRefusalAt}
+use Rattle.table.specs.Margin.{leftOf, overOf}
 use Rattle.table.specs.declared.Table.{Table}
 use Rattle.terms.specs.declared.Terms.{Terms}
+use Rattle.terms.specs.declared.Change.{Change}
+use Rattle.terms.specs.declared.Change.the-variants.{Grow, Shrink, NotAlone}
 use Rattle.terms.specs.declared.Finding.{Finding}
 use Rattle.terms.specs.declared.Verdict.{Verdict}
 
@@ -16,6 +20,20 @@ unfoldable pub termsOf : ℕ → ℕ → ℕ → Terms
 termsOf worst k e =
     let g = grantedOf worst k e in
     record { padding = paddingOf k; granted = g; above = g - worst; requests = g / worst }
+
+-- What can be done with one stream alone, while the others stay as they are. A microsecond of reserved time more takes H / p of the margin (`RaisingLowers` of the table), and the granted budget may not pass the period: so much could still be added.
+unfoldable pub roomOf : ℤ → ℕ → ℕ → ℕ → ℕ → ℕ → ℕ
+roomOf margin worst span k e p = min (leftOf margin / (span / p)) (p - grantedOf worst k e)
+
+-- and where the load is over the span, so much would have to be taken off: the amount over divided by H / p, rounded up
+unfoldable pub shrinkOf : ℤ → ℕ → ℕ → ℕ
+shrinkOf margin span p = (overOf margin - 1) / (span / p) + 1
+
+-- it may grow, or has to shrink; where nothing would be left of its reserved time, it alone is not enough
+unfoldable pub changeOf : ℤ → ℕ → ℕ → ℕ → ℕ → ℕ → Change
+changeOf margin worst span k e p =
+    if (eqb (overOf margin) 0) (Grow (roomOf margin worst span k e p))
+    (if (ltb (shrinkOf margin span p) e) (Shrink (shrinkOf margin span p)) NotAlone)
 
 -- a part of a whole in hundredths of a percent, rounded down; a part that is not below its whole counts as all of it
 unfoldable pub hundredthsOf : ℕ → ℕ → ℕ

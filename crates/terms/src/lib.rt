@@ -1,9 +1,10 @@
-// What a card may say of a table: the terms of each stream, and whether the table is admitted, or which number of it is beyond which limit.
+// What a card may say of a table: the terms of each stream and how far it could change alone, and whether the table is admitted, or which number of it is beyond which limit.
 ghost use mathlib.Core.Path.{_≡_};
-ghost use Prim.Native.Nat.{_/_, _≤_, _<_};
+ghost use Prim.Native.Nat.{_-_, _/_, _≤_, _<_, min};
 ghost use Rattle.table.specs.Ranges.{streams-max};
-ghost use Rattle.terms.specs.Terms.{termsOf, hundredthsOf, beyond, numbersFinding, periodFinding, budgetFinding, streamFinding, refusedStream, streamVerdict, loadVerdict, verdictOf};
+ghost use Rattle.terms.specs.Terms.{termsOf, changeOf, hundredthsOf, beyond, numbersFinding, periodFinding, budgetFinding, streamFinding, refusedStream, streamVerdict, loadVerdict, verdictOf};
 ghost use Rattle.table.specs.Admission.{numbersRefusal, streamsRefusal};
+use table::Margin;
 use table::Padding;
 use table::Table;
 
@@ -13,6 +14,13 @@ pub struct Terms {
     pub granted: u64,
     pub above: u64,
     pub requests: u64,
+}
+
+// How far the reserved time of one stream could change alone, while the others stay as they are: it may grow by so much at most; it has to shrink by so much at least; or it alone is not enough.
+pub enum Change {
+    Grow(u64),
+    Shrink(u64),
+    NotAlone,
 }
 
 // A number of the table, or one that is worked out from it, and the limit that it is held to.
@@ -39,19 +47,56 @@ impl Terms {
             padding: padding.0,
             granted,
             above: granted - worst as u64,
-            requests: requests(granted, worst),
+            requests: quotient(granted, worst as u64),
         }
     }
 }
 
-// How many requests of the worst-case time make up a budget at most.
-fn requests(granted: u64, worst: u32) -> u64
-    ensures { λ r. ⌜ r ≡ granted / worst ⌝ }
+impl Change {
+    // By the margin of the table, W, H, k, and the reserved time and the period of the stream.
+    pub fn of(margin: Margin, worst: u32, span: u32, k: u32, e: u32, p: u32) -> Change
+        ensures { λ r. ⌜ r ≡ changeOf (margin .0) worst span k e p ⌝ }
+    {
+        let times = quotient(span as u64, p as u64);
+        let over = margin.over();
+        if over == 0 {
+            let by_load = quotient(margin.left(), times);
+            let by_period = less(p as u64, table::granted(worst, k, e));
+            return Change::Grow(smaller(by_load, by_period));
+        }
+        let by = quotient(over - 1, times) + 1;
+        if by < e as u64 {
+            Change::Shrink(by)
+        } else {
+            Change::NotAlone
+        }
+    }
+}
+
+// A quotient, rounded down; 0 where nothing is divided by.
+fn quotient(a: u64, b: u64) -> u64
+    ensures { λ r. ⌜ r ≡ a / b ⌝ }
 {
-    if worst == 0 {
+    if b == 0 {
         return 0;
     }
-    granted / worst as u64
+    a / b
+}
+
+// A difference, and 0 where more is taken off than there is.
+fn less(a: u64, b: u64) -> u64
+    ensures { λ r. ⌜ r ≡ a - b ⌝ }
+{
+    if a < b {
+        return 0;
+    }
+    a - b
+}
+
+fn smaller(a: u64, b: u64) -> u64
+    ensures { λ r. ⌜ r ≡ min a b ⌝ }
+{
+    if a < b { a } else { b }
 }
 
 // A part of a whole in hundredths of a percent.

@@ -6,10 +6,10 @@ use Rattle.card.proofs.print_streams.Statement.{statement}
 use Rattle.card.proofs.print_streams.Tie as tie
 
 abbrev Inv-loop : tie.InvT-loop
-Inv-loop table reserved period i₀ i = i ≤ 8
+Inv-loop table margin judged reserved period i₀ t13 i = i ≤ 8
 
 abbrev μ-loop : tie.MeasureT-loop
-μ-loop table reserved period i₀ i = 8 - i
+μ-loop table margin judged reserved period i₀ t13 i = 8 - i
 
 slice-aggregate-say : tie.Need-slice-aggregate-say Inv-loop μ-loop
 slice-aggregate-say c = omega arith
@@ -35,17 +35,29 @@ slice-aggregate-say-3 c = omega arith
 say-requires-3 : tie.Need-say-requires-3 Inv-loop μ-loop
 say-requires-3 c κs = search needs
 
+say-change-requires : tie.Need-say-change-requires Inv-loop μ-loop
+say-change-requires c κs = search needs
+
+slice-aggregate-say-4 : tie.Need-slice-aggregate-say-4 Inv-loop μ-loop
+slice-aggregate-say-4 c = omega arith
+
+say-requires-4 : tie.Need-say-requires-4 Inv-loop μ-loop
+say-requires-4 c κs = search needs
+
 loop-holds : tie.Need-loop-holds Inv-loop μ-loop
 loop-holds c = omega arith
 
-mul-of : tie.Need-mul-of Inv-loop μ-loop
-mul-of c = omega arith
+mul-e : tie.Need-mul-e Inv-loop μ-loop
+mul-e c = omega arith
 
-array-read-of : tie.Need-array-read-of Inv-loop μ-loop
-array-read-of c = omega arith
+array-read-e : tie.Need-array-read-e Inv-loop μ-loop
+array-read-e c = omega arith
 
-of-requires : tie.Need-of-requires Inv-loop μ-loop
-of-requires c κs = search needs
+mul-p : tie.Need-mul-p Inv-loop μ-loop
+mul-p c = omega arith
+
+array-read-p : tie.Need-array-read-p Inv-loop μ-loop
+array-read-p c = omega arith
 
 add-print-number : tie.Need-add-print-number Inv-loop μ-loop
 add-print-number c = omega arith
@@ -53,20 +65,23 @@ add-print-number c = omega arith
 print-number-requires-2 : tie.Need-print-number-requires-2 Inv-loop μ-loop
 print-number-requires-2 c κs = search needs
 
-mul-print-row : tie.Need-mul-print-row Inv-loop μ-loop
-mul-print-row c = omega arith
-
-array-read-print-row : tie.Need-array-read-print-row Inv-loop μ-loop
-array-read-print-row c = omega arith
-
-mul-print-row-2 : tie.Need-mul-print-row-2 Inv-loop μ-loop
-mul-print-row-2 c = omega arith
-
-array-read-print-row-2 : tie.Need-array-read-print-row-2 Inv-loop μ-loop
-array-read-print-row-2 c = omega arith
+of-requires : tie.Need-of-requires Inv-loop μ-loop
+of-requires c κs = search needs
 
 print-row-requires : tie.Need-print-row-requires Inv-loop μ-loop
 print-row-requires c κs = search needs
+
+of-requires-2 : tie.Need-of-requires-2 Inv-loop μ-loop
+of-requires-2 c κs = search needs
+
+print-change-requires : tie.Need-print-change-requires Inv-loop μ-loop
+print-change-requires c κs = search needs
+
+slice-aggregate-say-5 : tie.Need-slice-aggregate-say-5 Inv-loop μ-loop
+slice-aggregate-say-5 c = omega arith
+
+say-requires-5 : tie.Need-say-requires-5 Inv-loop μ-loop
+say-requires-5 c κs = search needs
 
 add-i : tie.Need-add-i Inv-loop μ-loop
 add-i c = omega arith
@@ -77,8 +92,14 @@ loop-less c = omega arith
 loop-again : tie.Need-loop-again Inv-loop μ-loop
 loop-again c = omega arith
 
+explain-change-requires : tie.Need-explain-change-requires Inv-loop μ-loop
+explain-change-requires c κs = search needs
+
 returns : tie.Need-returns Inv-loop μ-loop
 returns c = search needs
+
+returns-2 : tie.Need-returns-2 Inv-loop μ-loop
+returns-2 c = omega arith
 
 pub print-streams-spec : {M : Type 1} → statement M
 print-streams-spec =
@@ -94,18 +115,25 @@ print-streams-spec =
     say-requires-2
     slice-aggregate-say-3
     say-requires-3
+    say-change-requires
+    slice-aggregate-say-4
+    say-requires-4
     loop-holds
-    mul-of
-    array-read-of
-    of-requires
+    mul-e
+    array-read-e
+    mul-p
+    array-read-p
     add-print-number
     print-number-requires-2
-    mul-print-row
-    array-read-print-row
-    mul-print-row-2
-    array-read-print-row-2
+    of-requires
     print-row-requires
+    of-requires-2
+    print-change-requires
+    slice-aggregate-say-5
+    say-requires-5
     add-i
     loop-less
     loop-again
-    returns)
+    explain-change-requires
+    returns
+    returns-2)

@@ -17,12 +17,12 @@ sub-t7 c =
     let a = c .before .before .args in
     omega (arith, granted-high (a .worst) (a .k) (a .reserved), c .granted .ensures)
 
-requests-requires : tie.Need-requests-requires
-requests-requires c κs = search needs
+quotient-requires : tie.Need-quotient-requires
+quotient-requires c κs = search needs
 
 returns : tie.Need-returns
 unfolding termsOf
-returns c = rw (c .requests .ensures, c .before .granted .ensures, c .before .before .of .ensures)
+returns c = rw (c .quotient .ensures, c .before .granted .ensures, c .before .before .of .ensures)
 
 pub of-spec : {M : Type 1} → statement M
-of-spec = tie.close (tie.spec of-requires granted-requires sub-t7 requests-requires returns)
+of-spec = tie.close (tie.spec of-requires granted-requires sub-t7 quotient-requires returns)

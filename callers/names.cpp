@@ -11,6 +11,7 @@ static void calls()
     yerbagunt_opening opening = yerbagunt_open(25000, 1000000, 1, reservations);
     hold(opening.number == YERBAGUNT_OK, "the table is admitted", 0);
     session = opening.session;
+    hold(opening.margin == 300000 && session.margin == 300000, "opening and the session tell the margin", 0);
     hold(yerbagunt_arrival(&session, 1, 100).number == YERBAGUNT_ARRIVED, "a request arrives", 0);
     hold(yerbagunt_arrival(&session, 2, 900).number == YERBAGUNT_ARRIVED, "another arrives", 0);
     yerbagunt_reply reply = yerbagunt_own_turn(&session, 2, 0);
@@ -25,7 +26,7 @@ static void shown()
 {
     yerbagunt_view view = yerbagunt_view(session);
     struct yerbagunt_view as_in_c = yerbagunt_view(session);
-    hold(view.clock == 20000 && as_in_c.horizon == 250000, "a session is shown", 0);
+    hold(view.clock == 20000 && as_in_c.horizon == 250000 && view.margin == 300000, "a session is shown", 0);
     yerbagunt_state state = yerbagunt_stream(session, 2);
     yerbagunt_stream stream = state.stream;
     struct yerbagunt_state state_as_in_c = yerbagunt_stream(session, 1);

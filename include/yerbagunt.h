@@ -24,10 +24,10 @@
 /* The version of this header and of its library. Another major number: the layout of a struct changed, or the answer to some input; read what
  * changed, and compile anew. Another minor number: something was added, and programs go on as they are. Another patch: neither.
  * The numbers of replies keep their meaning through all of them. */
-#define YERBAGUNT_VERSION "3.0.1"
-#define YERBAGUNT_VERSION_MAJOR 3
+#define YERBAGUNT_VERSION "4.0.0"
+#define YERBAGUNT_VERSION_MAJOR 4
 #define YERBAGUNT_VERSION_MINOR 0
-#define YERBAGUNT_VERSION_PATCH 1
+#define YERBAGUNT_VERSION_PATCH 0
 
 #ifdef __cplusplus
 extern "C" {
@@ -60,7 +60,7 @@ enum yerbagunt_number {
     YERBAGUNT_PADDING = 4,     /* k above 3 */
     YERBAGUNT_PERIOD = 5,      /* p outside 1,000 to 60,000,000 or not dividing H */
     YERBAGUNT_BUDGET = 6,      /* e = 0 or g > p */
-    YERBAGUNT_LOAD = 7,        /* load > H */
+    YERBAGUNT_LOAD = 7,        /* load > H, by -margin of the opening */
     YERBAGUNT_NO_STREAM = 8,   /* stream number 0 or above the count */
     YERBAGUNT_FULL = 9,        /* queue holds 16 */
     YERBAGUNT_BUSY = 10,       /* a request is at the disk */
@@ -103,7 +103,9 @@ struct yerbagunt_session {
     uint32_t worst, span;
     uint32_t padding; /* k as it was given; 0 stands for 3 */
     uint32_t order;   /* 0, nearest first; any other number is answered 31 */
-    uint64_t count, clock, head;
+    uint64_t count;
+    int64_t margin; /* H less the load, 0 or more; it follows from the table and never changes, and any other number is answered 31 */
+    uint64_t clock, head;
     uint64_t served; /* the stream whose request is at the disk, or 0 */
     uint64_t place;  /* and the place of that request */
     struct yerbagunt_stream streams[YERBAGUNT_STREAMS_MAX];
@@ -117,14 +119,15 @@ YERBAGUNT_ASSERT(offsetof(struct yerbagunt_stream, start) == 48, "stream.start")
 YERBAGUNT_ASSERT(offsetof(struct yerbagunt_stream, queued) == 56, "stream.queued");
 YERBAGUNT_ASSERT(offsetof(struct yerbagunt_stream, places) == 64, "stream.places");
 YERBAGUNT_ASSERT(offsetof(struct yerbagunt_stream, last) == 192, "stream.last");
-YERBAGUNT_ASSERT(sizeof(struct yerbagunt_session) == 1912, "session");
+YERBAGUNT_ASSERT(sizeof(struct yerbagunt_session) == 1920, "session");
 YERBAGUNT_ASSERT(offsetof(struct yerbagunt_session, order) == 12, "session.order");
 YERBAGUNT_ASSERT(offsetof(struct yerbagunt_session, count) == 16, "session.count");
-YERBAGUNT_ASSERT(offsetof(struct yerbagunt_session, clock) == 24, "session.clock");
-YERBAGUNT_ASSERT(offsetof(struct yerbagunt_session, head) == 32, "session.head");
-YERBAGUNT_ASSERT(offsetof(struct yerbagunt_session, served) == 40, "session.served");
-YERBAGUNT_ASSERT(offsetof(struct yerbagunt_session, place) == 48, "session.place");
-YERBAGUNT_ASSERT(offsetof(struct yerbagunt_session, streams) == 56, "session.streams");
+YERBAGUNT_ASSERT(offsetof(struct yerbagunt_session, margin) == 24, "session.margin");
+YERBAGUNT_ASSERT(offsetof(struct yerbagunt_session, clock) == 32, "session.clock");
+YERBAGUNT_ASSERT(offsetof(struct yerbagunt_session, head) == 40, "session.head");
+YERBAGUNT_ASSERT(offsetof(struct yerbagunt_session, served) == 48, "session.served");
+YERBAGUNT_ASSERT(offsetof(struct yerbagunt_session, place) == 56, "session.place");
+YERBAGUNT_ASSERT(offsetof(struct yerbagunt_session, streams) == 64, "session.streams");
 
 struct yerbagunt_reservation {
     uint32_t reserved, period;
@@ -154,12 +157,21 @@ struct yerbagunt_reply {
 /* number 0 and a session; or 1 to 7 and the all-zero session, which is not sound. */
 struct yerbagunt_opening {
     uint64_t number;
+    int64_t margin; /* H less the load: with 0 the session's, with 7 below 0, so that the load is -margin above H; with 1 to 6 it is 0 */
     struct yerbagunt_session session;
 };
 
+/* number 0; or 31 beside zeros. */
 struct yerbagunt_view {
     uint64_t number, clock, horizon, latest;
+    int64_t margin; /* the session's */
 };
+
+YERBAGUNT_ASSERT(sizeof(struct yerbagunt_opening) == 1936, "opening");
+YERBAGUNT_ASSERT(offsetof(struct yerbagunt_opening, margin) == 8, "opening.margin");
+YERBAGUNT_ASSERT(offsetof(struct yerbagunt_opening, session) == 16, "opening.session");
+YERBAGUNT_ASSERT(sizeof(struct yerbagunt_view) == 40, "view");
+YERBAGUNT_ASSERT(offsetof(struct yerbagunt_view, margin) == 32, "view.margin");
 
 struct yerbagunt_state {
     uint64_t number;
@@ -188,7 +200,8 @@ struct yerbagunt_written {
 };
 
 /* Opens a session with W, H, k and the records of a table, of any length: 1 to 7.
- * A stream's granted budget g is e and k times W, where a k of 0 stands for 3. */
+ * A stream's granted budget g is e and k times W, where a k of 0 stands for 3. The load is the sum of g * (H / p)
+ * over the streams, plus W * (H / smallest p), and the margin is H less the load. Both are exact. */
 struct yerbagunt_opening yerbagunt_open(uint32_t worst, uint32_t span, uint32_t padding, struct yerbagunt_reservations table);
 
 /* Puts a request at the end of a stream's queue: 31, 8, 9; 20. */
@@ -206,7 +219,7 @@ struct yerbagunt_reply yerbagunt_done(struct yerbagunt_session *session, uint64_
 /* The time is reported: 31, 10, 13, 14; 27, or 28 after the latest safe moment. */
 struct yerbagunt_reply yerbagunt_clock(struct yerbagunt_session *session, uint64_t time);
 
-/* The clock, the horizon and the latest safe moment: 31. The session is passed by value: nothing of it can change. */
+/* The clock, the horizon, the latest safe moment and the margin: 31. The session is passed by value: nothing of it can change. */
 struct yerbagunt_view yerbagunt_view(struct yerbagunt_session session);
 
 /* A stream: 31, 8. */

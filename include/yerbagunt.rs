@@ -5,8 +5,10 @@
 // Few programs use all of it.
 #![allow(dead_code)]
 
+use core::mem::offset_of;
+
 /// The version of this wrapper and its library, that of `yerbagunt.h`.
-pub const VERSION: &str = "3.0.1";
+pub const VERSION: &str = "4.0.0";
 
 pub const STREAMS_MAX: usize = 8;
 pub const QUEUE_MAX: usize = 16;
@@ -81,6 +83,8 @@ pub struct Session {
     pub padding: u32,
     pub order: u32,
     pub count: u64,
+    /// H less the load, 0 or more; it follows from the table and never changes, and any other number is answered 31.
+    pub margin: i64,
     pub clock: u64,
     pub head: u64,
     pub served: u64,
@@ -88,13 +92,23 @@ pub struct Session {
     pub streams: [Stream; STREAMS_MAX],
 }
 
-const _: () = assert!(size_of::<Stream>() == 232 && size_of::<Session>() == 1912);
+const _: () = assert!(size_of::<Stream>() == 232 && size_of::<Session>() == 1920);
+const _: () = assert!(offset_of!(Session, margin) == 24 && offset_of!(Session, streams) == 64);
 
 #[repr(C)]
 #[derive(Clone, Copy, Debug, PartialEq, Eq)]
 pub struct Reservation {
     pub reserved: u32,
     pub period: u32,
+}
+
+/// Why a table is refused.
+#[derive(Clone, Copy, Debug, PartialEq, Eq)]
+pub struct Refusal {
+    /// 1 to 7.
+    pub number: u64,
+    /// H less the load: with 7 it is below 0, so that the load is −margin above H; with 1 to 6 it is 0.
+    pub margin: i64,
 }
 
 #[repr(C)]
@@ -112,7 +126,11 @@ pub struct View {
     pub clock: u64,
     pub horizon: u64,
     pub latest: u64,
+    /// The session's.
+    pub margin: i64,
 }
+
+const _: () = assert!(size_of::<View>() == 40 && offset_of!(View, margin) == 32);
 
 #[repr(C)]
 #[derive(Clone, Copy, Debug, PartialEq, Eq)]
@@ -139,8 +157,11 @@ pub struct File {
 #[repr(C)]
 struct Opening {
     number: u64,
+    margin: i64,
     session: Session,
 }
+
+const _: () = assert!(size_of::<Opening>() == 1936 && offset_of!(Opening, margin) == 8);
 
 #[repr(C)]
 struct State {
@@ -196,10 +217,10 @@ unsafe extern "C" {
 // Each call is safe. What `yerbagunt.h` asks of a caller holds of Rust's references: they are valid and aligned, what one may change overlaps
 // with no other, and one thread at a time has it.
 impl Session {
-    /// Opens a session with W, H, k, where 0 stands for 3, and a table of any length; or the number of the refusal, 1 to 7.
-    pub fn open(worst: u32, span: u32, padding: u32, table: &[Reservation]) -> Result<Session, u64> {
+    /// Opens a session with W, H, k, where 0 stands for 3, and a table of any length; or says by which number it is refused, and by how much.
+    pub fn open(worst: u32, span: u32, padding: u32, table: &[Reservation]) -> Result<Session, Refusal> {
         let opening = unsafe { yerbagunt_open(worst, span, padding, lent(table)) };
-        if opening.number == number::OK { Ok(opening.session) } else { Err(opening.number) }
+        if opening.number == number::OK { Ok(opening.session) } else { Err(Refusal { number: opening.number, margin: opening.margin }) }
     }
 
     pub fn arrival(&mut self, stream: u64, place: u64) -> Reply {
@@ -222,7 +243,7 @@ impl Session {
         unsafe { yerbagunt_clock(self, time) }
     }
 
-    /// The clock, the horizon and the latest safe moment; number 31 beside zeros where the session is not sound.
+    /// The clock, the horizon, the latest safe moment and the margin; number 31 beside zeros where the session is not sound.
     pub fn view(&self) -> View {
         unsafe { yerbagunt_view(*self) }
     }

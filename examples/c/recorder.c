@@ -24,11 +24,12 @@ int main(void)
 {
     const struct yerbagunt_reservation channels[2] = {{25000, 250000}, {175000, 500000}};
     struct yerbagunt_opening opening = yerbagunt_open(25000, 1000000, 1, (struct yerbagunt_reservations){channels, 2});
-    if (opening.number != YERBAGUNT_OK) {
-        printf("refused %llu\n", (unsigned long long)opening.number);
+    if (opening.number != YERBAGUNT_OK) { /* with 7 the load is -margin above the span; else margin is 0 */
+        printf("refused %llu, margin %lld\n", (unsigned long long)opening.number, (long long)opening.margin);
         return 1;
     }
     session = opening.session;
+    printf("admitted, margin %lld of the span %lu\n", (long long)session.margin, (unsigned long)session.span);
 
     show("arrival", yerbagunt_arrival(&session, 1, 100));
     show("arrival", yerbagunt_arrival(&session, 2, 900));

@@ -23,8 +23,10 @@ fn main() {
     ];
     let mut session = match Session::open(25000, 1000000, 1, &channels) {
         Ok(session) => session,
-        Err(refusal) => return println!("refused {refusal}"),
+        // With 7 the load is −margin above the span; else the margin is 0.
+        Err(refusal) => return println!("refused {}, margin {}", refusal.number, refusal.margin),
     };
+    println!("admitted, margin {} of the span {}", session.margin, session.span);
 
     // There is no channel 3.
     for (stream, place) in [(1, 100), (2, 900), (2, 900), (3, 7)] {

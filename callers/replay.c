@@ -1,4 +1,4 @@
-/* Replays a session file from standard input by the lent calls of the library, and prints the listing of document 01. */
+/* Replays a session file from standard input by the lent calls of the library, and prints the listing of document 01, or `refused 7 N` as document 02 has it. */
 #include <stddef.h>
 #include <stdio.h>
 
@@ -53,6 +53,10 @@ int main(void)
         records[i] = (struct yerbagunt_reservation){table.reserved[i], table.period[i]};
     struct yerbagunt_opening opening =
         yerbagunt_open(table.worst, table.span, table.padding, (struct yerbagunt_reservations){records, table.count});
+    if (opening.number == YERBAGUNT_LOAD) {
+        printf("refused %llu %lld\n", (unsigned long long)opening.number, -(long long)opening.margin);
+        return 0;
+    }
     if (opening.number != YERBAGUNT_OK) {
         printf("refused %llu\n", (unsigned long long)opening.number);
         return 0;

@@ -1,4 +1,5 @@
 /* Calls every function of the library with bad input. A refusal leaves every byte as it was, and what is not refused is what the second engine makes of it. */
+#include <stddef.h>
 #include <stdio.h>
 #include <string.h>
 
@@ -18,6 +19,7 @@ static int to_second(const struct yerbagunt_session *i, struct session *s)
     s->table.span = i->span;
     s->table.padding = i->padding;
     s->table.count = (uint32_t)i->count;
+    s->margin = i->margin;
     s->clock = i->clock;
     s->head = i->head;
     s->disk_stream = i->served;
@@ -89,6 +91,7 @@ static void try_all(const struct yerbagunt_session *given, unsigned long at)
         struct session other, after;
         struct yerbagunt_reply r = called(&s, &trials[k]);
         hold(r.number < 32, "the reply has a number of the table", at);
+        hold(s.margin == given->margin, "no call changes the margin", at);
         met[r.number & 31]++;
         if (is_refusal(r.number)) {
             hold(memcmp(&s, given, sizeof s) == 0, "a refusal left every byte as it was", at);
@@ -107,7 +110,7 @@ static void try_all(const struct yerbagunt_session *given, unsigned long at)
     int sound = yerbagunt_arrival(&probe, 0, 0).number != YERBAGUNT_UNSOUND;
     struct yerbagunt_view v = yerbagunt_view(*given);
     hold(v.number == (sound ? YERBAGUNT_OK : YERBAGUNT_UNSOUND), "a session is shown exactly if it is sound", at);
-    hold(sound ? v.clock == given->clock : (v.clock | v.horizon | v.latest) == 0, "what is shown of an unsound session is 0", at);
+    hold(sound ? v.clock == given->clock && v.margin == given->margin : (v.clock | v.horizon | v.latest | (uint64_t)v.margin) == 0, "what is shown of an unsound session is 0", at);
     struct session seen;
     if (sound && to_second(given, &seen))
         hold(v.horizon == session_horizon(&seen) && v.latest == session_latest_safe(&seen), "horizon and latest safe moment are the second engine's", at);
@@ -124,6 +127,21 @@ static void try_all(const struct yerbagunt_session *given, unsigned long at)
     }
 }
 
+/* Every call on copies of one session with a margin that is not its table's: one more, one less, 0, and of the other sign. Answers how many. */
+static unsigned long try_margins(const struct yerbagunt_session *given)
+{
+    const int64_t margins[] = {given->margin + 1, given->margin - 1, 0, -given->margin};
+    const size_t many = sizeof margins / sizeof margins[0];
+    for (size_t i = 0; i < many; i++) {
+        struct yerbagunt_session s = *given;
+        unsigned long before = met[YERBAGUNT_UNSOUND];
+        s.margin = margins[i];
+        try_all(&s, offsetof(struct yerbagunt_session, margin));
+        hold(met[YERBAGUNT_UNSOUND] - before == TRIALS, "every call is refused 31 where the margin is not the table's", i);
+    }
+    return many;
+}
+
 /* A turn, and a wait for as long as it says. */
 static void go_on(struct yerbagunt_session *s)
 {
@@ -138,7 +156,7 @@ static void sessions(struct yerbagunt_session made[MADE])
 {
     const struct yerbagunt_reservation table[2] = {{25000, 250000}, {175000, 500000}};
     struct yerbagunt_opening o = yerbagunt_open(25000, 1000000, 1, (struct yerbagunt_reservations){table, 2});
-    hold(o.number == YERBAGUNT_OK, "the table is admitted", 0);
+    hold(o.number == YERBAGUNT_OK && o.session.margin == 300000, "the table is admitted, and leaves 300,000 of its span", 0);
     for (int i = 0; i < MADE; i++)
         made[i] = o.session;
     for (int i = 0; i < YERBAGUNT_QUEUE_MAX; i++)
@@ -158,30 +176,61 @@ static void sessions(struct yerbagunt_session made[MADE])
     hold(late->start == 10000 && late->expired == 1 && late->charge == 35000, "the next one started with what was left, and lost a slot", 0);
 }
 
+/* A table to open, the first record and the others, and what opening answers. */
+struct booked {
+    uint32_t worst, span, padding;
+    struct yerbagunt_reservation first, others;
+    size_t length;
+    uint64_t number;
+    int64_t margin;
+};
+
+static void open_one(const struct booked *b, unsigned long at)
+{
+    static const struct yerbagunt_session zero;
+    struct yerbagunt_reservation records[9];
+    for (size_t i = 0; i < 9; i++)
+        records[i] = i == 0 ? b->first : b->others;
+    struct yerbagunt_opening o = yerbagunt_open(b->worst, b->span, b->padding, (struct yerbagunt_reservations){records, b->length});
+    hold(o.number == b->number, "opening answers by number", at);
+    hold(o.margin == b->margin, "opening tells the margin, and 0 with 1 to 6", at);
+    if (o.number == YERBAGUNT_OK) {
+        struct yerbagunt_view v = yerbagunt_view(o.session);
+        hold(o.session.padding == b->padding, "a session keeps its padding as given", at);
+        hold(o.session.margin == b->margin && v.number == YERBAGUNT_OK && v.margin == b->margin, "a session keeps its margin and shows it", at);
+    } else {
+        hold(memcmp(&o.session, &zero, sizeof zero) == 0, "a refused opening stands beside the all-zero session", at);
+    }
+    struct table t = {b->worst, b->span, b->padding, (uint32_t)b->length, {{0, 0}}};
+    struct session opened, other;
+    int64_t margin;
+    for (size_t i = 0; i < b->length && i < STREAM_MAX; i++)
+        t.reservations[i] = (struct reservation){records[i].reserved, records[i].period};
+    hold(session_open(&other, &t, &margin) == o.number && margin == o.margin, "the number and the margin are the second engine's", at);
+    hold(to_second(&o.session, &opened) && memcmp(&opened, &other, sizeof other) == 0, "the opened session is the second engine's", at);
+}
+
+#define ALIKE {20, 20000}, {20, 20000}
 static void openings(void)
 {
-    struct yerbagunt_reservation table[9];
-    for (int i = 0; i < 9; i++)
-        table[i] = (struct yerbagunt_reservation){20, 20000};
-    struct yerbagunt_session zero;
-    memset(&zero, 0, sizeof zero);
-    const struct {
-        uint32_t worst, span, padding;
-        size_t length;
-        uint64_t number;
-    } tried[] = {
-        {100, 20000, 1, 0, 1}, {0, 0, UINT32_MAX, 0, 1}, {100, 20000, 1, 9, 1}, {0, 20000, 1, 8, 2}, {UINT32_MAX, 20000, 1, 8, 2},
-        {100, 999, 1, 8, 3}, {100, UINT32_MAX, 1, 8, 3}, {100, 20000, 4, 8, 4}, {100, 30000, 1, 8, 5}, {1000000, 20000, 1, 8, 6}, {5000, 20000, 1, 8, 7}, {100, 20000, 1, 8, 0},
+    static const struct booked tried[] = {
+        {100, 20000, 1, ALIKE, 0, 1, 0}, {0, 0, UINT32_MAX, ALIKE, 0, 1, 0}, {100, 20000, 1, ALIKE, 9, 1, 0},
+        {0, 20000, 1, ALIKE, 8, 2, 0}, {UINT32_MAX, 20000, 1, ALIKE, 8, 2, 0}, {100, 999, 1, ALIKE, 8, 3, 0}, {100, UINT32_MAX, 1, ALIKE, 8, 3, 0},
+        {100, 20000, 4, ALIKE, 8, 4, 0}, {100, 30000, 1, ALIKE, 8, 5, 0}, {1000000, 20000, 1, ALIKE, 8, 6, 0},
         /* 0 stands for 3: g is 20 + 3 W (with k 1, 20 + W), and the load of eight streams is 160 + 25 W (160 + 9 W), of one 20 + 4 W (20 + 2 W) */
-        {793, 20000, 0, 8, 0}, {794, 20000, 0, 8, 7}, {794, 20000, 3, 8, 7}, {794, 20000, 1, 8, 0},
-        {6660, 20000, 0, 1, 7}, {6661, 20000, 0, 1, 6}, {6661, 20000, 3, 1, 6}, {6661, 20000, 1, 1, 0},
+        {5000, 20000, 1, ALIKE, 8, 7, -25160}, {100, 20000, 1, ALIKE, 8, 0, 18940},
+        {793, 20000, 0, ALIKE, 8, 0, 15}, {794, 20000, 0, ALIKE, 8, 7, -10}, {794, 20000, 3, ALIKE, 8, 7, -10}, {794, 20000, 1, ALIKE, 8, 0, 12694},
+        {6660, 20000, 0, ALIKE, 1, 7, -6660}, {6661, 20000, 0, ALIKE, 1, 6, 0}, {6661, 20000, 3, ALIKE, 1, 6, 0}, {6661, 20000, 1, ALIKE, 1, 0, 6658},
+        /* the first has half the period of the others: the load is 2 (e + 100) + 7 * 120 + 2 * 100 */
+        {100, 20000, 1, {9380, 10000}, {20, 20000}, 8, 0, 0}, {100, 20000, 1, {9381, 10000}, {20, 20000}, 8, 7, -2},
+        /* one stream: g is e + 25,000, and the load e + 50,000 */
+        {25000, 1000000, 1, {950000, 1000000}, {0, 0}, 1, 0, 0}, {25000, 1000000, 1, {950001, 1000000}, {0, 0}, 1, 7, -1},
+        {25000, 1000000, 1, {975000, 1000000}, {0, 0}, 1, 7, -25000}, {25000, 1000000, 1, {975001, 1000000}, {0, 0}, 1, 6, 0},
+        /* the least margin that there is, which takes more than 32 bits, and the largest */
+        {999999, 600000000, 1, {1, 1000000}, {1, 1000000}, 8, 7, -4799999400}, {1, 600000000, 1, {1, 60000000}, {0, 0}, 1, 0, 599999970},
     };
-    for (size_t i = 0; i < sizeof tried / sizeof tried[0]; i++) {
-        struct yerbagunt_opening o = yerbagunt_open(tried[i].worst, tried[i].span, tried[i].padding, (struct yerbagunt_reservations){table, tried[i].length});
-        hold(o.number == tried[i].number, "opening answers by number", i);
-        hold(o.number == 0 || memcmp(&o.session, &zero, sizeof zero) == 0, "a refused opening stands beside the all-zero session", i);
-        hold(o.number != 0 || o.session.padding == tried[i].padding, "a session keeps its padding as given", i);
-    }
+    for (size_t i = 0; i < sizeof tried / sizeof tried[0]; i++)
+        open_one(&tried[i], i);
 }
 
 static void files(void)
@@ -221,6 +270,7 @@ int main(void)
     sessions(made);
     for (int m = 0; m < MADE; m++) {
         try_all(&made[m], 0);
+        tried += try_margins(&made[m]);
         for (size_t at = 0; at < sizeof changed; at++)
             for (size_t f = 0; f < sizeof flips; f++) {
                 changed = made[m];

@@ -1,5 +1,5 @@
 -- `Change::of` is its definition, whose quotients and differences are those of numbers that are never negative; nothing passes 64 bits, since a quotient is at most what is divided.
-use mathlib.Core.Path.{_≡_, sym, _∙_}
+use mathlib.Core.Path.{_≡_, refl, sym, _∙_}
 use Prim.Native.Nat.{_+_, _-_, _≤_, _<_}
 use native.Mathlib.Nat.{div-le-self}
 use native.Mathlib.Omega.{arith}
@@ -63,7 +63,7 @@ exceeds c z = c .before .if1 .left (c .before .before .over .ensures ∙ z)
 -- and what has to be taken off is what the definition says
 by-is : (c : tie.After-quotient3) → let a = c .before .before .before .before .args in c .quotient3 .result + 1 ≡ shrinkOf (a .margin .0) (a .span) (a .p)
 unfolding shrinkOf
-by-is c = rw (c .quotient3 .ensures, c .before .before .over .ensures, c .before .before .before .quotient .ensures)
+by-is c = rw (c .quotient3 .ensures, c .before .before .over .ensures, c .before .before .before .quotient .ensures) refl
 
 returns-2 : tie.Need-returns-2
 unfolding changeOf if

@@ -1,12 +1,17 @@
 -- `Census::is_sound` tests the load, whose sums are small where all streams are in order, the margin that it leaves, and the releases.
-use mathlib.Core.Bool.{true, false}
-use mathlib.Core.Path.{_≡_}
+use mathlib.Core.Bool.{Bool, true, false, _&&_}
+use mathlib.Core.Path.{_≡_, ap, _∙_}
 use Prim.Native.Nat.{_≤_, _*_, _/_}
 use native.Mathlib.Nat.{div-le-self, mul-le-mul}
 use native.Mathlib.Omega.{arith}
+use lib.Dec.{leb}
+use lib.IntN.{ℤ}
 use borrow.Author.Tests.{not-true, not-false}
 use borrow.Author.Needs.{needs}
-use Rattle.stream.specs.Search.{says}
+use Rattle.table.specs.Margin.{lessLoad, eqZ}
+use Rattle.table.specs.declared.margin.Margin.{Margin}
+use Rattle.stream.specs.Search.{loadSo, says}
+use Rattle.stream.specs.declared.census.Census.{Census}
 use Rattle.stream.proofs.census.Census.is_sound.Statement.{statement}
 use Rattle.stream.proofs.census.Census.is_sound.Tie as tie
 
@@ -50,9 +55,20 @@ is-by-requires c κs = search needs
 cast-result : tie.Need-cast-result
 cast-result c = search needs
 
-returns-2 : tie.Need-returns-2
+-- each test that is made is the definition's
+both-tests : (c : Census) (margin : ℤ) (kept released : Bool) → c .sound ≡ true
+    → kept ≡ eqZ margin (lessLoad (c .span) (loadSo c)) → released ≡ leb (c .released .0) (c .horizon .0)
+    → (leb (loadSo c) (c .span) && kept && released) ≡ says c margin
 unfolding says
-returns-2 c = rw (ok (c .before .before .before .before .before .before .before), c .before .before .is .ensures, c .before .before .before .of .ensures, c .before .is-by .ensures)
+both-tests c margin kept released sound k r = rw (sound, k, r)
+
+returns-2 : tie.Need-returns-2
+returns-2 c =
+    let a = c .before .before .before .before .before .before .before .before .before .args in
+    both-tests (a .self) (a .margin .0) (c .before .before .is .result) (c .before .is-by .result)
+    (ok (c .before .before .before .before .before .before .before))
+    (c .before .before .is .ensures ∙ ap (λ (m : Margin). eqZ (a .margin .0) (m .0)) (c .before .before .before .of .ensures))
+    (c .before .is-by .ensures)
 
 pub is-sound-spec : {M : Type 1} → statement M
 is-sound-spec =

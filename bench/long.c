@@ -91,7 +91,8 @@ int main(int words, char **word)
     for (int i = 4; i + 1 < words; i += 2)
         t.reservations[t.count++] = (struct reservation){(uint32_t)atoi(word[i]), (uint32_t)atoi(word[i + 1])};
     struct session s;
-    if (session_open(&s, &t) != ADMITTED)
+    int64_t margin;
+    if (session_open(&s, &t, &margin) != ADMITTED)
         return 1;
     bool waiting = false;
     for (int i = 0; i < FILE_EVENTS; i++) {

@@ -19,13 +19,15 @@ static void table_stream(size_t i, uint32_t reserved, uint32_t period)
 
 static void prepare(image *session)
 {
-    session_open(session, &table);
+    int64_t margin;
+    session_open(session, &table, &margin);
 }
 
 static uint64_t open_again(void)
 {
     image session;
-    return session_open(&session, &table);
+    int64_t margin;
+    return session_open(&session, &table, &margin);
 }
 
 static uint64_t arrival(image *session, uint64_t stream, uint64_t place)

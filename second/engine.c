@@ -39,9 +39,17 @@ uint64_t granted_budget(const struct table *t, const struct reservation *r)
     return (uint64_t)r->reserved + (uint64_t)padding_of(t) * t->worst;
 }
 
-// "Opening: 1, 2, 3, 4, then 5 and 6 stream by stream, then 7"
-static enum number admit(const struct table *t)
+// Document 02, Req 05: "The load test should say the exact margin, span less load, negative when refused, and not a yes
+// or no."
+static int64_t load_test(const struct table *t, uint64_t load)
 {
+    return (int64_t)t->span - (int64_t)load;
+}
+
+// "Opening: 1, 2, 3, 4, then 5 and 6 stream by stream, then 7"; Req 05: "Other refusals carry margin 0"
+static enum number admit(const struct table *t, int64_t *margin)
+{
+    *margin = 0;
     if (t->count == 0 || t->count > STREAM_MAX)
         return BAD_COUNT;
     if (t->worst < WORST_MIN || t->worst > WORST_MAX)
@@ -69,8 +77,9 @@ static enum number admit(const struct table *t)
         most = times > most ? times : most;
     }
     load += t->worst * most;
+    *margin = load_test(t, load);
     // "Admitted exactly if load ≤ H"
-    return load > t->span ? OVERLOAD : ADMITTED;
+    return *margin < 0 ? OVERLOAD : ADMITTED;
 }
 
 // --- Slots and the latest safe moment ---
@@ -201,7 +210,11 @@ static bool disk_sound(const struct session *s, uint64_t horizon)
 // "A session is sound if its table numbers are ones that opening admits; ..", line by line. Gives the horizon as well.
 static bool sound(const struct session *s, uint64_t *horizon)
 {
-    if (admit(&s->table) != ADMITTED || s->clock > SESSION_END)
+    int64_t margin;
+    if (admit(&s->table, &margin) != ADMITTED || s->clock > SESSION_END)
+        return false;
+    // "What a later request adds to the state joins this rule": the margin of Req 05 is span less load of the table.
+    if (s->margin != margin)
         return false;
     uint32_t count = s->table.count;
     for (uint32_t i = 0; i < count; i++)
@@ -220,10 +233,11 @@ static bool sound(const struct session *s, uint64_t *horizon)
 
 // --- Calls ---
 
-// "no session is made, and an all-zero one, which is not sound, stands in its place"
-enum number session_open(struct session *s, const struct table *t)
+// "no session is made, and an all-zero one, which is not sound, stands in its place"; document 02, Req 05: "Opening
+// passes it on with 7, the session keeps it when admitted"
+enum number session_open(struct session *s, const struct table *t, int64_t *margin)
 {
-    enum number number = admit(t);
+    enum number number = admit(t, margin);
     *s = (struct session){0};
     if (number != ADMITTED)
         return number;
@@ -231,6 +245,7 @@ enum number session_open(struct session *s, const struct table *t)
     s->table.span = t->span;
     s->table.padding = t->padding;
     s->table.count = t->count;
+    s->margin = *margin;
     for (uint32_t i = 0; i < t->count; i++) {
         s->table.reservations[i] = t->reservations[i];
         s->streams[i].granted = granted_budget(t, &t->reservations[i]);

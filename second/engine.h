@@ -89,9 +89,11 @@ struct stream {
     struct record last;
 };
 
-// Streams are numbered from 1; stream 0 at the disk stands for none. No member leaves a gap, so each byte is a cell's.
+// Streams are numbered from 1; stream 0 at the disk stands for none. The margin is H less the load of the table: document
+// 02, Req 05, "the session keeps it when admitted". No member leaves a gap, so each byte is a cell's.
 struct session {
     struct table table;
+    int64_t margin;
     uint64_t clock;
     uint64_t head;
     uint64_t disk_stream;
@@ -106,8 +108,9 @@ struct reply {
     uint64_t value;
 };
 
-// ADMITTED, or the refusal; a refused opening leaves the all-zero session.
-enum number session_open(struct session *s, const struct table *t);
+// ADMITTED, or the refusal; a refused opening leaves the all-zero session. Through the pointer goes the margin: not
+// negative if admitted, negative with 7, and 0 with every other refusal.
+enum number session_open(struct session *s, const struct table *t, int64_t *margin);
 
 struct reply session_arrival(struct session *s, uint64_t stream, uint64_t place);
 struct reply session_turn(struct session *s);

@@ -102,7 +102,8 @@ enum number start_run(struct run *run, FILE *in)
     struct table t;
     size_t size = fread(run->file, 1, sizeof run->file, in);
     enum number number = read_file(run, size, &t);
-    return number != ADMITTED ? number : session_open(&run->session, &t);
+    int64_t margin;
+    return number != ADMITTED ? number : session_open(&run->session, &t, &margin);
 }
 
 struct event run_event_at(const struct run *run, size_t index)

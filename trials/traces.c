@@ -368,11 +368,18 @@ static void follow(struct run *r, size_t most)
     }
 }
 
+// Opens the session that the events follow; false if the table is refused.
+static bool opened(struct run *r, const struct table *t)
+{
+    int64_t margin;
+    return session_open(&r->s, t, &margin) == ADMITTED;
+}
+
 void make_trace(struct chance *c, const struct table *t, size_t most, struct trace *trace)
 {
     struct run r = {.c = c, .trace = trace, .lean = lean(c, most)};
     trace->count = 0;
-    if (session_open(&r.s, t) != ADMITTED) {
+    if (!opened(&r, t)) {
         any_events(c, most, trace);
         return;
     }
@@ -385,7 +392,7 @@ void make_far_trace(struct chance *c, const struct table *t, size_t most, struct
 {
     struct run r = {.c = c, .trace = trace};
     trace->count = 0;
-    if (session_open(&r.s, t) != ADMITTED)
+    if (!opened(&r, t))
         return;
     step(&r, EVENT_CLOCK, 0, FAR_CLOCK + below(c, FAR_CLOCK));
     while (trace->count < most && r.waiting_for == 0)

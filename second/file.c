@@ -1,6 +1,7 @@
 // The layout of the session file, each part from its own sentence.
 #include "file.h"
 
+#include <inttypes.h>
 #include <string.h>
 
 #define ENTRIES 2
@@ -97,13 +98,14 @@ static enum number read_file(struct run *run, size_t size, struct table *t)
     return ADMITTED;
 }
 
-enum number start_run(struct run *run, FILE *in)
+struct opening start_run(struct run *run, FILE *in)
 {
     struct table t;
     size_t size = fread(run->file, 1, sizeof run->file, in);
-    enum number number = read_file(run, size, &t);
-    int64_t margin;
-    return number != ADMITTED ? number : session_open(&run->session, &t, &margin);
+    struct opening o = {read_file(run, size, &t), 0};
+    if (o.number == ADMITTED)
+        o.number = session_open(&run->session, &t, &o.margin);
+    return o;
 }
 
 struct event run_event_at(const struct run *run, size_t index)
@@ -127,7 +129,10 @@ struct reply run_event(struct session *s, struct event e)
     }
 }
 
-void print_refused(enum number number)
+void print_refused(struct opening o)
 {
-    printf("refused %d\n", (int)number);
+    if (o.number == OVERLOAD)
+        printf("refused %d %" PRId64 "\n", (int)o.number, -o.margin);
+    else
+        printf("refused %d\n", (int)o.number);
 }

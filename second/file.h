@@ -29,15 +29,23 @@ struct run {
     size_t count;
 };
 
-// Reads a file and opens its session: ADMITTED, or the number that reading or opening refuses it by.
-enum number start_run(struct run *run, FILE *in);
+// ADMITTED, or the number that reading or opening refuses a file by; and the margin that opening tells, 0 with a refusal
+// of reading.
+struct opening {
+    enum number number;
+    int64_t margin;
+};
+
+// Reads a file and opens its session.
+struct opening start_run(struct run *run, FILE *in);
 
 // An event of the trace, by its index from 0.
 struct event run_event_at(const struct run *run, size_t index);
 
 struct reply run_event(struct session *s, struct event e);
 
-// "If reading or opening refuses it prints `refused N`, nothing more."
-void print_refused(enum number number);
+// "If reading or opening refuses it prints `refused N`, nothing more."; document 02, Req 05: "the program prints
+// `refused 7 N` with N the amount over the span. Other refusals carry margin 0 and print as before."
+void print_refused(struct opening o);
 
 #endif

@@ -1,7 +1,9 @@
-// Reads one session file from standard input and prints its listing, or `refused N`.
+// Reads one session file from standard input and prints its listing, or its refusal. With the word `margin` it prints what
+// opening answers instead.
 #include "file.h"
 
 #include <inttypes.h>
+#include <string.h>
 
 static bool refused(struct reply r)
 {
@@ -16,12 +18,22 @@ static void print_line(size_t number, struct event e, struct reply r, uint64_t c
     printf("%zu %d %" PRIu32 " %" PRIu64 " %" PRIu64 "\n", number, (int)r.number, stream, r.value, clock);
 }
 
-int main(void)
+// The number and the margin that opening answers, or reading: of an admitted table the margin that "the session keeps".
+static void print_opening(struct opening o, const struct session *s)
+{
+    printf("%d %" PRId64 "\n", (int)o.number, o.number == ADMITTED ? s->margin : o.margin);
+}
+
+int main(int count, char **words)
 {
     static struct run run;
-    enum number number = start_run(&run, stdin);
-    if (number != ADMITTED) {
-        print_refused(number);
+    struct opening o = start_run(&run, stdin);
+    if (count == 2 && strcmp(words[1], "margin") == 0) {
+        print_opening(o, &run.session);
+        return 0;
+    }
+    if (o.number != ADMITTED) {
+        print_refused(o);
         return 0;
     }
     puts("event answer stream value clock");

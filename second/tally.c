@@ -100,15 +100,15 @@ static void print_tallies(const struct tally *streams, uint32_t count)
 }
 
 // A file that cannot be opened or read is one that is not as laid out, and is told besides.
-static enum number open_run(struct run *run, const char *name)
+static struct opening open_run(struct run *run, const char *name)
 {
     FILE *in = fopen(name, "rb");
-    enum number number = in == NULL ? BAD_LAYOUT : start_run(run, in);
+    struct opening o = in == NULL ? (struct opening){BAD_LAYOUT, 0} : start_run(run, in);
     if (in == NULL || ferror(in))
         fprintf(stderr, "tally: cannot read %s\n", name);
     if (in != NULL)
         fclose(in);
-    return number;
+    return o;
 }
 
 // "A refused file gets its number and adds nothing."
@@ -117,9 +117,9 @@ static void take_file(struct totals *totals, const char *name)
     static struct run run;
     struct tally streams[STREAM_MAX] = {0};
     printf("file %s\n", name);
-    enum number number = open_run(&run, name);
-    if (number != ADMITTED) {
-        print_refused(number);
+    struct opening o = open_run(&run, name);
+    if (o.number != ADMITTED) {
+        print_refused(o);
         return;
     }
     tally_run(streams, &run);

@@ -89,8 +89,8 @@ struct stream {
     struct record last;
 };
 
-// Streams are numbered from 1; stream 0 at the disk stands for none. The margin is H less the load of the table: document
-// 02, Req 05, "the session keeps it when admitted". No member leaves a gap, so each byte is a cell's.
+// Streams are numbered from 1; stream 0 at the disk stands for none. The margin is H less the load of the table; document
+// 02, Req 05: "the session keeps it when admitted". No member leaves a gap, so each byte is a cell's.
 struct session {
     struct table table;
     int64_t margin;

@@ -29,8 +29,8 @@ struct run {
     size_t count;
 };
 
-// ADMITTED, or the number that reading or opening refuses a file by; and the margin that opening tells, 0 with a refusal
-// of reading.
+// ADMITTED, or the number that reading or opening refuses a file by; and the margin that opening tells, 0 where reading
+// refuses.
 struct opening {
     enum number number;
     int64_t margin;

@@ -1,5 +1,5 @@
-// Reads one session file from standard input and prints its listing, or its refusal. With the word `margin` it prints what
-// opening answers instead.
+// Reads one session file from standard input and prints its listing, or its refusal. With the word `margin` it prints
+// what opening answers instead.
 #include "file.h"
 
 #include <inttypes.h>

@@ -235,6 +235,19 @@ static void overload(struct table *t)
     longest->reserved++;
 }
 
+// Four to eight streams, each granted its whole period, with the longest span: the load is past H by 2,399,999,400 and
+// more, up to 4,799,999,400, which is the most that 7 can tell.
+static void crowd(struct chance *c, struct table *t)
+{
+    memset(t, 0, sizeof *t);
+    t->worst = WORST_MAX - 1;
+    t->span = SPAN_MAX;
+    t->padding = 1;
+    t->count = 4 + (uint32_t)below(c, 5);
+    for (uint32_t i = 0; i < t->count; i++)
+        t->reservations[i] = (struct reservation){1, WORST_MAX};
+}
+
 void make_faulty_table(struct chance *c, struct table *t)
 {
     if (percent(c, 10)) {
@@ -242,7 +255,10 @@ void make_faulty_table(struct chance *c, struct table *t)
         return;
     }
     if (percent(c, 10)) {
-        limit_case(c, t);
+        if (percent(c, 20))
+            crowd(c, t);
+        else
+            limit_case(c, t);
         return;
     }
     make_table(c, t);

@@ -77,7 +77,7 @@ impl Census {
             return false;
         }
         let load = self.shares + self.worst as u64 * (self.span / self.least) as u64;
-        let kept = margin.is(Margin::of(self.span, load));
+        let kept = margin.is(self.span, load);
         let released = self.released.is_by(self.horizon);
         (load <= self.span as u64) & kept & released
     }

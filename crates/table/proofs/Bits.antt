@@ -4,15 +4,14 @@ use mathlib.Core.Path.{_≡_, refl, sym, subst, _∙_, ap}
 use mathlib.Core.Logic.{⊎-elim}
 use Prim.Native.Nat.{ℕ, zero, suc, _+_, _-_, _≤_, _<_, _^_}
 use native.Mathlib.Omega.{arith}
-use lib.Dec.{eqb}
 use lib.IntN.{ℤ, pos, negsuc, negℤ, subℕ, _+ℤ_, _-ℤ_}
 use lib.Signed.{ltZ}
 use mir.Syntax.{w64}
 use mir.Val.{SFits, toZ, ofZ}
 use mir.ValLaws.{toZ-pos, toZ-ofZ}
-use borrow.Author.Tests.{lt-ltb, le-ltb, ne-eqb, eq-eqb, eqb-true}
+use borrow.Author.Tests.{lt-ltb, le-ltb, eq-eqb, eqb-true}
 use Rattle.table.specs.Margin.{leftOf, overOf, eqZ}
-use Rattle.table.proofs.Tests.{le-or-lt, same-test}
+use Rattle.table.proofs.Tests.{le-or-lt}
 
 -- a difference of two numbers is what is left, or what is over
 pub sub-left : (a b : ℕ) → b ≤ a → subℕ a b ≡ pos (a - b)
@@ -97,18 +96,7 @@ unfolding leftOf overOf
 not-below (pos n) f l = record { is = toZ-ofZ w64 (pos n) f; few = f .sfits; none = refl }
 not-below (negsuc n) f l = absurd (false≢true (sym l ∙ ap (λ (x : ℤ). ltZ x (pos 0)) (toZ-ofZ w64 (negsuc n) f)))
 
--- two numbers are one exactly if their bits are
-pub same-bits : (a b : ℤ) → SFits w64 a → SFits w64 b → eqb (ofZ w64 a) (ofZ w64 b) ≡ eqZ a b
-unfolding eqZ
-same-bits (pos a) (pos b) f g = refl
-same-bits (pos a) (negsuc b) f g = ne-eqb a (2 ^ 64 - suc b) (λ e. omega (arith, f .sfits, g .sfits))
-same-bits (negsuc a) (pos b) f g = ne-eqb (2 ^ 64 - suc a) b (λ e. omega (arith, f .sfits, g .sfits))
-same-bits (negsuc a) (negsuc b) f g =
-    same-test _ _
-    (λ t. eq-eqb a b (omega (arith, eqb-true (2 ^ 64 - suc a) (2 ^ 64 - suc b) t, f .sfits, g .sfits)))
-    (λ t. eq-eqb (2 ^ 64 - suc a) (2 ^ 64 - suc b) (omega (arith, eqb-true a b t)))
-
--- and the test says that
+-- the test of two numbers says that they are one
 pub same-is : (a b : ℤ) → eqZ a b ≡ true → a ≡ b
 unfolding eqZ
 same-is (pos a) (pos b) t = ap pos (eqb-true a b t)

@@ -1,23 +1,23 @@
 -- What admission answers, and the laws of margins.
-use mathlib.Core.Bool.{Bool, true, false, false≢true}
+use mathlib.Core.Bool.{Bool, true, false, _&&_, false≢true}
 use mathlib.Core.Path.{_≡_, sym, subst, _∙_, ap}
 use mathlib.Core.Logic.{_⊎_, inl, inr, ⊎-elim}
 use Prim.Native.Nat.{ℕ, zero, suc, _+_, _-_, _≤_, _<_}
 use native.Mathlib.Omega.{arith}
-use lib.Dec.{ltb, le→leb, ltb→lt, lit≤}
+use lib.Dec.{ltb, eqb, le→leb, ltb→lt, lit≤}
 use lib.IntN.{ℤ, pos, negsuc, +ℤ-comm, -ℤ-+ℤ-cancel}
 use lib.Signed.{_≤ℤ_, _<ℤ_}
-use borrow.Author.Tests.{lt-ltb, le-ltb, ne-eqb}
+use borrow.Author.Tests.{lt-ltb, le-ltb, ne-eqb, eq-eqb, eqb-true}
 use Rattle.table.specs.Fold.{if}
 use Rattle.table.specs.Refusal.{given, _or-next_}
 use Rattle.table.specs.Admission.{loadOf, numbersRefusal, streamRefusal, streamRefusalAt, streamsRefusal, partsRefusal, admissionOf}
-use Rattle.table.specs.Margin.{lessLoad, marginOf, overOf, margin, answered, answerOf, numberIn, marginIn}
+use Rattle.table.specs.Margin.{lessLoad, marginOf, leftOf, overOf, eqZ, margin, answered, answerOf, numberIn, marginIn}
 use Rattle.table.specs.Laws.{MarginIsExact, MarginDecides, OverIsExact, AnswerCarriesMargin}
 use Rattle.table.specs.declared.Table.{Table}
 use Rattle.table.specs.declared.margin.Margin.{Margin}
 use Rattle.table.specs.declared.Admission.{Admission}
 use Rattle.table.specs.declared.Admission.the-variants.{Admitted, Refused, Over}
-use Rattle.table.proofs.Tests.{le-or-lt, given-high, or-next-high, or-next-first, or-next-assoc}
+use Rattle.table.proofs.Tests.{le-or-lt, same-test, given-high, or-next-high, or-next-first, or-next-assoc}
 use Rattle.table.proofs.Folds.{first-is}
 use Rattle.table.proofs.Bits.{sub-left, sub-over}
 
@@ -29,6 +29,22 @@ less-left a (suc b) l = sub-left a (suc b) l
 pub less-over : (a b : ℕ) → a < b → lessLoad a b ≡ negsuc (b - suc a)
 less-over a zero l = absurd (omega arith)
 less-over a (suc b) l = sub-over a (suc b) l
+
+-- a number is that difference exactly if as much is left, or over
+equal-suc : (a b : ℕ) → eqb (suc a) (suc b) ≡ eqb a b
+equal-suc a b = same-test _ _ (λ t. eq-eqb a b (omega (arith, eqb-true (suc a) (suc b) t))) (λ t. eq-eqb (suc a) (suc b) (omega (arith, eqb-true a b t)))
+
+pub is-left : (z : ℤ) (span load : ℕ) → load ≤ span → (eqb (overOf z) 0 && eqb (leftOf z) (span - load)) ≡ eqZ z (lessLoad span load)
+unfolding leftOf overOf eqZ
+is-left (pos n) span load l = rw (less-left span load l)
+is-left (negsuc n) span load l = rw (less-left span load l, ne-eqb (suc n) 0 (λ e. omega arith))
+
+pub is-over : (z : ℤ) (span load : ℕ) → span < load → eqb (overOf z) (load - span) ≡ eqZ z (lessLoad span load)
+unfolding overOf eqZ
+is-over (pos n) span load l = rw (less-over span load l) (ne-eqb 0 (load - span) (λ e. omega arith))
+is-over (negsuc n) span load l =
+    let e : load - span ≡ suc (load - suc span) = omega arith in
+    rw (less-over span load l, e) (equal-suc n (load - suc span))
 
 pub margin-is-exact : MarginIsExact
 unfolding marginOf

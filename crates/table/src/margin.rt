@@ -10,7 +10,7 @@ pub struct Margin(pub i64);
 
 impl Margin {
     // The span less the load.
-    pub fn of(span: u32, load: u64) -> Margin
+    pub(crate) fn of(span: u32, load: u64) -> Margin
         requires { ⌜ load ≤ load-max ⌝ }
         ensures { λ r. ⌜ r ≡ margin (lessLoad span load) ⌝ }
     {
@@ -24,10 +24,16 @@ impl Margin {
         Margin(0)
     }
 
-    pub fn is(self, other: Margin) -> bool
-        ensures { λ r. ⌜ r ≡ eqZ (self .0) (other .0) ⌝ }
+    // Whether it is the span less the load, for any two numbers.
+    pub fn is(self, span: u32, load: u64) -> bool
+        ensures { λ r. ⌜ r ≡ eqZ (self .0) (lessLoad span load) ⌝ }
     {
-        self.0 == other.0
+        let left = self.left();
+        let over = self.over();
+        if (span as u64) < load {
+            return over == load - span as u64;
+        }
+        (over == 0) & (left == span as u64 - load)
     }
 
     // What is left of the span: how far the margin is above 0, and 0 where it is not.

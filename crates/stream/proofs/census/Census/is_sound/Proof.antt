@@ -1,6 +1,6 @@
 -- `Census::is_sound` tests the load, whose sums are small where all streams are in order, the margin that it leaves, and the releases.
 use mathlib.Core.Bool.{Bool, true, false, _&&_}
-use mathlib.Core.Path.{_≡_, ap, _∙_}
+use mathlib.Core.Path.{_≡_}
 use Prim.Native.Nat.{_≤_, _*_, _/_}
 use native.Mathlib.Nat.{div-le-self, mul-le-mul}
 use native.Mathlib.Omega.{arith}
@@ -9,7 +9,6 @@ use lib.IntN.{ℤ}
 use borrow.Author.Tests.{not-true, not-false}
 use borrow.Author.Needs.{needs}
 use Rattle.table.specs.Margin.{lessLoad, eqZ}
-use Rattle.table.specs.declared.margin.Margin.{Margin}
 use Rattle.stream.specs.Search.{loadSo, says}
 use Rattle.stream.specs.declared.census.Census.{Census}
 use Rattle.stream.proofs.census.Census.is_sound.Statement.{statement}
@@ -43,9 +42,6 @@ mul-load c = omega (arith, blocking-high (c .before .before))
 add-load : tie.Need-add-load
 add-load c = omega (arith, blocking-high (c .before .before .before), c .before .before .before .before .before .pre (ok (c .before .before .before)) .countable .shares-high)
 
-of-requires : tie.Need-of-requires
-of-requires c κs = omega (arith, blocking-high (c .before .before .before), c .before .before .before .before .before .pre (ok (c .before .before .before)) .countable .shares-high)
-
 is-requires : tie.Need-is-requires
 is-requires c κs = search needs
 
@@ -64,10 +60,10 @@ both-tests c margin kept released sound k r = rw (sound, k, r)
 
 returns-2 : tie.Need-returns-2
 returns-2 c =
-    let a = c .before .before .before .before .before .before .before .before .before .args in
+    let a = c .before .before .before .before .before .before .before .before .args in
     both-tests (a .self) (a .margin .0) (c .before .before .is .result) (c .before .is-by .result)
-    (ok (c .before .before .before .before .before .before .before))
-    (c .before .before .is .ensures ∙ ap (λ (m : Margin). eqZ (a .margin .0) (m .0)) (c .before .before .before .of .ensures))
+    (ok (c .before .before .before .before .before .before))
+    (c .before .before .is .ensures)
     (c .before .is-by .ensures)
 
 pub is-sound-spec : {M : Type 1} → statement M
@@ -80,7 +76,6 @@ is-sound-spec =
     cast-load-2
     mul-load
     add-load
-    of-requires
     is-requires
     is-by-requires
     cast-result

@@ -51,6 +51,7 @@ impl Margin {
         ensures { λ r. ⌜ r ≡ overOf (self .0) ⌝ }
     {
         if self.0 < 0 {
+            // The least number of 64 bits has no opposite among them, and the one above it has.
             return (-(self.0 + 1)) as u64 + 1;
         }
         0

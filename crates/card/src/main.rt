@@ -190,11 +190,11 @@ fn say_change(margin: Margin) {
 fn explain_change(margin: Margin) {
     if margin.over() == 0 {
         say(
-            b"\na stream may grow by that much reserved time alone, while the others stay as they are\n",
+            b"\none stream may grow by that much reserved time, while the others stay as they are\n",
         );
     } else {
         say(
-            b"\na stream must shrink by that much reserved time alone, while the others stay as they are;\n",
+            b"\nit is enough that one stream shrinks by that much reserved time, while the others stay as they are;\n",
         );
         say(b"not alone: nothing would be left of it\n");
     }

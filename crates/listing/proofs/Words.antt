@@ -5,11 +5,17 @@ use Prim.Native.Nat.{ℕ, zero, suc, _+_, _^_, min, _≤_, _<_}
 use native.Mathlib.Omega.{arith}
 use lib.ListN.{length, getD, take, length-take}
 use lib.Seq.{take-nil, take-all}
-use Rattle.listing.specs.Line.{decimal, onward, rendered, wordedFields, text-size}
+use Rattle.listing.specs.Line.{decimal, onward, rendered, wordedFields, refusedWord, refusedFields, text-size}
 use Rattle.listing.specs.Laws.{Each, Short}
 use Rattle.listing.proofs.Each.{each-map}
 use Rattle.listing.proofs.Decimal.{decimal-is-short}
 use Rattle.listing.proofs.Texts.{rendered-length, fields-have-room}
+
+-- an amount over that is not 0 stands behind the number of a refusal
+pub refused-with : (number over : ℕ) → (over ≡ 0 → ⊥) → refusedFields number over ≡ wordedFields refusedWord (number ∷ over ∷ [])
+unfolding refusedFields
+refused-with number zero some = absurd (some refl)
+refused-with number (suc n) some = refl
 
 -- the first n of a list, or all of a shorter one
 pub taken : (n : ℕ) (l : List ℕ) {end : ℕ} → end ≡ min n (length l) → take end l ≡ take n l

@@ -2,6 +2,7 @@
 use file::Reading;
 use listing::Text;
 use session::Session;
+use table::Admission;
 ghost use Rattle.listing.specs.Line.{Within};
 
 // The buffer holds more than the longest file, so that a longer one is refused without being read to its end.
@@ -32,11 +33,10 @@ fn replay(file: &[u8]) {
     };
     let opened = Session::open(file::table_of(file));
     let admission = opened.admission;
-    let number = admission.number();
-    if number != 0 {
-        print(listing::refused(number, admission.over()));
+    let Admission::Admitted(_) = admission else {
+        print(listing::refused(admission.number(), admission.over()));
         return;
-    }
+    };
     print(listing::header());
     run(opened.session, &file[start..end], events);
 }

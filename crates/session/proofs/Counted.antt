@@ -14,7 +14,7 @@ use Rattle.table.specs.Admission.{periodAt, grantedOf, shareOf, shareAt, stream
 use Rattle.table.specs.Margin.{lessLoad, marginOf, eqZ}
 use Rattle.table.proofs.Tests.{both, by-if, or-next-none}
 use Rattle.table.proofs.Folds.{at-or-below, first-none, first-all, largest-le, largest-high, sum-agree, sum-high, smallest-agree, smallest-is}
-use Rattle.table.proofs.Bits.{same-is, is-same}
+use Rattle.table.proofs.Whole.{same-is, is-same}
 use Rattle.table.proofs.Judged.{Numbers, numbers-of, Fits-in, stream-of, share-high, admits-of}
 use Rattle.time.specs.Time.{moment}
 use Rattle.stream.specs.Stream.{soundCells, soundStream}
@@ -211,9 +211,9 @@ module _ (s : Session) where
     pub says-used : says c (s .margin .0) ≡ true → Used s
     unfolding says
     says-used t =
-        let left = eqZ (s .margin .0) (lessLoad (c .span) (loadSo c)) in
-        let a = both (c .sound && leb (loadSo c) (c .span) && left) (leb (c .released .0) (c .horizon .0)) t in
-        let b = both (c .sound && leb (loadSo c) (c .span)) left (a .0) in
+        let kept = eqZ (s .margin .0) (lessLoad (c .span) (loadSo c)) in
+        let a = both (c .sound && leb (loadSo c) (c .span) && kept) (leb (c .released .0) (c .horizon .0)) t in
+        let b = both (c .sound && leb (loadSo c) (c .span)) kept (a .0) in
         let d = both (c .sound) (leb (loadSo c) (c .span)) (b .0) in
         record {
           admitted = admitted-of (leb-true _ _ (d .1));

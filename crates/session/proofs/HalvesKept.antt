@@ -2,14 +2,14 @@
 use mathlib.Core.List.{List}
 use mathlib.Core.Path.{_≡_, refl, sym, _∙_, ap, subst}
 use Prim.Native.Nat.{ℕ, zero, suc, _+_, _-_, _*_, _/_, _≤_, _<_}
-use native.Mathlib.Nat.{mul-le-mul-left, mul-le-mul-right, not-suc-le-zero}
+use native.Mathlib.Nat.{mul-le-mul-left, mul-le-mul-right}
 use native.Mathlib.Omega.{arith}
 use lib.ListN.{length}
 use lib.Seq.{getD-set-same, getD-set-other}
 use borrow.Author.Tests.{eqb-true}
 use Rattle.table.specs.Fold.{sumTo}
 use Rattle.table.proofs.Tests.{by-if}
-use Rattle.table.proofs.Folds.{at-or-below, sum-le, sum-agree}
+use Rattle.table.proofs.Folds.{sum-other, sum-le, sum-agree}
 use Rattle.table.proofs.Lists.{set-each}
 use Rattle.stream.specs.Stream.{worked, carry, closed, moved}
 use Rattle.session.specs.Session.{noStream, streamAt, horizon, scaledPart, latest, withStream}
@@ -20,16 +20,6 @@ use Rattle.session.proofs.Latest.{latest-rounds-once}
 use Rattle.session.proofs.Changes.{horizon-kept}
 use Rattle.session.proofs.MoveKept.{moved-keeps, moving, next, moved-at, horizon-later}
 use Rattle.session.proofs.Halves.{rate, used, rateAt, usedAt, Room, InTime, rates-high, whole, due-most}
-
--- two sums whose terms differ at i alone
-sum-but-one : (f g : ℕ → ℕ) (i : ℕ) → ((j : ℕ) → (j ≡ i → ⊥) → f j ≡ g j) → (n : ℕ) → i < n → sumTo f n + g i ≡ sumTo g n + f i
-unfolding sumTo
-sum-but-one f g i alike zero l = absurd (not-suc-le-zero l)
-sum-but-one f g i alike (suc n) l =
-    at-or-below (λ (k : ℕ). ((j : ℕ) → (j ≡ k → ⊥) → f j ≡ g j) → sumTo f n + f n + g k ≡ sumTo g n + g n + f k) i l
-    (λ same. omega (arith, sum-agree f g n (λ j m. same j (λ e. omega arith))))
-    (λ (u : i < n) same. omega (arith, sum-but-one f g i same n u, same n (λ e. omega arith)))
-    alike
 
 -- a stream that was charged a more
 grown-in-time : (t u a h next span rates others useds more : ℕ) → next ≡ h → others ≡ rates → more ≡ useds + a * span → u ≤ t + a
@@ -61,8 +51,8 @@ module _ (s : Session) (q : Sound s) (i : ℕ) (l : i < s .count) (charge expire
   -- the sum over the streams of what each has
   summed : (f : Stream → ℕ) → sumTo (λ j. f (streamAt changed j)) (s .count) + f old ≡ sumTo (λ j. f (streamAt s j)) (s .count) + f new
   summed f =
-      sum-but-one (λ j. f (streamAt changed j)) (λ j. f (streamAt s j)) i
-      (λ j other. ap f (getD-set-other (s .streams) i j new noStream other)) (s .count) l
+      sum-other (λ j. f (streamAt changed j)) (λ j. f (streamAt s j)) (s .count) i l
+      (λ j _ other. ap f (getD-set-other (s .streams) i j new noStream other))
       ∙ ap (λ (x : Stream). sumTo (λ j. f (streamAt s j)) (s .count) + f x) (getD-set-same (s .streams) i new noStream here)
 
   -- it keeps its room, if it had room for that

@@ -159,9 +159,9 @@ module _ (s : Session) where
     fine : c .sound ≡ true
     unfolding says
     fine =
-        let left = eqZ (s .margin .0) (lessLoad (c .span) (loadSo c)) in
-        let all = both (c .sound && leb (loadSo c) (c .span) && left) (leb (c .released .0) (c .horizon .0)) (b .0) .0 in
-        both (c .sound) _ (both (c .sound && leb (loadSo c) (c .span)) left all .0) .0
+        let kept = eqZ (s .margin .0) (lessLoad (c .span) (loadSo c)) in
+        let all = both (c .sound && leb (loadSo c) (c .span) && kept) (leb (c .released .0) (c .horizon .0)) (b .0) .0 in
+        both (c .sound) _ (both (c .sound && leb (loadSo c) (c .span)) kept all .0) .0
 
     used : Used s
     used = says-used s c (counted-all c i (past .looked) fine) fine (b .0)

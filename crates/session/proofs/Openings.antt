@@ -1,4 +1,4 @@
--- Opening makes a sound session, and so 31 is never answered after it.
+-- Opening makes a sound session with the margin of its table, which no call changes; and so 31 is never answered after it.
 use mathlib.Core.Bool.{true}
 use mathlib.Core.List.{List, [], _∷_, map}
 use mathlib.Core.Path.{_≡_, refl, sym, _∙_, ap}

@@ -11,7 +11,7 @@ use Rattle.table.specs.Admission.{grantedOf, admissionOf}
 use Rattle.table.specs.Margin.{marginOf}
 use Rattle.table.proofs.Tests.{both, le-or-lt}
 use Rattle.table.proofs.Folds.{all-at, all-of, smallest-le}
-use Rattle.table.proofs.Bits.{same-is, is-same}
+use Rattle.table.proofs.Whole.{same-is, is-same}
 use Rattle.table.proofs.Judged.{Fits-in, Admits, admits-of}
 use Rattle.time.specs.Time.{session-end, moment}
 use Rattle.stream.specs.Stream.{freshStream, soundStream, unusedStream}

@@ -63,7 +63,7 @@ impl Session {
                     admission: admission,
                 }
             }
-            _ => {
+            Admission::Refused(_) | Admission::Over(_) => {
                 let session = Session::zero();
                 Opened {
                     session: session,

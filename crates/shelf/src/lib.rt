@@ -91,7 +91,7 @@ pub extern "C" fn yerbagunt_clock(session: &mut Image, time: u64) -> Told
     a.reply
 }
 
-// The clock, the horizon and the latest safe moment of a session.
+// The clock, the horizon, the latest safe moment and the margin of a session.
 #[no_mangle]
 pub extern "C" fn yerbagunt_view(session: Image) -> View
     ensures { λ r. ⌜ r ≡ viewedAs session ⌝ }

@@ -77,9 +77,13 @@ impl Census {
             return false;
         }
         let load = self.shares + self.worst as u64 * (self.span / self.least) as u64;
-        let kept = margin.is(self.span, load);
+        let span = self.span as u64;
+        if span < load {
+            return false;
+        }
+        let kept = margin.is_left(span - load);
         let released = self.released.is_by(self.horizon);
-        (load <= self.span as u64) & kept & released
+        kept & released
     }
 }
 

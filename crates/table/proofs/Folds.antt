@@ -179,3 +179,16 @@ smallest-agree f g n some h = agree smallestTo min (λ f n. refl) f g (h 0 some)
 pub first-agree : (f g : ℕ → ℕ) (n : ℕ) → ((i : ℕ) → i < n → f i ≡ g i) → firstTo f n ≡ firstTo g n
 unfolding firstTo
 first-agree f g = agree firstTo _or-next_ (λ f n. refl) f g refl
+
+-- two sums that differ at one place differ by what stands there
+pub sum-other : (f g : ℕ → ℕ) (n i : ℕ) → i < n → ((j : ℕ) → j < n → (j ≡ i → ⊥) → f j ≡ g j) → sumTo f n + g i ≡ sumTo g n + f i
+unfolding sumTo
+sum-other f g zero i l h = absurd (not-suc-le-zero l)
+sum-other f g (suc n) i l h =
+    ⊎-elim
+    (λ (u : n ≤ i).
+    let e : n ≡ i = omega arith in
+    let before = sum-agree f g n (λ j v. h j (omega arith) (λ (w : j ≡ i). omega arith)) in
+    rw (before, e) (omega arith))
+    (λ (u : i < n). omega (arith, sum-other f g n i u (λ j v. h j (omega arith)), h n (omega arith) (λ (w : n ≡ i). omega arith)))
+    (le-or-lt n i)

@@ -99,7 +99,7 @@ load-high t numbers streams =
     let term : t .worst * least ≤ worst-max * span-max = mul-le-mul (q .worst-high) (le-trans (div-le-self (t .span) (smallestPeriod t)) (q .span-high)) in
     omega (arith, shares-high t numbers streams, term)
 
--- neither the numbers nor a stream do, where 1 to 6 refuse nothing
+-- where 1 to 6 refuse nothing, neither the numbers nor a stream is refused
 pub parts-none : (t : Table) → partsRefusal t ≡ 0 → (numbersRefusal t ≡ 0) × (streamsRefusal t ≡ 0)
 unfolding partsRefusal
 parts-none t = or-next-none (numbersRefusal t) (streamsRefusal t)

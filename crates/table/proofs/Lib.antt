@@ -2,7 +2,7 @@ pub mod Tests
 pub mod Folds
 pub mod Grouped
 pub mod Lists
-pub mod Bits
+pub mod Whole
 pub mod Judged
 pub mod Margins
 pub mod Others

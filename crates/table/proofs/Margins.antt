@@ -1,50 +1,25 @@
 -- What admission answers, and the laws of margins.
-use mathlib.Core.Bool.{Bool, true, false, _&&_, false≢true}
+use mathlib.Core.Bool.{Bool, true, false, false≢true}
 use mathlib.Core.Path.{_≡_, sym, subst, _∙_, ap}
 use mathlib.Core.Logic.{_⊎_, inl, inr, ⊎-elim}
-use Prim.Native.Nat.{ℕ, zero, suc, _+_, _-_, _≤_, _<_}
+use Prim.Native.Nat.{ℕ, suc, _-_, _≤_, _<_}
 use native.Mathlib.Omega.{arith}
-use lib.Dec.{ltb, eqb, le→leb, ltb→lt, lit≤}
+use lib.Dec.{ltb, le→leb, ltb→lt, lit≤}
 use lib.IntN.{ℤ, pos, negsuc, +ℤ-comm, -ℤ-+ℤ-cancel}
 use lib.Signed.{_≤ℤ_, _<ℤ_}
-use borrow.Author.Tests.{lt-ltb, le-ltb, ne-eqb, eq-eqb, eqb-true}
+use borrow.Author.Tests.{lt-ltb, le-ltb, ne-eqb}
 use Rattle.table.specs.Fold.{if}
 use Rattle.table.specs.Refusal.{given, _or-next_}
 use Rattle.table.specs.Admission.{loadOf, numbersRefusal, streamRefusal, streamRefusalAt, streamsRefusal, partsRefusal, admissionOf}
-use Rattle.table.specs.Margin.{lessLoad, marginOf, leftOf, overOf, eqZ, margin, answered, answerOf, numberIn, marginIn}
+use Rattle.table.specs.Margin.{marginOf, overOf, margin, answered, answerOf, numberIn, marginIn}
 use Rattle.table.specs.Laws.{MarginIsExact, MarginDecides, OverIsExact, AnswerCarriesMargin}
 use Rattle.table.specs.declared.Table.{Table}
 use Rattle.table.specs.declared.margin.Margin.{Margin}
 use Rattle.table.specs.declared.Admission.{Admission}
 use Rattle.table.specs.declared.Admission.the-variants.{Admitted, Refused, Over}
-use Rattle.table.proofs.Tests.{le-or-lt, same-test, given-high, or-next-high, or-next-first, or-next-assoc}
+use Rattle.table.proofs.Tests.{le-or-lt, given-high, or-next-high, or-next-first, or-next-assoc}
 use Rattle.table.proofs.Folds.{first-is}
-use Rattle.table.proofs.Bits.{sub-left, sub-over}
-
--- the span less a load that fits it, and one that is over it
-pub less-left : (a b : ℕ) → b ≤ a → lessLoad a b ≡ pos (a - b)
-less-left a zero l = ap pos (let e : a + 0 ≡ a - 0 = omega arith in e)
-less-left a (suc b) l = sub-left a (suc b) l
-
-pub less-over : (a b : ℕ) → a < b → lessLoad a b ≡ negsuc (b - suc a)
-less-over a zero l = absurd (omega arith)
-less-over a (suc b) l = sub-over a (suc b) l
-
--- a number is that difference exactly if as much is left, or over
-equal-suc : (a b : ℕ) → eqb (suc a) (suc b) ≡ eqb a b
-equal-suc a b = same-test _ _ (λ t. eq-eqb a b (omega (arith, eqb-true (suc a) (suc b) t))) (λ t. eq-eqb (suc a) (suc b) (omega (arith, eqb-true a b t)))
-
-pub is-left : (z : ℤ) (span load : ℕ) → load ≤ span → (eqb (overOf z) 0 && eqb (leftOf z) (span - load)) ≡ eqZ z (lessLoad span load)
-unfolding leftOf overOf eqZ
-is-left (pos n) span load l = rw (less-left span load l)
-is-left (negsuc n) span load l = rw (less-left span load l, ne-eqb (suc n) 0 (λ e. omega arith))
-
-pub is-over : (z : ℤ) (span load : ℕ) → span < load → eqb (overOf z) (load - span) ≡ eqZ z (lessLoad span load)
-unfolding overOf eqZ
-is-over (pos n) span load l = rw (less-over span load l) (ne-eqb 0 (load - span) (λ e. omega arith))
-is-over (negsuc n) span load l =
-    let e : load - span ≡ suc (load - suc span) = omega arith in
-    rw (less-over span load l, e) (equal-suc n (load - suc span))
+use Rattle.table.proofs.Whole.{less-left, less-over}
 
 pub margin-is-exact : MarginIsExact
 unfolding marginOf
@@ -69,21 +44,21 @@ pub parts-first : (t : Table) → (partsRefusal t ≡ 0 → ⊥) → admissionOf
 parts-first t ne = in-order t ∙ or-next-first (partsRefusal t) _ ne
 
 -- what the load decides, with the margin: the load fits, or it is over
-pub record Left (t : Table) : Type 0 where
+pub record Within (t : Table) : Type 0 where
   pub admits : admissionOf t ≡ 0
   pub is : marginOf t ≡ pos (t .span - loadOf t)
 
-pub record Exceeded (t : Table) : Type 0 where
+pub record Beyond (t : Table) : Type 0 where
   pub refuses : admissionOf t ≡ 7
   pub is : marginOf t ≡ negsuc (loadOf t - suc (t .span))
 
-pub left : (t : Table) → partsRefusal t ≡ 0 → loadOf t ≤ t .span → Left t
+pub within : (t : Table) → partsRefusal t ≡ 0 → loadOf t ≤ t .span → Within t
 unfolding marginOf
-left t z l = record { admits = load-fits t z l; is = less-left (t .span) (loadOf t) l }
+within t z l = record { admits = load-fits t z l; is = less-left (t .span) (loadOf t) l }
 
-pub exceeded : (t : Table) → partsRefusal t ≡ 0 → t .span < loadOf t → Exceeded t
+pub beyond : (t : Table) → partsRefusal t ≡ 0 → t .span < loadOf t → Beyond t
 unfolding marginOf
-exceeded t z l = record { refuses = load-over t z l; is = less-over (t .span) (loadOf t) l }
+beyond t z l = record { refuses = load-over t z l; is = less-over (t .span) (loadOf t) l }
 
 not-negative : (n : ℕ) → pos 0 ≤ℤ pos n
 not-negative n = record { le = le→leb 0 n (omega arith) }
@@ -95,12 +70,12 @@ pub margin-decides : MarginDecides
 margin-decides t z =
     ⊎-elim
     (λ (l : loadOf t ≤ t .span).
-    let q = left t z l in (
+    let q = within t z l in (
       (λ (e : admissionOf t ≡ 7). absurd (omega (arith, q .admits, e)), λ (n : marginOf t <ℤ pos 0). absurd (negative-not _ (subst (λ (m : ℤ). m <ℤ pos 0) (q .is) n))),
       (λ _. rw (q .is) (not-negative _), λ _. q .admits),
     ))
     (λ (l : t .span < loadOf t).
-    let q = exceeded t z l in (
+    let q = beyond t z l in (
       (λ _. rw (q .is) (record { lt = tt }), λ _. q .refuses),
       (λ (e : admissionOf t ≡ 0). absurd (omega (arith, q .refuses, e)), λ (n : pos 0 ≤ℤ marginOf t). absurd (subst (λ (m : ℤ). pos 0 ≤ℤ m) (q .is) n .le)),
     ))
@@ -128,20 +103,20 @@ pub over-is-exact : OverIsExact
 unfolding overOf
 over-is-exact t e =
     let h = over-load t e in
-    rw (exceeded t (h .0) (h .1) .is) (omega (arith, h .1), omega arith)
+    rw (beyond t (h .0) (h .1) .is) (omega (arith, h .1), omega arith)
 
--- what is answered where one of 1 to 6 refuses, where the load fits, and where it is over the span
-pub answered-first : (t : Table) → (partsRefusal t ≡ 0 → ⊥) → answerOf t ≡ Refused (partsRefusal t)
+-- what is answered where one of 1 to 6 refuses, where nothing does, and by 7
+pub answer-first : (t : Table) → (partsRefusal t ≡ 0 → ⊥) → answerOf t ≡ Refused (partsRefusal t)
 unfolding answerOf answered if
-answered-first t ne = rw (parts-first t ne, ne-eqb (partsRefusal t) 0 ne, ne-eqb (partsRefusal t) 7 (λ e. omega (arith, parts-high t)))
+answer-first t ne = rw (parts-first t ne, ne-eqb (partsRefusal t) 0 ne, ne-eqb (partsRefusal t) 7 (λ e. omega (arith, parts-high t)))
 
-pub answered-left : (t : Table) → partsRefusal t ≡ 0 → loadOf t ≤ t .span → answerOf t ≡ Admitted (margin (marginOf t))
+pub answer-admits : (t : Table) → admissionOf t ≡ 0 → answerOf t ≡ Admitted (margin (marginOf t))
 unfolding answerOf answered if
-answered-left t z l = rw (load-fits t z l)
+answer-admits t z = rw z
 
-pub answered-over : (t : Table) → partsRefusal t ≡ 0 → t .span < loadOf t → answerOf t ≡ Over (margin (marginOf t))
+pub answer-over : (t : Table) → admissionOf t ≡ 7 → answerOf t ≡ Over (margin (marginOf t))
 unfolding answerOf answered if
-answered-over t z l = rw (load-over t z l)
+answer-over t seven = rw seven
 
 pub answer-carries-margin : AnswerCarriesMargin
 answer-carries-margin t =
@@ -149,12 +124,12 @@ answer-carries-margin t =
     (λ (u : partsRefusal t ≤ 0).
     let none : partsRefusal t ≡ 0 = omega arith in
     ⊎-elim
-    (λ (l : loadOf t ≤ t .span). let e = answered-left t none l in (ap numberIn e ∙ sym (load-fits t none l), λ _. ap marginIn e, λ ne. absurd (ne none)))
-    (λ (l : t .span < loadOf t). let e = answered-over t none l in (ap numberIn e ∙ sym (load-over t none l), λ _. ap marginIn e, λ ne. absurd (ne none)))
+    (λ (l : loadOf t ≤ t .span). let e = answer-admits t (load-fits t none l) in (ap numberIn e ∙ sym (load-fits t none l), λ _. ap marginIn e, λ ne. absurd (ne none)))
+    (λ (l : t .span < loadOf t). let e = answer-over t (load-over t none l) in (ap numberIn e ∙ sym (load-over t none l), λ _. ap marginIn e, λ ne. absurd (ne none)))
     (le-or-lt (loadOf t) (t .span)))
     (λ (u : 0 < partsRefusal t).
     let some : partsRefusal t ≡ 0 → ⊥ = λ z. omega arith in
-    let e = answered-first t some in
+    let e = answer-first t some in
     (ap numberIn e ∙ sym (parts-first t some), λ z. absurd (some z), λ _. ap marginIn e))
     (le-or-lt (partsRefusal t) 0)
 
@@ -163,11 +138,7 @@ pub parts-or-load : (t : Table) → partsRefusal t ≡ 0 → (admissionOf t ≡ 
 parts-or-load t z =
     ⊎-elim (λ (l : loadOf t ≤ t .span). inl (load-fits t z l)) (λ (l : t .span < loadOf t). inr (load-over t z l)) (le-or-lt (loadOf t) (t .span))
 
--- so of a table that is admitted, the answer is its margin; and one that is refused is not admitted
-pub answer-admits : (t : Table) → admissionOf t ≡ 0 → answerOf t ≡ Admitted (margin (marginOf t))
-unfolding answerOf answered if
-answer-admits t z = rw z
-
+-- so the answer has the case of an admitted table only for one that is
 pub admitted-only : (t : Table) (m : Margin) → answerOf t ≡ Admitted m → (admissionOf t ≡ 0) × (m ≡ margin (marginOf t))
 admitted-only t m e =
     let z = sym (answer-carries-margin t .0) ∙ ap numberIn e in

@@ -1,39 +1,25 @@
 -- A table with another reserved time for one stream: when it is admitted, and how far its load is from that of the first.
 use mathlib.Core.Bool.{not}
-use mathlib.Core.Logic.{⊎-elim, _↔_}
+use mathlib.Core.Logic.{_↔_}
 use mathlib.Core.Path.{_≡_, refl, sym, _∙_, ap}
-use Prim.Native.Nat.{ℕ, zero, suc, _+_, _*_, _/_, _%_, _≤_, _<_}
-use native.Mathlib.Nat.{not-suc-le-zero, add-mul}
+use Prim.Native.Nat.{ℕ, _+_, _-_, _*_, _/_, _%_, _≤_, _<_}
+use native.Mathlib.Nat.{add-mul}
 use native.Mathlib.Decide.{ℕ-discrete}
 use native.Mathlib.Omega.{arith}
 use lib.Dec.{eqb}
 use lib.IntN.{ℤ, pos, negℤ, _+ℤ_, _-ℤ_, +ℤ-assoc, negℤ-+ℤ}
 use borrow.Author.Tests.{le-ltb, ne-eqb, eq-eqb}
-use Rattle.table.specs.Fold.{if, sumTo}
+use Rattle.table.specs.Fold.{if}
 use Rattle.table.specs.Refusal.{given, _or-next_, outside}
 use Rattle.table.specs.Ranges.{streams-max, period-min, period-max}
 use Rattle.table.specs.Admission.{reservedAt, periodAt, withReserved, paddingOf, grantedOf, shareOf, shareAt, sharesOf, smallestPeriod, loadOf, numbersRefusal, streamRefusal, streamRefusalAt, streamsRefusal, partsRefusal, admissionOf}
 use Rattle.table.specs.Margin.{lessLoad, marginOf}
 use Rattle.table.specs.Laws.{RaisingLowers}
 use Rattle.table.specs.declared.Table.{Table}
-use Rattle.table.proofs.Tests.{le-or-lt}
-use Rattle.table.proofs.Folds.{sum-agree, first-all}
+use Rattle.table.proofs.Folds.{sum-other, first-all}
 use Rattle.table.proofs.Lists.{getD-listTo}
 use Rattle.table.proofs.Judged.{Fits-in, streams-of, parts-none, admits-of}
 use Rattle.table.proofs.Margins.{load-fits}
-
--- two sums that differ at one place differ by what stands there
-sum-other : (f g : ℕ → ℕ) (n i : ℕ) → i < n → ((j : ℕ) → j < n → (j ≡ i → ⊥) → f j ≡ g j) → sumTo f n + g i ≡ sumTo g n + f i
-unfolding sumTo
-sum-other f g zero i l h = absurd (not-suc-le-zero l)
-sum-other f g (suc n) i l h =
-    ⊎-elim
-    (λ (u : n ≤ i).
-    let e : n ≡ i = omega arith in
-    let before = sum-agree f g n (λ j v. h j (omega arith) (λ (w : j ≡ i). omega arith)) in
-    rw (before, e) (omega arith))
-    (λ (u : i < n). omega (arith, sum-other f g n i u (λ j v. h j (omega arith)), h n (omega arith) (λ (w : n ≡ i). omega arith)))
-    (le-or-lt n i)
 
 -- a stream whose reservation is in order is not refused
 pub stream-passes : (worst span k e p : ℕ) → Fits-in worst span k e p → streamRefusal worst span k e p ≡ 0
@@ -110,14 +96,24 @@ module _ (t : Table) (i e : ℕ) (few : t .count ≤ streams-max) (l : i < t .co
       λ a. load-fits other (parts-pass a) (a .load),
     )
 
+-- the load with x more, and with x less
+pub load-raised : (t : Table) (i x : ℕ) → t .count ≤ streams-max → i < t .count
+    → loadOf (withReserved t i (reservedAt t i + x)) ≡ loadOf t + x * (t .span / periodAt t i)
+load-raised t i x few l =
+    omega (arith, load-other t i (reservedAt t i + x) few l, add-mul (reservedAt t i) x (t .span / periodAt t i))
+
+pub load-lowered : (t : Table) (i x : ℕ) → t .count ≤ streams-max → i < t .count → x ≤ reservedAt t i
+    → loadOf (withReserved t i (reservedAt t i - x)) + x * (t .span / periodAt t i) ≡ loadOf t
+load-lowered t i x few l le =
+    let e = reservedAt t i in
+    let q = t .span / periodAt t i in
+    let back : e - x + x ≡ e = omega arith in
+    omega (arith, load-other t i (e - x) few l, add-mul (e - x) x q, ap (λ n. n * q) back)
+
 -- what is taken off twice is taken off together
 less-more : (a b d : ℕ) → lessLoad a (b + d) ≡ lessLoad a b -ℤ pos d
 less-more a b d = ap (λ (z : ℤ). pos a +ℤ z) (negℤ-+ℤ (pos b) (pos d)) ∙ sym (+ℤ-assoc (pos a) (negℤ (pos b)) (negℤ (pos d)))
 
 pub raising-lowers : RaisingLowers
 unfolding marginOf
-raising-lowers t i x few l =
-    let q = t .span / periodAt t i in
-    let load : loadOf (withReserved t i (reservedAt t i + x)) ≡ loadOf t + x * q
-    = omega (arith, load-other t i (reservedAt t i + x) few l, add-mul (reservedAt t i) x q) in
-    ap (lessLoad (t .span)) load ∙ less-more (t .span) (loadOf t) (x * q)
+raising-lowers t i x few l = ap (lessLoad (t .span)) (load-raised t i x few l) ∙ less-more (t .span) (loadOf t) (x * (t .span / periodAt t i))

@@ -17,14 +17,15 @@ lessLoad span load = pos span -ℤ pos load
 unfoldable pub marginOf : Table → ℤ
 marginOf t = lessLoad (t .span) (loadOf t)
 
--- as the code holds it, in 64 bits with the sign: they are enough for a load of up to so much, and where it is judged none is more
+-- as the code holds it, in 64 bits with the sign
 abbrev pub margin : ℤ → Margin
 margin m = record { 0 = m }
 
+-- for a load of up to this they are enough, and where it is judged none is more
 abbrev pub load-max : ℕ
 load-max = 1_000_000_000_000_000_000
 
--- whether two of them are one
+-- whether two whole numbers are the same
 unfoldable pub eqZ : ℤ → ℤ → Bool
 eqZ (pos a) (pos b) = eqb a b
 eqZ (pos a) (negsuc b) = false

@@ -50,7 +50,7 @@ impl Admission {
     {
         match self {
             Admission::Admitted(margin) => margin,
-            Admission::Refused(_) => Margin::none(),
+            Admission::Refused(_) => Margin(0),
             Admission::Over(margin) => margin,
         }
     }

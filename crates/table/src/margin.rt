@@ -24,16 +24,14 @@ impl Margin {
         Margin(0)
     }
 
-    // Whether it is the span less the load, for any two numbers.
-    pub fn is(self, span: u32, load: u64) -> bool
-        ensures { λ r. ⌜ r ≡ eqZ (self .0) (lessLoad span load) ⌝ }
+    // Whether so much is left of the span.
+    pub fn is_left(self, left: u64) -> bool
+        ensures { λ r. ⌜ r ≡ eqZ (self .0) (pos left) ⌝ }
     {
-        let left = self.left();
-        let over = self.over();
-        if (span as u64) < load {
-            return over == load - span as u64;
+        if self.0 < 0 {
+            return false;
         }
-        (over == 0) & (left == span as u64 - load)
+        self.0 as u64 == left
     }
 
     // What is left of the span: how far the margin is above 0, and 0 where it is not.

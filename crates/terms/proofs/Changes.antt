@@ -3,7 +3,7 @@ use mathlib.Core.Bool.{false}
 use mathlib.Core.Logic.{_↔_, ⊎-elim}
 use mathlib.Core.Path.{_≡_, sym, subst, _∙_, ap}
 use Prim.Native.Nat.{ℕ, suc, _+_, _-_, _*_, _/_, _≤_, _<_, min}
-use native.Mathlib.Nat.{zero-mul, add-mul, le-div-iff-mul-le, div-lt-iff-lt-mul}
+use native.Mathlib.Nat.{zero-mul, le-div-iff-mul-le, div-lt-iff-lt-mul}
 use native.Mathlib.Omega.{arith}
 use lib.Dec.{eqb}
 use borrow.Author.Tests.{lt-ltb, le-ltb, ne-eqb}
@@ -13,10 +13,10 @@ use Rattle.table.specs.Margin.{marginOf, leftOf, overOf}
 use Rattle.table.specs.declared.Table.{Table}
 use Rattle.table.proofs.Tests.{le-or-lt}
 use Rattle.table.proofs.Judged.{Fits-in, numbers-of, streams-of, parts-none, load-is-exact}
-use Rattle.table.proofs.Margins.{left, exceeded}
-use Rattle.table.proofs.Others.{load-other, other-admitted}
+use Rattle.table.proofs.Margins.{within, beyond}
+use Rattle.table.proofs.Others.{load-raised, load-lowered, other-admitted}
 use Rattle.terms.specs.Terms.{roomOf, shrinkOf, changeOf}
-use Rattle.terms.specs.Laws.{changeAt, Holds, ChangeIsExact}
+use Rattle.terms.specs.Laws.{changeAt, ChangeHolds, ChangeIsExact}
 use Rattle.terms.specs.declared.Change.{Change}
 use Rattle.terms.specs.declared.Change.the-variants.{Grow, Shrink, NotAlone}
 
@@ -55,15 +55,6 @@ module _ (t : Table) (i : ℕ) (parts : partsRefusal t ≡ 0) (l : i < t .count)
   own : Fits-in (t .worst) (t .span) (t .padding) e p
   own = streams-of t (parts-none t parts .1) i l
 
-  -- the load of the other table
-  raised : (x : ℕ) → loadOf (withReserved t i (e + x)) ≡ loadOf t + x * q
-  raised x = omega (arith, load-other t i (e + x) few l, add-mul e x q)
-
-  lowered : (x : ℕ) → x ≤ e → loadOf (withReserved t i (e - x)) + x * q ≡ loadOf t
-  lowered x le =
-      let back : e - x + x ≡ e = omega arith in
-      omega (arith, load-other t i (e - x) few l, add-mul (e - x) x q, ap (λ n. n * q) back)
-
   -- where the load fits
   module _ (fits : loadOf t ≤ t .span) where
     room : (x : ℕ) → (admissionOf (withReserved t i (e + x)) ≡ 0) ↔ (x ≤ roomOf (marginOf t) (t .worst) (t .span) (t .padding) e p)
@@ -72,10 +63,10 @@ module _ (t : Table) (i : ℕ) (parts : partsRefusal t ≡ 0) (l : i < t .count)
         let judged = other-admitted t i (e + x) few l parts in
         let budget = granted-more (t .worst) (t .padding) e x in
         let by-load = le-div-iff-mul-le {k = q} {x = x} {y = t .span - loadOf t} some-times in
-        rw (left t parts fits .is) (
+        rw (within t parts fits .is) (
           λ h.
               let a = judged .0 h in
-              let one : x ≤ (t .span - loadOf t) / q = by-load .1 (omega (arith, a .load, raised x)) in
+              let one : x ≤ (t .span - loadOf t) / q = by-load .1 (omega (arith, a .load, load-raised t i x few l)) in
               omega (arith, one, a .budget, budget),
           λ (few-more : x ≤ min ((t .span - loadOf t) / q) (p - grantedOf (t .worst) (t .padding) e)).
               let one : x * q ≤ t .span - loadOf t = by-load .0 (omega (arith, few-more)) in
@@ -83,7 +74,7 @@ module _ (t : Table) (i : ℕ) (parts : partsRefusal t ≡ 0) (l : i < t .count)
               (record {
                 some = λ z. own .reserved-low (omega (arith, z));
                 budget = omega (arith, few-more, budget, own .budget);
-                load = omega (arith, one, raised x, fits);
+                load = omega (arith, one, load-raised t i x few l, fits);
               }),
         )
 
@@ -95,10 +86,10 @@ module _ (t : Table) (i : ℕ) (parts : partsRefusal t ≡ 0) (l : i < t .count)
         let judged = other-admitted t i (e - x) few l parts in
         let by-load = div-lt-iff-lt-mul {k = q} {x = loadOf t - suc (t .span)} {y = x} some-times in
         let above : suc (loadOf t - suc (t .span)) - 1 ≡ loadOf t - suc (t .span) = omega arith in
-        rw (exceeded t parts over .is, above) (
+        rw (beyond t parts over .is, above) (
           λ h.
               let a = judged .0 h in
-              let one = by-load .1 (omega (arith, a .load, lowered x (omega arith), over)) in
+              let one = by-load .1 (omega (arith, a .load, load-lowered t i x few l (omega arith), over)) in
               omega (arith, one),
           λ (enough : (loadOf t - suc (t .span)) / q + 1 ≤ x).
               let one : loadOf t - suc (t .span) < x * q = by-load .0 (omega (arith, enough)) in
@@ -106,18 +97,18 @@ module _ (t : Table) (i : ℕ) (parts : partsRefusal t ≡ 0) (l : i < t .count)
               (record {
                 some = λ z. omega (arith, z, le);
                 budget = omega (arith, granted-less (t .worst) (t .padding) e x, own .budget);
-                load = omega (arith, one, lowered x (omega arith), over);
+                load = omega (arith, one, load-lowered t i x few l (omega arith), over);
               }),
         )
 
   -- a choice by the amount over, and by what is left of the reserved time
   grows : loadOf t ≤ t .span → changeAt t i ≡ Grow (roomOf (marginOf t) (t .worst) (t .span) (t .padding) e p)
   unfolding changeOf overOf if
-  grows fits = rw (left t parts fits .is)
+  grows fits = rw (within t parts fits .is)
 
   exceeds : t .span < loadOf t → (eqb (overOf (marginOf t)) 0) ≡ false
   unfolding overOf
-  exceeds over = rw (exceeded t parts over .is) (ne-eqb (suc (loadOf t - suc (t .span))) 0 (λ z. omega arith))
+  exceeds over = rw (beyond t parts over .is) (ne-eqb (suc (loadOf t - suc (t .span))) 0 (λ z. omega arith))
 
   shrinks : t .span < loadOf t → shrinkOf (marginOf t) (t .span) p < e → changeAt t i ≡ Shrink (shrinkOf (marginOf t) (t .span) p)
   unfolding changeOf if
@@ -131,12 +122,12 @@ pub change-is-exact : ChangeIsExact
 change-is-exact t i parts l =
     let n = shrinkOf (marginOf t) (t .span) (periodAt t i) in
     ⊎-elim
-    (λ (fits : loadOf t ≤ t .span). subst (Holds t i) (sym (grows t i parts l fits)) (room t i parts l fits))
+    (λ (fits : loadOf t ≤ t .span). subst (ChangeHolds t i) (sym (grows t i parts l fits)) (room t i parts l fits))
     (λ (over : t .span < loadOf t).
     ⊎-elim
     (λ (more : reservedAt t i ≤ n).
-    subst (Holds t i) (sym (not-alone t i parts l over more))
+    subst (ChangeHolds t i) (sym (not-alone t i parts l over more))
     (λ x less h. omega (arith, shrink t i parts l over x less .0 h)))
-    (λ (less : n < reservedAt t i). subst (Holds t i) (sym (shrinks t i parts l over less)) (less, shrink t i parts l over))
+    (λ (less : n < reservedAt t i). subst (ChangeHolds t i) (sym (shrinks t i parts l over less)) (less, shrink t i parts l over))
     (le-or-lt (reservedAt t i) n))
     (le-or-lt (loadOf t) (t .span))

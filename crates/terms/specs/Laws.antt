@@ -28,17 +28,17 @@ NothingCut =
 abbrev pub changeAt : Table → ℕ → Change
 changeAt t i = changeOf (marginOf t) (t .worst) (t .span) (t .padding) (reservedAt t i) (periodAt t i)
 
--- what a change says of a stream: with so much more, and no more, the table is admitted; with so much less, and no less, which leaves a reserved time; or with none that is less
-abbrev pub Holds : Table → ℕ → Change → Type 0
-Holds t i (Grow n) = (x : ℕ) → (admissionOf (withReserved t i (reservedAt t i + x)) ≡ 0) ↔ (x ≤ n)
-Holds t i (Shrink n) =
+-- what a change says of a stream. Grow n: with x more the table is admitted exactly if x ≤ n. Shrink n: with x less it is exactly if n ≤ x, and n leaves a reserved time. Not alone: with no smaller reserved time it is.
+abbrev pub ChangeHolds : Table → ℕ → Change → Type 0
+ChangeHolds t i (Grow n) = (x : ℕ) → (admissionOf (withReserved t i (reservedAt t i + x)) ≡ 0) ↔ (x ≤ n)
+ChangeHolds t i (Shrink n) =
     (n < reservedAt t i)
     × ((x : ℕ) → x < reservedAt t i → (admissionOf (withReserved t i (reservedAt t i - x)) ≡ 0) ↔ (n ≤ x))
-Holds t i NotAlone = (x : ℕ) → x < reservedAt t i → admissionOf (withReserved t i (reservedAt t i - x)) ≡ 0 → ⊥
+ChangeHolds t i NotAlone = (x : ℕ) → x < reservedAt t i → admissionOf (withReserved t i (reservedAt t i - x)) ≡ 0 → ⊥
 
 -- It is so of each stream, where the load is judged: what a clerk reads off the card is what opening will say.
 abbrev pub ChangeIsExact : Type 0
-ChangeIsExact = (t : Table) (i : ℕ) → partsRefusal t ≡ 0 → i < t .count → Holds t i (changeAt t i)
+ChangeIsExact = (t : Table) (i : ℕ) → partsRefusal t ≡ 0 → i < t .count → ChangeHolds t i (changeAt t i)
 
 abbrev pub termsAt : Table → ℕ → Terms
 termsAt t i = termsOf (t .worst) (t .padding) (reservedAt t i)

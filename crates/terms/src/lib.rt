@@ -93,6 +93,7 @@ fn less(a: u64, b: u64) -> u64
     a - b
 }
 
+// The smaller of two.
 fn smaller(a: u64, b: u64) -> u64
     ensures { λ r. ⌜ r ≡ min a b ⌝ }
 {

@@ -2,7 +2,7 @@
 use mathlib.Core.List.{List, [], _∷_}
 use mathlib.Core.Logic.{⊎-elim}
 use mathlib.Core.Path.{_≡_, refl, ap, _∙_}
-use Prim.Native.Nat.{ℕ, zero, suc, _≤_}
+use Prim.Native.Nat.{ℕ, _≤_}
 use native.Mathlib.Omega.{arith}
 use borrow.Author.Tests.{ne-eqb}
 use Rattle.table.specs.Fold.{if}
@@ -13,6 +13,7 @@ use Rattle.table.specs.declared.margin.Margin.{Margin}
 use Rattle.table.proofs.Margins.{over-load, over-is-exact, answer-carries-margin, parts-or-load}
 use Rattle.session.specs.Opening.{openingOf}
 use Rattle.listing.specs.Line.{ascii, decimal, rendered, refusedWord, wordedFields, refusedFields}
+use Rattle.listing.proofs.Words.{refused-with}
 use Rattle.trace.specs.Trace.{runOf}
 use Rattle.trace.specs.Laws.{RefusalPrints}
 
@@ -22,11 +23,10 @@ refused-run : (t : Table) (trace : List ℕ) → (admissionOf t ≡ 0 → ⊥)
 unfolding runOf openingOf if
 refused-run t trace some = rw (ne-eqb (admissionOf t) 0 some)
 
--- an amount that is not 0 stands in it, and no other does
+-- with the amount, or without
 with-amount : (number over : ℕ) → 1 ≤ over → refusedFields number over ≡ refusedWord ∷ decimal number ∷ decimal over ∷ []
-unfolding refusedFields wordedFields ascii
-with-amount number zero some = absurd (omega arith)
-with-amount number (suc n) some = refl
+unfolding wordedFields ascii
+with-amount number over some = refused-with number over (λ z. omega arith)
 
 without-amount : (number : ℕ) → refusedFields number 0 ≡ refusedWord ∷ decimal number ∷ []
 unfolding refusedFields wordedFields ascii

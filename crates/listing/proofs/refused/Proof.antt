@@ -1,16 +1,9 @@
 -- `refused` is the line of its word and the number, and of the amount over where there is one.
 use mathlib.Core.Path.{_≡_, refl, sym, ap, _∙_}
-use Prim.Native.Nat.{ℕ, zero, suc}
-use mathlib.Core.List.{[], _∷_}
-use Rattle.listing.specs.Line.{ascii, refusedWord, wordedFields, refusedFields, textOf}
+use Rattle.listing.specs.Line.{ascii, refusedFields, textOf}
+use Rattle.listing.proofs.Words.{refused-with}
 use Rattle.listing.proofs.refused.Statement.{statement}
 use Rattle.listing.proofs.refused.Tie as tie
-
--- an amount that is not 0 stands behind the number
-with-amount : (number over : ℕ) → (over ≡ 0 → ⊥) → wordedFields refusedWord (number ∷ over ∷ []) ≡ refusedFields number over
-unfolding refusedFields
-with-amount number zero some = absurd (some refl)
-with-amount number (suc n) some = refl
 
 slice-aggregate-worded : tie.Need-slice-aggregate-worded
 slice-aggregate-worded c = refl
@@ -41,7 +34,7 @@ returns-2 : tie.Need-returns-2
 unfolding ascii
 returns-2 c =
     let a = c .before .before .before .before .args in
-    (c .worded2 .ensures .0 ∙ ap textOf (with-amount (a .number) (a .over) (c .before .before .before .if1 .left)), c .worded2 .ensures .1)
+    (c .worded2 .ensures .0 ∙ ap textOf (sym (refused-with (a .number) (a .over) (c .before .before .before .if1 .left))), c .worded2 .ensures .1)
 
 pub refused-spec : {M : Type 1} → statement M
 refused-spec =

@@ -27,6 +27,9 @@ table-of-requires c κs = search needs
 open-requires : tie.Need-open-requires
 open-requires c κs = search needs
 
+enum-told-2 : tie.Need-enum-told-2
+enum-told-2 c = search needs
+
 number-requires : tie.Need-number-requires
 number-requires c κs = search needs
 
@@ -80,6 +83,7 @@ replay-spec =
     returns
     table-of-requires
     open-requires
+    enum-told-2
     number-requires
     over-requires
     refused-requires

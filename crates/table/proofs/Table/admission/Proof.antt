@@ -6,7 +6,7 @@ use Rattle.table.specs.Admission.{partsRefusal, loadOf}
 use Rattle.table.specs.Margin.{lessLoad, margin, marginOf}
 use Rattle.table.specs.declared.Admission.the-variants.{Admitted, Refused, Over}
 use Rattle.table.proofs.Judged.{parts-none, load-high}
-use Rattle.table.proofs.Margins.{answered-first, answered-left, answered-over}
+use Rattle.table.proofs.Margins.{load-fits, load-over, answer-first, answer-admits, answer-over}
 use Rattle.table.proofs.Table.admission.Statement.{statement}
 use Rattle.table.proofs.Table.admission.Tie as tie
 
@@ -16,7 +16,7 @@ parts-refusal-requires c κs = tt
 returns : tie.Need-returns
 returns c =
     let n = c .before .parts-refusal in
-    ap Refused (n .ensures) ∙ sym (answered-first _ (λ z. c .if1 .taken (n .ensures ∙ z)))
+    ap Refused (n .ensures) ∙ sym (answer-first _ (λ z. c .if1 .taken (n .ensures ∙ z)))
 
 -- past the first test nothing is refused
 none : (c : tie.Else1) → partsRefusal (c .before .before .args .self) ≡ 0
@@ -42,13 +42,13 @@ returns-2 : tie.Need-returns-2
 returns-2 c =
     let at = c .before .before in
     let over : at .before .before .before .before .args .self .span < loadOf (at .before .before .before .before .args .self) = rw (at .before .load .ensures) at (c .if2 .taken) in
-    ap Over (margin-is at) ∙ sym (answered-over _ (none (at .before .before)) over)
+    ap Over (margin-is at) ∙ sym (answer-over _ (load-over _ (none (at .before .before)) over))
 
 returns-3 : tie.Need-returns-3
 returns-3 c =
     let at = c .before .before in
     let fits : loadOf (at .before .before .before .before .args .self) ≤ at .before .before .before .before .args .self .span = rw (at .before .load .ensures) at (c .if2 .left) in
-    ap Admitted (margin-is at) ∙ sym (answered-left _ (none (at .before .before)) fits)
+    ap Admitted (margin-is at) ∙ sym (answer-admits _ (load-fits _ (none (at .before .before)) fits))
 
 pub admission-spec : {M : Type 1} → statement M
 admission-spec =

@@ -1,14 +1,15 @@
--- `Census::is_sound` tests the load, whose sums are small where all streams are in order, the margin that it leaves, and the releases.
+-- `Census::is_sound` tests the load, whose sums are small where all streams are in order, then the margin that it leaves, and the releases.
 use mathlib.Core.Bool.{Bool, true, false, _&&_}
 use mathlib.Core.Path.{_≡_}
-use Prim.Native.Nat.{_≤_, _*_, _/_}
+use Prim.Native.Nat.{_-_, _≤_, _<_, _*_, _/_}
 use native.Mathlib.Nat.{div-le-self, mul-le-mul}
 use native.Mathlib.Omega.{arith}
 use lib.Dec.{leb}
-use lib.IntN.{ℤ}
-use borrow.Author.Tests.{not-true, not-false}
+use lib.IntN.{ℤ, pos}
+use borrow.Author.Tests.{not-true, not-false, le-leb, lt-leb}
 use borrow.Author.Needs.{needs}
-use Rattle.table.specs.Margin.{lessLoad, eqZ}
+use Rattle.table.specs.Margin.{eqZ}
+use Rattle.table.proofs.Whole.{less-left}
 use Rattle.stream.specs.Search.{loadSo, says}
 use Rattle.stream.specs.declared.census.Census.{Census}
 use Rattle.stream.proofs.census.Census.is_sound.Statement.{statement}
@@ -42,29 +43,41 @@ mul-load c = omega (arith, blocking-high (c .before .before))
 add-load : tie.Need-add-load
 add-load c = omega (arith, blocking-high (c .before .before .before), c .before .before .before .before .before .pre (ok (c .before .before .before)) .countable .shares-high)
 
-is-requires : tie.Need-is-requires
-is-requires c κs = search needs
+cast-span : tie.Need-cast-span
+cast-span c = search needs
+
+-- a load above the span fails
+load-fails : (c : Census) (margin : ℤ) → c .sound ≡ true → c .span < loadSo c → false ≡ says c margin
+unfolding says
+load-fails c margin sound over = rw (sound, lt-leb (loadSo c) (c .span) over)
+
+returns-2 : tie.Need-returns-2
+returns-2 c =
+    let a = c .before .before .before .before .before .before .before .args in
+    load-fails (a .self) (a .margin .0) (ok (c .before .before .before .before .before)) (c .if2 .taken)
+
+is-left-requires : tie.Need-is-left-requires
+is-left-requires c κs = search needs
 
 is-by-requires : tie.Need-is-by-requires
 is-by-requires c κs = search needs
 
-cast-result : tie.Need-cast-result
-cast-result c = search needs
-
--- each test that is made is the definition's
-both-tests : (c : Census) (margin : ℤ) (kept released : Bool) → c .sound ≡ true
-    → kept ≡ eqZ margin (lessLoad (c .span) (loadSo c)) → released ≡ leb (c .released .0) (c .horizon .0)
-    → (leb (loadSo c) (c .span) && kept && released) ≡ says c margin
+-- else margin and releases decide
+both-tests : (c : Census) (margin : ℤ) (kept released : Bool) → c .sound ≡ true → loadSo c ≤ c .span
+    → kept ≡ eqZ margin (pos (c .span - loadSo c)) → released ≡ leb (c .released .0) (c .horizon .0)
+    → (kept && released) ≡ says c margin
 unfolding says
-both-tests c margin kept released sound k r = rw (sound, k, r)
+both-tests c margin kept released sound fits k r =
+    rw (sound, le-leb (loadSo c) (c .span) fits, less-left (c .span) (loadSo c) fits, k, r)
 
-returns-2 : tie.Need-returns-2
-returns-2 c =
-    let a = c .before .before .before .before .before .before .before .before .args in
-    both-tests (a .self) (a .margin .0) (c .before .before .is .result) (c .before .is-by .result)
-    (ok (c .before .before .before .before .before .before))
-    (c .before .before .is .ensures)
-    (c .before .is-by .ensures)
+returns-3 : tie.Need-returns-3
+returns-3 c =
+    let a = c .before .before .before .before .before .before .before .before .before .args in
+    both-tests (a .self) (a .margin .0) (c .before .is-left .result) (c .is-by .result)
+    (ok (c .before .before .before .before .before .before .before))
+    (c .before .before .if2 .left)
+    (c .before .is-left .ensures)
+    (c .is-by .ensures)
 
 pub is-sound-spec : {M : Type 1} → statement M
 is-sound-spec =
@@ -76,7 +89,8 @@ is-sound-spec =
     cast-load-2
     mul-load
     add-load
-    is-requires
+    cast-span
+    returns-2
+    is-left-requires
     is-by-requires
-    cast-result
-    returns-2)
+    returns-3)

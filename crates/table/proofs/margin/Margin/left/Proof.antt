@@ -6,7 +6,7 @@ use lib.IntN.{ℤ, natAbs}
 use lib.Signed.{nonNeg}
 use mir.Syntax.{w64}
 use mir.Val.{Fits}
-use Rattle.table.proofs.Bits.{NotBelow, below, not-below}
+use Rattle.table.proofs.Whole.{NotBelow, below, not-below}
 use Rattle.table.proofs.margin.Margin.left.Statement.{statement}
 use Rattle.table.proofs.margin.Margin.left.Tie as tie
 

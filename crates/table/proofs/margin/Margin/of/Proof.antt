@@ -3,7 +3,7 @@ use mathlib.Core.Path.{ap}
 use native.Mathlib.Omega.{arith}
 use borrow.Author.Needs.{needs}
 use Rattle.table.specs.Margin.{margin}
-use Rattle.table.proofs.Bits.{Difference, difference}
+use Rattle.table.proofs.Whole.{Difference, difference}
 use Rattle.table.proofs.margin.Margin.of.Statement.{statement}
 use Rattle.table.proofs.margin.Margin.of.Tie as tie
 

@@ -6,7 +6,7 @@ use lib.Dec.{T}
 use lib.Signed.{nonNeg}
 use mir.Syntax.{w64}
 use mir.Val.{Fits}
-use Rattle.table.proofs.Bits.{Below, below, not-below}
+use Rattle.table.proofs.Whole.{Below, below, not-below}
 use Rattle.table.proofs.margin.Margin.over.Statement.{statement}
 use Rattle.table.proofs.margin.Margin.over.Tie as tie
 

@@ -1,24 +1,30 @@
--- A number of 64 bits with a sign, by its bits: `ofZ` gives the bits of a number, and `toZ` the number of bits.
+-- Whole numbers of either sign: differences, the test of two for being one, and how 64 bits hold them. `ofZ` gives the bits of a number, and `toZ` the number that bits stand for.
 use mathlib.Core.Bool.{true, false, false≢true}
 use mathlib.Core.Path.{_≡_, refl, sym, subst, _∙_, ap}
 use mathlib.Core.Logic.{⊎-elim}
 use Prim.Native.Nat.{ℕ, zero, suc, _+_, _-_, _≤_, _<_, _^_}
 use native.Mathlib.Omega.{arith}
+use lib.Dec.{eqb}
 use lib.IntN.{ℤ, pos, negsuc, negℤ, subℕ, _+ℤ_, _-ℤ_}
 use lib.Signed.{ltZ}
 use mir.Syntax.{w64}
 use mir.Val.{SFits, toZ, ofZ}
 use mir.ValLaws.{toZ-pos, toZ-ofZ}
 use borrow.Author.Tests.{lt-ltb, le-ltb, eq-eqb, eqb-true}
-use Rattle.table.specs.Margin.{leftOf, overOf, eqZ}
+use Rattle.table.specs.Margin.{lessLoad, leftOf, overOf, eqZ}
 use Rattle.table.proofs.Tests.{le-or-lt}
 
--- a difference of two numbers is what is left, or what is over
-pub sub-left : (a b : ℕ) → b ≤ a → subℕ a b ≡ pos (a - b)
-sub-left a b l = rw (le-ltb a b l)
-
-pub sub-over : (a b : ℕ) → a < b → subℕ a b ≡ negsuc (b - suc a)
+-- a difference is what is left, or what is over
+sub-over : (a b : ℕ) → a < b → subℕ a b ≡ negsuc (b - suc a)
 sub-over a b l = rw (lt-ltb a b l)
+
+pub less-left : (a b : ℕ) → b ≤ a → lessLoad a b ≡ pos (a - b)
+less-left a zero l = ap pos (let e : a + 0 ≡ a - 0 = omega arith in e)
+less-left a (suc b) l = rw (le-ltb a (suc b) l)
+
+pub less-over : (a b : ℕ) → a < b → lessLoad a b ≡ negsuc (b - suc a)
+less-over a zero l = absurd (omega arith)
+less-over a (suc b) l = sub-over a (suc b) l
 
 -- of two numbers of 63 bits the difference is read as it is
 pub record Difference (a b : ℕ) : Type 0 where
@@ -26,11 +32,11 @@ pub record Difference (a b : ℕ) : Type 0 where
   pub is : toZ w64 (ofZ w64 (toZ w64 a -ℤ toZ w64 b)) ≡ pos a -ℤ pos b
 
 less-fits : (a b : ℕ) → a < 2 ^ 63 → b < 2 ^ 63 → SFits w64 (pos a -ℤ pos b)
-less-fits a zero k l = record { sfits = omega arith }
-less-fits a (suc b) k l = ⊎-elim
-    (λ (u : suc b ≤ a). subst (SFits w64) (sym (sub-left a (suc b) u)) (record { sfits = omega arith }))
-    (λ (u : a < suc b). subst (SFits w64) (sym (sub-over a (suc b) u)) (record { sfits = omega arith }))
-    (le-or-lt (suc b) a)
+less-fits a b k l =
+    ⊎-elim
+    (λ (u : b ≤ a). subst (SFits w64) (sym (less-left a b u)) (record { sfits = omega arith }))
+    (λ (u : a < b). subst (SFits w64) (sym (less-over a b u)) (record { sfits = omega arith }))
+    (le-or-lt b a)
 
 pub difference : (a b : ℕ) → a < 2 ^ 63 → b < 2 ^ 63 → Difference a b
 difference a b k l =
@@ -96,7 +102,7 @@ unfolding leftOf overOf
 not-below (pos n) f l = record { is = toZ-ofZ w64 (pos n) f; few = f .sfits; none = refl }
 not-below (negsuc n) f l = absurd (false≢true (sym l ∙ ap (λ (x : ℤ). ltZ x (pos 0)) (toZ-ofZ w64 (negsuc n) f)))
 
--- the test of two numbers says that they are one
+-- the test of two numbers says whether they are one
 pub same-is : (a b : ℤ) → eqZ a b ≡ true → a ≡ b
 unfolding eqZ
 same-is (pos a) (pos b) t = ap pos (eqb-true a b t)
@@ -111,3 +117,14 @@ is-same a b e = ap (eqZ a) (sym e) ∙ self a
     self : (a : ℤ) → eqZ a a ≡ true
     self (pos a) = eq-eqb a a refl
     self (negsuc a) = eq-eqb a a refl
+
+-- a number below 0 is nothing that is left, and another is what is left of it
+pub over-not-left : (z : ℤ) (n : ℕ) → 1 ≤ overOf z → false ≡ eqZ z (pos n)
+unfolding overOf eqZ
+over-not-left (pos m) n some = absurd (omega arith)
+over-not-left (negsuc m) n some = refl
+
+pub left-is : (z : ℤ) (n : ℕ) → 0 ≡ overOf z → eqb (leftOf z) n ≡ eqZ z (pos n)
+unfolding leftOf overOf eqZ
+left-is (pos m) n none = refl
+left-is (negsuc m) n none = absurd (omega arith)

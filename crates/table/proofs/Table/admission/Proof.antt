@@ -1,8 +1,8 @@
 -- `Table::admission` gives the first refusal of 1 to 6, and where there is none the margin, with 7 where the load is over the span.
-use mathlib.Core.Path.{_≡_, sym, _∙_, ap}
+use mathlib.Core.Path.{_≡_, sym, subst, _∙_, ap}
 use Prim.Native.Nat.{_≤_, _<_}
 use borrow.Author.Needs.{needs}
-use Rattle.table.specs.Admission.{partsRefusal, loadOf}
+use Rattle.table.specs.Admission.{partsRefusal}
 use Rattle.table.specs.Margin.{lessLoad, margin, marginOf}
 use Rattle.table.specs.declared.Admission.the-variants.{Admitted, Refused, Over}
 use Rattle.table.proofs.Judged.{parts-none, load-high}
@@ -41,13 +41,13 @@ margin-is c = c .of .ensures ∙ ap (λ l. margin (lessLoad (c .before .before .
 returns-2 : tie.Need-returns-2
 returns-2 c =
     let at = c .before .before in
-    let over : at .before .before .before .before .args .self .span < loadOf (at .before .before .before .before .args .self) = rw (at .before .load .ensures) at (c .if2 .taken) in
+    let over = subst (λ l. at .before .before .before .before .args .self .span < l) (at .before .load .ensures) (c .if2 .taken) in
     ap Over (margin-is at) ∙ sym (answer-over _ (load-over _ (none (at .before .before)) over))
 
 returns-3 : tie.Need-returns-3
 returns-3 c =
     let at = c .before .before in
-    let fits : loadOf (at .before .before .before .before .args .self) ≤ at .before .before .before .before .args .self .span = rw (at .before .load .ensures) at (c .if2 .left) in
+    let fits = subst (λ l. l ≤ at .before .before .before .before .args .self .span) (at .before .load .ensures) (c .if2 .left) in
     ap Admitted (margin-is at) ∙ sym (answer-admits _ (load-fits _ (none (at .before .before)) fits))
 
 pub admission-spec : {M : Type 1} → statement M

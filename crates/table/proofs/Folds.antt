@@ -28,6 +28,11 @@ unfolding sumTo
 sum-scaled k f zero = omega arith
 sum-scaled k f (suc n) = rw (sum-scaled k f n) (sym (mul-add k (sumTo f n) (f n)))
 
+pub sum-times : (k : ℕ) (f : ℕ → ℕ) (n : ℕ) → sumTo (λ i. f i * k) n ≡ sumTo f n * k
+unfolding sumTo
+sum-times k f zero = omega arith
+sum-times k f (suc n) = omega (arith, sum-times k f n)
+
 -- a sum whose terms are at most b
 pub sum-high : (b : ℕ) (f : ℕ → ℕ) (n : ℕ) → ((i : ℕ) → i < n → f i ≤ b) → sumTo f n ≤ n * b
 unfolding sumTo

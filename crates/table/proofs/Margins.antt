@@ -11,7 +11,8 @@ use borrow.Author.Tests.{lt-ltb, le-ltb, ne-eqb}
 use Rattle.table.specs.Fold.{if}
 use Rattle.table.specs.Refusal.{given, _or-next_}
 use Rattle.table.specs.Admission.{loadOf, numbersRefusal, streamRefusal, streamRefusalAt, streamsRefusal, partsRefusal, admissionOf}
-use Rattle.table.specs.Margin.{marginOf, overOf, margin, answered, answerOf, numberIn, marginIn}
+use Rattle.table.specs.Whole.{belowZero}
+use Rattle.table.specs.Margin.{marginOf, margin, answered, answerOf, numberIn, marginIn}
 use Rattle.table.specs.Laws.{MarginIsExact, MarginDecides, OverIsExact, AnswerCarriesMargin}
 use Rattle.table.specs.declared.Table.{Table}
 use Rattle.table.specs.declared.margin.Margin.{Margin}
@@ -100,7 +101,7 @@ over-load t e =
     (le-or-lt (partsRefusal t) 0)
 
 pub over-is-exact : OverIsExact
-unfolding overOf
+unfolding belowZero
 over-is-exact t e =
     let h = over-load t e in
     rw (beyond t (h .0) (h .1) .is) (omega (arith, h .1), omega arith)

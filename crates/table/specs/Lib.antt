@@ -2,6 +2,7 @@ pub mod Fold
 pub mod Refusal
 pub mod Ranges
 pub mod Admission
+pub mod Whole
 pub mod Margin
 pub mod Groups
 pub mod Reservations

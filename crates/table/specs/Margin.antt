@@ -1,16 +1,16 @@
 -- The margin of a table, and what admission answers. Document 02, Req 05: "The load test should say the exact margin, span less load, negative when refused, and not a yes or no. Opening passes it on with 7, the session keeps it when admitted, and the program prints `refused 7 N` with N the amount over the span. Other refusals carry margin 0 and print as before."
-use mathlib.Core.Bool.{Bool, false}
-use Prim.Native.Nat.{ℕ, suc}
+use Prim.Native.Nat.{ℕ}
 use lib.Dec.{eqb}
-use lib.IntN.{ℤ, pos, negsuc, _-ℤ_}
+use lib.IntN.{ℤ, pos, _-ℤ_}
 use Rattle.table.specs.Fold.{if}
+use Rattle.table.specs.Whole.{aboveZero, belowZero}
 use Rattle.table.specs.Admission.{loadOf, admissionOf}
 use Rattle.table.specs.declared.Table.{Table}
 use Rattle.table.specs.declared.margin.Margin.{Margin}
 use Rattle.table.specs.declared.Admission.{Admission}
 use Rattle.table.specs.declared.Admission.the-variants.{Admitted, Refused, Over}
 
--- "span less load": a difference of whole numbers, of either sign, so that nothing is cut off. Such a number is `pos n`, which is n, or `negsuc n`, which is -(n + 1).
+-- "span less load": a difference of whole numbers, of either sign, so that nothing is cut off.
 abbrev pub lessLoad : ℕ → ℕ → ℤ
 lessLoad span load = pos span -ℤ pos load
 
@@ -25,21 +25,12 @@ margin m = record { 0 = m }
 abbrev pub load-max : ℕ
 load-max = 1_000_000_000_000_000_000
 
--- whether two whole numbers are the same
-unfoldable pub eqZ : ℤ → ℤ → Bool
-eqZ (pos a) (pos b) = eqb a b
-eqZ (pos a) (negsuc b) = false
-eqZ (negsuc a) (pos b) = false
-eqZ (negsuc a) (negsuc b) = eqb a b
-
 -- what is left of the span: how far a margin is above 0; and "N the amount over the span": how far it is below 0
-unfoldable pub leftOf : ℤ → ℕ
-leftOf (pos n) = n
-leftOf (negsuc n) = 0
+abbrev pub leftOf : ℤ → ℕ
+leftOf m = aboveZero m
 
-unfoldable pub overOf : ℤ → ℕ
-overOf (pos n) = 0
-overOf (negsuc n) = suc n
+abbrev pub overOf : ℤ → ℕ
+overOf m = belowZero m
 
 -- the answer for a number of admission: the margin stands beside 0 and beside 7
 unfoldable pub answered : ℕ → ℤ → Admission

@@ -2,6 +2,7 @@
 mod groups;
 mod margin;
 mod reservations;
+mod signed;
 
 ghost use mathlib.Core.Path.{_≡_};
 ghost use Prim.Native.Nat.{_≤_};
@@ -13,6 +14,8 @@ pub use reservations::Records;
 pub use reservations::Reservation;
 pub use reservations::record_at;
 pub use reservations::take_in;
+pub use signed::above_zero;
+pub use signed::below_zero;
 
 // The numbers of a table, as booked. Of its eight places for streams the first `count` are used.
 #[repr(C)]

@@ -2,7 +2,10 @@
 ghost use mathlib.Core.Path.{_≡_};
 ghost use lib.IntN.{pos};
 ghost use Prim.Native.Nat.{_≤_};
-ghost use Rattle.table.specs.Margin.{load-max, lessLoad, margin, leftOf, overOf, eqZ};
+ghost use Rattle.table.specs.Whole.{eqZ};
+ghost use Rattle.table.specs.Margin.{load-max, lessLoad, margin, leftOf, overOf};
+use crate::signed::above_zero;
+use crate::signed::below_zero;
 
 // Microseconds of the span. It is below 0 where the load is above the span.
 #[repr(C)]
@@ -38,20 +41,13 @@ impl Margin {
     pub fn left(self) -> u64
         ensures { λ r. ⌜ r ≡ leftOf (self .0) ⌝ }
     {
-        if self.0 < 0 {
-            return 0;
-        }
-        self.0 as u64
+        above_zero(self.0)
     }
 
     // The amount over the span: how far the margin is below 0, and 0 where it is not.
     pub fn over(self) -> u64
         ensures { λ r. ⌜ r ≡ overOf (self .0) ⌝ }
     {
-        if self.0 < 0 {
-            // The least number of 64 bits has no opposite among them, and the one above it has.
-            return (-(self.0 + 1)) as u64 + 1;
-        }
-        0
+        below_zero(self.0)
     }
 }

@@ -1,2 +1,3 @@
 pub mod Rounding
+pub mod Asking
 pub mod Fractions

@@ -1,9 +1,16 @@
 // Whole microseconds of two kinds that are counted apart: when it is, and how much disk time was had.
+mod remainders;
+
 ghost use mathlib.Core.Path.{_≡_};
-ghost use Prim.Native.Nat.{_+_, _-_, _*_, _/_, _≤_, _<_, min, max};
+ghost use Prim.Native.Nat.{_+_, _-_, _*_, _/_, _≤_, _<_, min};
 ghost use lib.Dec.{leb, ltb, eqb};
 ghost use Rattle.time.specs.Exact.{less, same, paced, fractionOf, Proper};
 ghost use Rattle.time.specs.Time.{moment, diskTime, session-end, duration-max, parts-max};
+ghost use Rattle.time.specs.Latest.{latestOf};
+pub use remainders::Latest;
+pub use remainders::Remainders;
+use table::above_zero;
+use table::below_zero;
 
 // A moment of clock time.
 #[repr(C)]
@@ -78,12 +85,6 @@ impl Clock {
         if other.0 < self.0 { other } else { self }
     }
 
-    pub fn later(self, other: Clock) -> Clock
-        ensures { λ r. ⌜ r ≡ moment (max (self .0) (other .0)) ⌝ }
-    {
-        if self.0 < other.0 { other } else { self }
-    }
-
     // How long ago an earlier moment was.
     pub fn since(self, earlier: Clock) -> u64
         requires { ⌜ earlier .0 ≤ self .0 ⌝ }
@@ -108,13 +109,25 @@ impl Clock {
         Clock(self.0 + duration.0)
     }
 
-    // The second: this horizon less all remainders, rounded down once. `parts` is the sum of what the streams may use up to the horizon, times the span.
-    pub fn less_remainders(self, charges: Charge, parts: u64, span: u32) -> Clock
-        requires { ⌜ (0 < span) × (self .0 ≤ session-end) × (charges .0 ≤ session-end) × (parts ≤ self .0 * span) × (parts ≤ parts-max) ⌝ }
-        ensures { λ r. ⌜ r ≡ moment (((self .0 + charges .0) * span - parts) / span) ⌝ }
+    // The second: this horizon less the sum of all remainders, which is scaled by the span, rounded down once. Any three numbers are answered.
+    pub fn less_remainders(self, sum: Remainders, span: u64) -> Latest
+        ensures { λ r. ⌜ r ≡ latestOf (self .0) (sum .0) span ⌝ }
     {
-        let up = (parts + (span as u64 - 1)) / span as u64;
-        Clock(self.0 + charges.0 - up)
+        if span == 0 {
+            return Latest::Refused(31);
+        }
+        if sum.0 < 0 {
+            let later = below_zero(sum.0) / span;
+            if u64::MAX - self.0 < later {
+                return Latest::Refused(31);
+            }
+            return Latest::At(Clock(self.0 + later));
+        }
+        let sooner = rounded_up(above_zero(sum.0), span);
+        if self.0 < sooner {
+            return Latest::Refused(31);
+        }
+        Latest::At(Clock(self.0 - sooner))
     }
 
     // The third: this release and a charge that was had at the pace of a budget in a period, r + c × p / g, never rounded.
@@ -225,4 +238,13 @@ impl Charge {
     {
         self.0 * n
     }
+}
+
+// A number divided by a span, rounded up.
+fn rounded_up(n: u64, span: u64) -> u64
+    requires { ⌜ 0 < span ⌝ }
+    ensures { λ r. ⌜ r ≡ (n + (span - 1)) / span ⌝ }
+{
+    let down = n / span;
+    if down * span < n { down + 1 } else { down }
 }

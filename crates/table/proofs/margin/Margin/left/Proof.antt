@@ -1,28 +1,16 @@
--- `Margin::left` is the number itself, where it is not below 0.
-use mathlib.Core.Path.{sym, subst}
-use native.Mathlib.Omega.{arith}
-use lib.Dec.{T}
-use lib.IntN.{ℤ, natAbs}
-use lib.Signed.{nonNeg}
+-- `Margin::left` is how far its number is above 0.
+use mathlib.Core.Path.{_∙_, ap}
 use mir.Syntax.{w64}
-use mir.Val.{Fits}
-use Rattle.table.proofs.Whole.{NotBelow, below, not-below}
+use mir.ValLaws.{toZ-ofZ}
+use Rattle.table.specs.Whole.{aboveZero}
 use Rattle.table.proofs.margin.Margin.left.Statement.{statement}
 use Rattle.table.proofs.margin.Margin.left.Tie as tie
 
+above-zero-requires : tie.Need-above-zero-requires
+above-zero-requires c κs = tt
+
 returns : tie.Need-returns
-returns c = below (c .before .before .before .args .self .0) (record { sfits = c .before .struct-told .given .0 .1 }) (c .if1 .taken) .none
-
--- what is known of a margin that is not below 0
-above : (c : tie.After-struct-told2) → NotBelow (c .before .before .before .before .before .args .self .0)
-above c = not-below _ (record { sfits = c .before .before .before .struct-told .given .0 .1 }) (c .before .before .if1 .left)
-
-cast-result : tie.Need-cast-result
-cast-result c =
-    subst (λ (z : ℤ). T (nonNeg z) × Fits w64 (natAbs z)) (sym (above c .is)) (tt, record { fits = omega (arith, above c .few) })
-
-returns-2 : tie.Need-returns-2
-returns-2 c = rw (above c .is)
+returns c = c .above-zero .ensures ∙ ap aboveZero (toZ-ofZ w64 _ (record { sfits = c .before .struct-told .given .0 .1 }))
 
 pub left-spec : {M : Type 1} → statement M
-left-spec = tie.close (tie.spec returns cast-result returns-2)
+left-spec = tie.close (tie.spec above-zero-requires returns)

@@ -1,37 +1,16 @@
--- `Margin::over` turns what is below 0: one more than it, turned, and one added again, so that the least number of 64 bits can be turned too.
-use mathlib.Core.Path.{sym, subst}
-use native.Mathlib.Omega.{arith}
-use lib.IntN.{ℤ, natAbs}
-use lib.Dec.{T}
-use lib.Signed.{nonNeg}
+-- `Margin::over` is how far its number is below 0.
+use mathlib.Core.Path.{_∙_, ap}
 use mir.Syntax.{w64}
-use mir.Val.{Fits}
-use Rattle.table.proofs.Whole.{Below, below, not-below}
+use mir.ValLaws.{toZ-ofZ}
+use Rattle.table.specs.Whole.{belowZero}
 use Rattle.table.proofs.margin.Margin.over.Statement.{statement}
 use Rattle.table.proofs.margin.Margin.over.Tie as tie
 
--- what is known of a margin below 0
-under : (c : tie.After-struct-told2) → Below (c .before .before .before .before .before .args .self .0)
-under c = below _ (record { sfits = c .before .before .before .struct-told .given .0 .1 }) (c .before .before .if1 .taken)
-
-add-result : tie.Need-add-result
-add-result c = under c .up-fits
-
-sub-result : tie.Need-sub-result
-sub-result c = under c .turned-fits
-
-cast-result : tie.Need-cast-result
-cast-result c =
-    subst (λ (z : ℤ). T (nonNeg z) × Fits w64 (natAbs z)) (sym (under c .is-turned)) (tt, record { fits = omega (arith, under c .few) })
-
-add-result-2 : tie.Need-add-result-2
-add-result-2 c = rw (under c .is-turned) (record { fits = omega (arith, under c .few) })
+below-zero-requires : tie.Need-below-zero-requires
+below-zero-requires c κs = tt
 
 returns : tie.Need-returns
-returns c = rw (under c .is-turned) (omega (arith, under c .some))
-
-returns-2 : tie.Need-returns-2
-returns-2 c = not-below (c .before .before .before .args .self .0) (record { sfits = c .before .struct-told .given .0 .1 }) (c .if1 .left) .none
+returns c = c .below-zero .ensures ∙ ap belowZero (toZ-ofZ w64 _ (record { sfits = c .before .struct-told .given .0 .1 }))
 
 pub over-spec : {M : Type 1} → statement M
-over-spec = tie.close (tie.spec add-result sub-result cast-result add-result-2 returns returns-2)
+over-spec = tie.close (tie.spec below-zero-requires returns)

@@ -8,13 +8,13 @@ use borrow.Author.Tests.{eqb-true, eq-eqb, ne-eqb, lt-ltb, le-ltb, not-true, not
 use Rattle.table.specs.Fold.{if}
 use Rattle.table.specs.Refusal.{given, _or-next_, outside}
 use Rattle.table.proofs.Folds.{all-at}
-use Rattle.time.specs.Time.{session-end, duration-max}
+use Rattle.time.specs.Time.{session-end, duration-max, moment}
 use Rattle.stream.specs.Stream.{queue-max, filled}
-use Rattle.session.specs.Session.{streamAt, slotsAt, filledAt, someFilled, noSlot, sound}
+use Rattle.session.specs.Session.{streamAt, slotsAt, filledAt, someFilled, noSlot, latest, sound}
 use Rattle.stream.specs.Choice.{firstBest}
 use Rattle.session.specs.Choice.{nearestAt, sentBefore, chosen}
 use Rattle.session.specs.Calls.{Verdict, refuse, append, send, move, wait, expire, finish, set-clock, noSuchStream, busy, movePassesEnd, callRefusal, refusal, turnEffect, effect, ruled, verdict, apply, outcome, answerTo}
-use Rattle.session.specs.Inner.{surveyOf, Ahead}
+use Rattle.session.specs.Inner.{surveyOf}
 use Rattle.session.specs.Laws.{PresentTimeChangesNothing}
 use Rattle.time.specs.declared.Clock.{Clock}
 use Rattle.session.specs.declared.Session.{Session}
@@ -70,29 +70,29 @@ pub turn-busy : (s : Session) → sound s ≡ true → (s .served ≡ 0 → ⊥)
 unfolding callRefusal given _or-next_ busy
 turn-busy s ok some = refused s Call.Turn ok 9 (rw (ne-eqb _ _ some))
 
--- a turn past 31 and 10: the session is sound, h is its horizon, and nothing is at the disk
-pub record Idle (s : Session) (h : Clock) : Type 0 where
-  pub ahead : Ahead s h
+-- a turn past 31 and 10: the session is sound, and nothing is at the disk
+pub record Idle (s : Session) : Type 0 where
+  pub ok : sound s ≡ true
   pub rests : s .served ≡ 0
 
 -- and past a.: no slot is filled, and v is what was surveyed
-pub record Unfilled (s : Session) (h : Clock) (v : Survey) : Type 0 where
-  pub idle : Idle s h
+pub record Unfilled (s : Session) (v : Survey) : Type 0 where
+  pub idle : Idle s
   pub none : someFilled s ≡ false
   pub seen : v ≡ surveyOf s
 
 -- what a turn of an idle disk is answered, case by case; only 14 can refuse it
-module _ {s : Session} {h : Clock} (idle : Idle s h) where
+module _ {s : Session} (idle : Idle s) where
   unrefused : (noSlot s && movePassesEnd s) ≡ false → verdict s Call.Turn ≡ turnEffect s
   unfolding callRefusal given _or-next_ busy effect
-  unrefused e = accepted s Call.Turn (idle .ahead .ok) (rw (eq-eqb _ _ (idle .rests), e))
+  unrefused e = accepted s Call.Turn (idle .ok) (rw (eq-eqb _ _ (idle .rests), e))
 
   -- a. some slot is filled
   pub turn-sends : (i j : ℕ) → i ≡ chosen s → j ≡ nearestAt s (chosen s) → someFilled s ≡ true → verdict s Call.Turn ≡ send i j
   unfolding turnEffect if
   turn-sends i j stream-is index-is some = unrefused (rw (filled-has-slot s some)) ∙ rw (some, stream-is, index-is)
 
-module _ {s : Session} {h : Clock} {v : Survey} (u : Unfilled s h v) where
+module _ {s : Session} {v : Survey} (u : Unfilled s v) where
   -- b. no stream has a slot
   module _ (over : not (v .found) ≡ true) where
     none-has : noSlot s ≡ true
@@ -100,7 +100,7 @@ module _ {s : Session} {h : Clock} {v : Survey} (u : Unfilled s h v) where
 
     pub turn-ends : v .beyond ≡ true → verdict s Call.Turn ≡ refuse 14
     unfolding callRefusal given _or-next_ busy
-    turn-ends past = refused s Call.Turn (u .idle .ahead .ok) 13 (rw (eq-eqb _ _ (u .idle .rests), none-has, rw (u .seen) at past))
+    turn-ends past = refused s Call.Turn (u .idle .ok) 13 (rw (eq-eqb _ _ (u .idle .rests), none-has, rw (u .seen) at past))
 
     pub turn-moves : v .beyond ≡ false → verdict s Call.Turn ≡ move
     unfolding turnEffect if
@@ -111,14 +111,14 @@ module _ {s : Session} {h : Clock} {v : Survey} (u : Unfilled s h v) where
     some-has : noSlot s ≡ false
     some-has = not-true (noSlot s) (not-false (not (noSlot s)) (rw (u .seen) at left))
 
-    module _ {early : Bool} (early-is : early ≡ ltb (s .clock .0) (v .latest .0)) where
+    module _ {early : Bool} (until : Clock) (until-is : until ≡ moment (latest s)) (early-is : early ≡ ltb (s .clock .0) (until .0)) where
       pub turn-waits : early ≡ true → verdict s Call.Turn ≡ wait
       unfolding turnEffect if
-      turn-waits yet = unrefused (u .idle) (rw some-has) ∙ rw (u .none, some-has, rw (early-is, u .seen) at yet)
+      turn-waits yet = unrefused (u .idle) (rw some-has) ∙ rw (u .none, some-has, rw (early-is, until-is) at yet)
 
       pub turn-expires : early ≡ false → verdict s Call.Turn ≡ expire (v .expiring)
       unfolding turnEffect if
-      turn-expires due = unrefused (u .idle) (rw some-has) ∙ rw (u .none, some-has, rw (early-is, u .seen) at due, u .seen)
+      turn-expires due = unrefused (u .idle) (rw some-has) ∙ rw (u .none, some-has, rw (early-is, until-is) at due, u .seen)
 
 -- what an arrival is answered, case by case
 module _ (s : Session) (n place : ℕ) (ok : sound s ≡ true) where

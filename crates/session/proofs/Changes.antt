@@ -1,25 +1,31 @@
--- A session stays sound with one stream changed, and with another clock or request at the disk.
+-- A session stays fit with one stream changed, and sound with another clock, queue or request at the disk.
 use mathlib.Core.Bool.{true, _&&_}
 use mathlib.Core.List.{List, map}
-use mathlib.Core.Path.{_≡_, refl, sym, _∙_, ap, fun-ext, subst}
-use Prim.Native.Nat.{ℕ, _+_, _-_, _*_, _≤_, _<_}
+use mathlib.Core.Path.{_≡_, refl, sym, _∙_, ap, ap₂, fun-ext, subst}
+use Prim.Native.Nat.{ℕ, _+_, _-_, _*_, _/_, _≤_, _<_}
 use native.Mathlib.Omega.{arith}
 use lib.ListN.{length, set, length-set}
 use lib.Dec.{leb, eqb}
-use lib.Seq.{getD-set-other, map-set-same}
+use lib.IntN.{ℤ, pos, _-ℤ_, +ℤ-idr}
+use lib.Seq.{getD-set-same, getD-set-other, map-set-same}
 use borrow.Author.Tests.{le-leb, eq-eqb, ne-eqb}
-use Rattle.table.specs.Fold.{if, smallestTo}
+use Rattle.table.specs.Fold.{if, sumTo, smallestTo}
 use Rattle.table.specs.Admission.{admissionOf}
 use Rattle.table.specs.Margin.{marginOf}
+use Rattle.table.proofs.Folds.{sum-agree, sum-other}
 use Rattle.table.proofs.Lists.{set-each, set-alike}
-use Rattle.time.specs.Time.{session-end, duration-max}
+use Rattle.table.proofs.Whole.{less-more}
+use Rattle.time.specs.Time.{session-end, duration-max, moment}
+use Rattle.time.specs.Latest.{remainders}
 use Rattle.stream.specs.Stream.{slots, worked, withQueue, withCharge, soundQueue, unusedStream}
-use Rattle.session.specs.Session.{noStream, streamAt, horizon, slotsAt, tableOf, soundDisk, withStreams, withStream, withDisk}
+use Rattle.session.specs.Session.{noStream, streamAt, horizon, slotsAt, scaledPart, remaindersOf, tableOf, soundDisk, withStreams, withStream, withDisk, withAhead, lookingAhead}
 use Rattle.time.specs.declared.Clock.{Clock}
+use Rattle.time.specs.declared.remainders.Remainders.{Remainders}
 use Rattle.stream.specs.declared.Stream.{Stream}
 use Rattle.session.specs.declared.Session.{Session}
 use Rattle.stream.proofs.Orderly.{Queue, queue-of, of-queue, InOrder, worked-order}
-use Rattle.session.proofs.Sound.{Sound, admits}
+use Rattle.session.proofs.Sound.{Fit, Sound, fit-ahead, admits}
+use Rattle.session.proofs.Remainders.{remainders-split}
 
 -- the table of a session is as it was, where no stream's reservation changes
 table-kept : (s : Session) (xs : List Stream)
@@ -29,7 +35,7 @@ table-kept : (s : Session) (xs : List Stream)
 table-kept s xs es ps i =
     record { worst = s .worst; span = s .span; padding = s .padding; count = s .count; reserved = es i; period = ps i }
 
--- so a session is sound with other streams of the same reservations, if they and the disk are in order
+-- so a session is fit with other streams of the same reservations, if they and the disk are in order
 pub streams-kept : (s : Session) → Sound s → (xs : List Stream)
     → map (λ (x : Stream). x .reserved) xs ≡ map (λ (x : Stream). x .reserved) (s .streams)
     → map (λ (x : Stream). x .period) xs ≡ map (λ (x : Stream). x .period) (s .streams)
@@ -37,7 +43,7 @@ pub streams-kept : (s : Session) → Sound s → (xs : List Stream)
     → let next = withStreams s xs in
     ((i : ℕ) → i < s .count → InOrder (s .worst) (s .padding) (horizon next) (streamAt next i))
     → ((i : ℕ) → s .count ≤ i → i < 8 → unusedStream (streamAt next i) ≡ true)
-    → soundDisk next ≡ true → Sound next
+    → soundDisk next ≡ true → Fit next
 streams-kept s q xs es ps many each others disk =
     let same = table-kept s xs es ps in
     record {
@@ -65,13 +71,46 @@ module _ (s : Session) (q : Sound s) (i : ℕ) (l : i < s .count) (charge expire
   horizon-kept =
       ap (λ (f : ℕ → ℕ). smallestTo f (s .count)) (fun-ext (set-alike (s .streams) i new noStream (λ x. x .deadline .0) refl))
 
-  -- such a stream at i keeps a session sound, if its charge, its queue and the disk are in order
+  pub here : i < length (s .streams)
+  here = omega (arith, q .eight, admits s q .numbers .count-high)
+
+  -- the sum over the streams of what each has
+  pub summed : (f : Stream → ℕ) → sumTo (λ j. f (streamAt (withStream s i new) j)) (s .count) + f (streamAt s i) ≡ sumTo (λ j. f (streamAt s j)) (s .count) + f new
+  summed f =
+      sum-other (λ j. f (streamAt (withStream s i new) j)) (λ j. f (streamAt s j)) (s .count) i l
+      (λ j _ other. ap f (getD-set-other (s .streams) i j new noStream other))
+      ∙ ap (λ (x : Stream). sumTo (λ j. f (streamAt s j)) (s .count) + f x) (getD-set-same (s .streams) i new noStream here)
+
+  -- what is charged more, times the span, comes off the sum of all remainders
+  pub remainders-charged : (a : ℕ) → charge ≡ streamAt s i .charge .0 + a → remaindersOf (withStream s i new) ≡ remaindersOf s -ℤ pos (a * s .span)
+  remainders-charged a more =
+      let n = s .count in
+      let next = withStream s i new in
+      let charges : Session → ℕ = λ z. sumTo (λ j. streamAt z j .charge .0) n in
+      let part : Stream → ℕ = λ x. (horizon s - x .release .0) * x .granted .0 * (s .span / x .period) in
+      let parts : sumTo (scaledPart next) n ≡ sumTo (scaledPart s) n =
+      ap (λ (h : ℕ). sumTo (λ j. let x = streamAt next j in (h - x .release .0) * x .granted .0 * (s .span / x .period)) n) horizon-kept
+      ∙ sum-agree (λ j. part (streamAt next j)) (λ j. part (streamAt s j)) n (λ j _. set-alike (s .streams) i new noStream part refl j) in
+      let grown : charges next * s .span ≡ charges s * s .span + a * s .span =
+      let sum : charges next ≡ charges s + a = omega (arith, summed (λ x. x .charge .0), more) in omega (arith, ap (λ (c : ℕ). c * s .span) sum) in
+      remainders-split next
+      ∙ ap₂ (λ (x y : ℕ). pos x -ℤ pos y) parts grown
+      ∙ less-more (sumTo (scaledPart s) n) (charges s * s .span) (a * s .span)
+      ∙ ap (λ (z : ℤ). z -ℤ pos (a * s .span)) (sym (remainders-split s))
+
+  -- so what a charge leaves of the two cells is what the session looks ahead to
+  pub ahead-charged : (a : ℕ) → charge ≡ streamAt s i .charge .0 + a → (sum : Remainders) → sum ≡ remainders (s .remainders .0 -ℤ pos (a * s .span))
+      → withAhead (withStream s i new) (s .horizon) sum ≡ lookingAhead (withStream s i new)
+  ahead-charged a more sum e =
+      ap₂ (withAhead (withStream s i new)) (q .ahead .horizon-is ∙ ap moment (sym horizon-kept))
+      (e ∙ ap (λ (r : Remainders). remainders (r .0 -ℤ pos (a * s .span))) (q .ahead .remainders-is) ∙ ap remainders (sym (remainders-charged a more)))
+
+  -- such a stream at i keeps a session fit, if its charge, its queue and the disk are in order
   pub stream-kept : charge ≤ streamAt s i .granted .0 + duration-max → streamAt s i .start .0 + s .worst * expired ≤ charge → Queue new
-      → soundDisk (withStream s i new) ≡ true → Sound (withStream s i new)
+      → soundDisk (withStream s i new) ≡ true → Fit (withStream s i new)
   stream-kept high low queue disk =
       let x = q .each i l in
       let xs = s .streams in
-      let here : i < length xs = omega (arith, q .eight, admits s q .numbers .count-high) in
       let order = worked-order (s .worst) (s .padding) (horizon s) (streamAt s i) x charge expired queued places high low queue in
       streams-kept s q (set xs i new) (map-set-same _ xs i new noStream refl) (map-set-same _ xs i new noStream refl) (length-set xs i new)
       (λ j m.
@@ -103,12 +142,19 @@ module _ (s : Session) (q : Sound s) (i : ℕ) (l : i < s .count) where
       → Sound (withStream s i (withQueue old queued places))
   queue-kept queued places queue =
       let o = q .each i l in
-      stream-kept s q i l (old .charge .0) (old .expired) queued places (o .charge-high) (o .covered) queue
-      (disk-kept s q i l (old .charge .0) (old .expired) queued places refl)
+      let c = old .charge .0 in
+      let e = old .expired in
+      let same : remaindersOf s ≡ remaindersOf (withStream s i (withQueue old queued places)) =
+      sym (remainders-charged s q i l c e queued places 0 (omega arith) ∙ ap (λ (n : ℕ). remaindersOf s -ℤ pos n) (let none : 0 * s .span ≡ 0 = omega arith in none) ∙ +ℤ-idr (remaindersOf s)) in
+      fit-ahead _ (stream-kept s q i l c e queued places (o .charge-high) (o .covered) queue (disk-kept s q i l c e queued places refl))
+      (record {
+        horizon-is = q .ahead .horizon-is ∙ ap moment (sym (horizon-kept s q i l c e queued places));
+        remainders-is = q .ahead .remainders-is ∙ ap remainders same;
+      })
 
-  -- another charge, while the disk is idle
+  -- another charge, while the disk is idle, until the session looks ahead anew
   pub charge-kept : (charge expired : ℕ) → charge ≤ old .granted .0 + duration-max → old .start .0 + s .worst * expired ≤ charge → s .served ≡ 0
-      → Sound (withStream s i (withCharge old charge expired))
+      → Fit (withStream s i (withCharge old charge expired))
   unfolding soundQueue
   charge-kept charge expired high low idle =
       stream-kept s q i l charge expired (old .queued) (old .places) high low
@@ -118,9 +164,10 @@ module _ (s : Session) (q : Sound s) (i : ℕ) (l : i < s .count) where
 -- another clock and another request at the disk
 pub clock-kept : (s : Session) → Sound s → (clock : Clock) (head served place : ℕ) → clock .0 ≤ session-end
     → soundDisk (withDisk s clock head served place) ≡ true → Sound (withDisk s clock head served place)
-unfolding horizon
+unfolding horizon remaindersOf
 clock-kept s q clock head served place high disk =
     record {
+      ahead = record { horizon-is = q .ahead .horizon-is; remainders-is = q .ahead .remainders-is };
       admitted = q .admitted;
       margin-is = q .margin-is;
       eight = q .eight;

@@ -4,20 +4,18 @@ use mathlib.Core.Path.{_≡_, refl, sym, _∙_, ap, subst}
 use Prim.Native.Nat.{ℕ, zero, suc, _+_, _-_, _*_, _/_, _≤_, _<_}
 use native.Mathlib.Nat.{mul-le-mul-left, mul-le-mul-right}
 use native.Mathlib.Omega.{arith}
-use lib.ListN.{length}
-use lib.Seq.{getD-set-same, getD-set-other}
 use borrow.Author.Tests.{eqb-true}
 use Rattle.table.specs.Fold.{sumTo}
 use Rattle.table.proofs.Tests.{by-if}
-use Rattle.table.proofs.Folds.{sum-other, sum-le, sum-agree}
+use Rattle.table.proofs.Folds.{sum-le, sum-agree}
 use Rattle.table.proofs.Lists.{set-each}
 use Rattle.stream.specs.Stream.{worked, carry, closed, moved}
 use Rattle.session.specs.Session.{noStream, streamAt, horizon, scaledPart, latest, withStream}
 use Rattle.stream.specs.declared.Stream.{Stream}
 use Rattle.session.specs.declared.Session.{Session}
-use Rattle.session.proofs.Sound.{Sound, of-sound, admits, bounded}
+use Rattle.session.proofs.Sound.{Sound, of-sound, bounded}
 use Rattle.session.proofs.Latest.{latest-rounds-once}
-use Rattle.session.proofs.Changes.{horizon-kept}
+use Rattle.session.proofs.Changes.{horizon-kept, here, summed}
 use Rattle.session.proofs.MoveKept.{moved-keeps, moving, next, moved-at, horizon-later}
 use Rattle.session.proofs.Halves.{rate, used, rateAt, usedAt, Room, InTime, rates-high, whole, due-most}
 
@@ -42,31 +40,25 @@ module _ (s : Session) (q : Sound s) (i : ℕ) (l : i < s .count) (charge expire
   abbrev changed : Session
   changed = withStream s i new
 
-  here : i < length (s .streams)
-  here = omega (arith, q .eight, admits s q .numbers .count-high)
-
   ahead : horizon changed ≡ horizon s
   ahead = horizon-kept s q i l charge expired queued places
 
   -- the sum over the streams of what each has
-  summed : (f : Stream → ℕ) → sumTo (λ j. f (streamAt changed j)) (s .count) + f old ≡ sumTo (λ j. f (streamAt s j)) (s .count) + f new
-  summed f =
-      sum-other (λ j. f (streamAt changed j)) (λ j. f (streamAt s j)) (s .count) i l
-      (λ j _ other. ap f (getD-set-other (s .streams) i j new noStream other))
-      ∙ ap (λ (x : Stream). sumTo (λ j. f (streamAt s j)) (s .count) + f x) (getD-set-same (s .streams) i new noStream here)
+  sum-of : (f : Stream → ℕ) → sumTo (λ j. f (streamAt changed j)) (s .count) + f old ≡ sumTo (λ j. f (streamAt s j)) (s .count) + f new
+  sum-of f = summed s q i l charge expired queued places f
 
   -- it keeps its room, if it had room for that
   pub charge-keeps-room : usedAt s i + a * s .span ≤ horizon s * rateAt s i → Room s → Room changed
   charge-keeps-room enough room j m =
       subst (λ (h : ℕ). usedAt changed j ≤ h * rateAt changed j) (sym ahead)
-      (set-each (s .streams) i new noStream (λ x. used (s .span) x ≤ horizon s * rate (s .span) x) here (omega (arith, new-used, enough)) j (room j m))
+      (set-each (s .streams) i new noStream (λ x. used (s .span) x ≤ horizon s * rate (s .span) x) (here s q i l charge expired queued places) (omega (arith, new-used, enough)) j (room j m))
 
   -- and a clock that grows by no more than that is still in time
   pub charge-keeps-time : (t u : ℕ) → u ≤ t + a → InTime s t → InTime changed u
   charge-keeps-time t u le time =
       grown-in-time t u a (horizon s) (horizon changed) (s .span) (sumTo (rateAt s) (s .count)) (sumTo (rateAt changed) (s .count))
       (sumTo (usedAt s) (s .count)) (sumTo (usedAt changed) (s .count)) ahead
-      (omega (arith, summed (rate (s .span)))) (omega (arith, summed (used (s .span)), new-used)) le time
+      (omega (arith, sum-of (rate (s .span)))) (omega (arith, sum-of (used (s .span)), new-used)) le time
 
 -- a job that closes and one that follows it: with H = w × p, a period's use is g × H, and what was used above it is carried
 carry-covers : (r g p w span c : ℕ) → w * p ≡ span → r * (g * w) + c * span ≤ (r + p) * (g * w) + carry c g * span

@@ -1,6 +1,6 @@
 -- What is judged of a session, stream by stream: a census of the used streams, and that the unused ones are all zeros. Then the clock and the disk decide.
 use mathlib.Core.Bool.{Bool, true, false, _&&_, false≢true}
-use mathlib.Core.Path.{_≡_, refl, sym, subst, _∙_}
+use mathlib.Core.Path.{_≡_, refl, sym, ap, subst, _∙_}
 use mathlib.Core.Logic.{_⊎_, inl, inr, ⊎-elim}
 use Prim.Native.Nat.{ℕ, _+_, _-_, _≤_, _<_}
 use native.Mathlib.Numerals.{add-one}
@@ -9,22 +9,22 @@ use lib.Dec.{leb, ltb, eqb}
 use lib.ListN.{length}
 use borrow.Author.Tests.{leb-true, ltb-true, ltb-false, le-leb, eq-eqb, ne-eqb}
 use Rattle.table.specs.Fold.{if}
-use Rattle.table.specs.Margin.{lessLoad, eqZ}
+use Rattle.table.specs.Whole.{eqZ}
+use Rattle.table.specs.Margin.{lessLoad}
 use Rattle.table.proofs.Tests.{both, le-or-lt, same-test}
 use Rattle.table.proofs.Folds.{at-or-below}
 use Rattle.table.proofs.Judged.{numbers-of}
-use Rattle.time.specs.Time.{session-end, moment}
+use Rattle.time.specs.Time.{session-end}
 use Rattle.stream.specs.Stream.{slots, unusedStream}
 use Rattle.stream.specs.Bounds.{Bounded}
 use Rattle.session.specs.Session.{streamAt, horizon, tableOf, soundDisk, sound}
-use Rattle.session.specs.Inner.{judgedOf}
 use Rattle.stream.specs.Search.{begun, withSound, counted, Countable, loadSo, says, Judgeable}
 use Rattle.time.specs.declared.Clock.{Clock}
 use Rattle.stream.specs.declared.census.Census.{Census}
 use Rattle.session.specs.declared.Session.{Session}
 use Rattle.session.proofs.Sound.{Sound, sound-of, of-sound, Used, used as used-of, used-bounded}
 use Rattle.session.proofs.Grounds.{served-in}
-use Rattle.session.proofs.Counted.{CountedTo, not-sound, counted-none, counted-more, counted-and, countable, horizon-is, judgeable, says-used, used-says}
+use Rattle.session.proofs.Counted.{CountedTo, not-sound, counted-none, counted-more, counted-and, countable, judgeable, says-used, used-says}
 
 -- a stream at the disk is a used one
 served-high : (s : Session) → Sound s → s .served ≤ s .count
@@ -44,7 +44,7 @@ module _ (s : Session) where
     pub zeros : c .sound ≡ true → (j : ℕ) → s .count ≤ j → j < i → unusedStream (streamAt s j) ≡ true
     pub failed : c .sound ≡ false → sound s ≡ false
 
-  pub judging-none : (c : Census) → c ≡ begun (s .worst) (s .span) (s .padding) (s .count) (streamAt s 0) → length (s .streams) ≡ 8 → Judging c 0
+  pub judging-none : (c : Census) → c ≡ begun (s .worst) (s .span) (s .padding) (s .count) (s .horizon) (streamAt s 0) → length (s .streams) ≡ 8 → Judging c 0
   judging-none c e eight =
       let none : CountedTo s c 0 = rw e (counted-none s) in
       record {
@@ -129,7 +129,7 @@ module _ (s : Session) where
     tested streams in-time = streams && in-time && leb (s .served) (s .count)
 
     abbrev pub tests : Bool
-    tests = tested (says c (s .margin .0)) (leb (s .clock .0) session-end)
+    tests = tested (says c (s .margin .0) (s .remainders .0)) (leb (s .clock .0) session-end)
 
     -- a sound session passes
     needed : Sound s → tests ≡ true
@@ -150,24 +150,22 @@ module _ (s : Session) where
     pub passes : tests c i looked ≡ true
 
   module _ (c : Census) (i : ℕ) (past : Passed c i) where
-    a : (says c (s .margin .0) && leb (s .clock .0) session-end ≡ true) × (leb (s .served) (s .count) ≡ true)
-    a = both (says c (s .margin .0) && leb (s .clock .0) session-end) (leb (s .served) (s .count)) (past .passes)
+    a : (says c (s .margin .0) (s .remainders .0) && leb (s .clock .0) session-end ≡ true) × (leb (s .served) (s .count) ≡ true)
+    a = both (says c (s .margin .0) (s .remainders .0) && leb (s .clock .0) session-end) (leb (s .served) (s .count)) (past .passes)
 
-    b : (says c (s .margin .0) ≡ true) × (leb (s .clock .0) session-end ≡ true)
-    b = both (says c (s .margin .0)) (leb (s .clock .0) session-end) (a .0)
+    b : (says c (s .margin .0) (s .remainders .0) ≡ true) × (leb (s .clock .0) session-end ≡ true)
+    b = both (says c (s .margin .0) (s .remainders .0)) (leb (s .clock .0) session-end) (a .0)
 
     fine : c .sound ≡ true
     unfolding says
     fine =
+        let fits = leb (loadSo c) (c .span) in
         let kept = eqZ (s .margin .0) (lessLoad (c .span) (loadSo c)) in
-        let all = both (c .sound && leb (loadSo c) (c .span) && kept) (leb (c .released .0) (c .horizon .0)) (b .0) .0 in
-        both (c .sound) _ (both (c .sound && leb (loadSo c) (c .span)) kept all .0) .0
+        let soonest = eqb (c .horizon .0) (c .soonest .0) in
+        both (c .sound) fits (both (c .sound && fits) kept (both (c .sound && fits && kept) soonest (both (c .sound && fits && kept && soonest) _ (b .0) .0) .0) .0) .0
 
     used : Used s
     used = says-used s c (counted-all c i (past .looked) fine) fine (b .0)
-
-    pub horizon-found : c .horizon ≡ moment (horizon s)
-    horizon-found = horizon-is s c (counted-all c i (past .looked) fine) fine
 
     disk-decides : soundDisk s ≡ sound s
     disk-decides = same-test _ _ forth (λ ok. sound-of s ok .disk)
@@ -176,6 +174,7 @@ module _ (s : Session) where
         forth disk =
             of-sound s
             (record {
+              ahead = used .ahead;
               admitted = used .admitted;
               margin-is = used .margin-is;
               eight = past .looked .judging .eight;
@@ -196,15 +195,9 @@ module _ (s : Session) where
       pub at-disk : s .served - 1 < 8
       at-disk = omega (arith, inside-count, numbers-of (tableOf s) (counted-all c i (past .looked) fine .passed fine .numbers) .count-high)
 
-      pub can-have : Bounded (s .worst) (c .horizon .0) (streamAt s (s .served - 1))
-      can-have = rw (horizon-found) (used-bounded s used (s .served - 1) inside-count)
+      pub can-have : Bounded (s .worst) (s .horizon .0) (streamAt s (s .served - 1))
+      can-have = rw (used .ahead .horizon-is) (used-bounded s (used .admitted) (used .each) (s .served - 1) inside-count)
 
-      pub busy-decides : (n : ℕ) → n ≡ slots (s .worst) (c .horizon .0) (streamAt s (s .served - 1)) → leb 1 n ≡ sound s
+      pub busy-decides : (n : ℕ) → n ≡ slots (s .worst) (s .horizon .0) (streamAt s (s .served - 1)) → leb 1 n ≡ sound s
       unfolding soundDisk if
-      busy-decides n e = rw (e, horizon-found) (rw (ne-eqb _ _ some, a .1) at disk-decides)
-
--- what is said of a session that was judged, and of its horizon if it is sound
-pub judged-is : (s : Session) (b : Bool) (h : Clock) → (b ≡ sound s) × (b ≡ true → h ≡ moment (horizon s)) → record { sound = b; horizon = if b h (moment 0) } ≡ judgedOf s
-unfolding if
-judged-is s true h (e, is) = rw (sym e, is refl)
-judged-is s false h (e, is) = rw (sym e)
+      busy-decides n e = rw (e ∙ ap (λ (h : Clock). slots (s .worst) (h .0) (streamAt s (s .served - 1))) (used .ahead .horizon-is)) (rw (ne-eqb _ _ some, a .1) at disk-decides)

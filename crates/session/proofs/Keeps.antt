@@ -11,7 +11,7 @@ use Rattle.session.specs.Calls.{Verdict, refuse, append, send, move, wai
 use Rattle.session.specs.Laws.{CallsKeepSound}
 use Rattle.session.specs.declared.Session.{Session}
 use Rattle.stream.proofs.Slots.{slot-room}
-use Rattle.session.proofs.Sound.{Sound, sound-of, of-sound, bounded}
+use Rattle.session.proofs.Sound.{Sound, sound-of, of-sound, looking-ahead, bounded}
 use Rattle.stream.proofs.Queues.{arrived-queue, without-queue}
 use Rattle.session.proofs.Grounds.{Grounds, verdict-grounds}
 use Rattle.session.proofs.Changes.{slots-kept, queue-kept, charge-kept, clock-kept, disk-served}
@@ -46,7 +46,7 @@ expire-kept : (s : Session) → Sound s → (i : ℕ) → Grounds s (expire i) �
 unfolding apply lapsed
 expire-kept s q i g =
     let l = g .exists in
-    charge-kept s q i l _ _ (omega (arith, room s q i l (g .slot))) (omega (arith, q .each i l .covered)) (g .idle)
+    looking-ahead _ (charge-kept s q i l _ _ (omega (arith, room s q i l (g .slot))) (omega (arith, q .each i l .covered)) (g .idle))
 
 -- a completion: nothing is at the disk any more, so the charge may pass what the slot covers
 finish-kept : (s : Session) → Sound s → (i a : ℕ) → Grounds s (finish i a) → Sound (apply s (finish i a))
@@ -54,8 +54,9 @@ unfolding apply charged soundDisk if
 finish-kept s q i a g =
     let l = g .exists in
     let clock = moment (s .clock .0 + a) in
-    charge-kept (withDisk s clock (s .head) 0 0) (clock-kept s q clock (s .head) 0 0 (g .inTime) refl) i l _ _
-    (omega (arith, g .short, room s q i l (g .slot))) (omega (arith, q .each i l .covered)) refl
+    looking-ahead _
+    (charge-kept (withDisk s clock (s .head) 0 0) (clock-kept s q clock (s .head) 0 0 (g .inTime) refl) i l _ _
+    (omega (arith, g .short, room s q i l (g .slot))) (omega (arith, q .each i l .covered)) refl)
 
 -- a clock report
 set-clock-kept : (s : Session) → Sound s → (t : ℕ) → Grounds s (set-clock t) → Sound (apply s (set-clock t))
@@ -68,7 +69,7 @@ unfolding apply
 effect-kept s q (refuse n) g = q
 effect-kept s q (append i place) g = append-kept s q i place g
 effect-kept s q (send i j) g = send-kept s q i j g
-effect-kept s q move g = move-kept s q g
+effect-kept s q move g = looking-ahead _ (move-kept s q g)
 effect-kept s q wait g = q
 effect-kept s q (expire i) g = expire-kept s q i g
 effect-kept s q (finish i a) g = finish-kept s q i a g

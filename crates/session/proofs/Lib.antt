@@ -6,7 +6,6 @@ pub mod Offsets
 pub mod Counted
 pub mod Judging
 pub mod Remainders
-pub mod Summing
 pub mod Latest
 pub mod Lapses
 pub mod Grounds
@@ -19,6 +18,7 @@ pub mod Keeps
 pub mod Openings
 pub mod Answers
 pub mod Outcomes
+pub mod Foreign
 pub mod Determined
 pub mod Halves
 pub mod HalvesKept

@@ -1,4 +1,4 @@
--- A move keeps a session sound: deadlines only grow, and each job that closes begins anew at the horizon that was.
+-- A move keeps a session fit: deadlines only grow, and each job that closes begins anew at the horizon that was.
 use mathlib.Core.List.{map}
 use mathlib.Core.Path.{_≡_, refl, sym, _∙_, ap}
 use Prim.Native.Nat.{ℕ, _+_, _≤_}
@@ -18,7 +18,7 @@ use Rattle.time.specs.declared.Clock.{Clock}
 use Rattle.stream.specs.declared.Stream.{Stream}
 use Rattle.session.specs.declared.Session.{Session}
 use Rattle.stream.proofs.Orderly.{InOrder, later-order, closed-order}
-use Rattle.session.proofs.Sound.{Sound, admits, bounded, unused-deadline}
+use Rattle.session.proofs.Sound.{Fit, Sound, admits, bounded, unused-deadline}
 use Rattle.session.proofs.Grounds.{Grounds}
 use Rattle.session.proofs.Changes.{streams-kept, idle-kept}
 
@@ -79,8 +79,8 @@ module _ (s : Session) (q : Sound s) where
       smallest-is (λ h. horizon s ≤ h) (λ i. streamAt next i .deadline .0) (s .count) (admits s q .numbers .count-low)
       (λ i l. rw (moved-at i) (omega (arith, bounded s q i l .ahead, moved-later (s .clock) (horizon s) (streamAt s i))))
 
-  -- a move keeps the session sound
-  pub move-kept : Grounds s move → Sound next
+  -- a move keeps the session fit
+  pub move-kept : Grounds s move → Fit next
   unfolding closed
   move-kept g =
       let xs = s .streams in

@@ -1,97 +1,178 @@
 -- Opening makes a sound session with the margin of its table, which no call changes; and so 31 is never answered after it.
 use mathlib.Core.Bool.{true}
 use mathlib.Core.List.{List, [], _∷_, map}
-use mathlib.Core.Path.{_≡_, refl, sym, _∙_, ap}
-use Prim.Native.Nat.{ℕ, _≤_, _<_}
+use mathlib.Core.Path.{_≡_, refl, sym, _∙_, ap, ap₂}
+use Prim.Native.Nat.{ℕ, _+_, _-_, _*_, _/_, _≤_, _<_}
+use native.Mathlib.Nat.{mul-le-mul, mul-assoc, div-add-mod'}
 use native.Mathlib.Omega.{arith}
 use lib.ListN.{getD, List·getD-map}
 use lib.Dec.{lit<}
+use lib.IntN.{pos, _-ℤ_}
 use borrow.Author.Tests.{lt-ltb, le-ltb, eq-eqb}
-use Rattle.table.specs.Fold.{if, allTo}
-use Rattle.table.specs.Ranges.{streams-max}
-use Rattle.table.specs.Admission.{reservedAt, periodAt, grantedOf, admissionOf}
+use Rattle.table.specs.Fold.{if, sumTo, allTo}
+use Rattle.table.specs.Ranges.{streams-max, worst-max, span-max, period-max}
+use Rattle.table.specs.Admission.{reservedAt, periodAt, grantedOf, shareOf, shareAt, sharesOf, smallestPeriod, loadOf, admissionOf}
+use Rattle.table.specs.Whole.{aboveZero}
 use Rattle.table.specs.Margin.{lessLoad, marginOf}
 use Rattle.table.specs.declared.Table.{Table}
 use Rattle.table.specs.declared.margin.Margin.{Margin}
 use Rattle.table.proofs.Tests.{by-if}
+use Rattle.table.proofs.Folds.{sum-agree, sum-scaled, sum-none, smallest-agree, smallest-is}
+use Rattle.table.proofs.Whole.{less-left}
 use Rattle.table.proofs.Lists.{length-listTo, getD-listTo}
 use Rattle.table.proofs.Judged.{Admits, admits-of, load-alike, admits-alike}
+use Rattle.time.specs.Time.{parts-max}
 use Rattle.stream.specs.Stream.{soundQueue, unusedStream, zeroJob, freshStream}
-use Rattle.session.specs.Session.{noStream, streamAt, horizon, tableOf, soundDisk, sound}
+use Rattle.session.specs.Session.{noStream, streamAt, horizon, scaledPart, remaindersOf, tableOf, soundDisk, sound}
 use Rattle.calls.specs.Replies.{numberOf}
 use Rattle.session.specs.Calls.{Verdict, refuse, append, send, move, wait, expire, finish, set-clock, verdict, apply, replyTo, answerTo, after}
-use Rattle.session.specs.Opening.{openedStream, freshSession, openingOf}
-use Rattle.session.specs.Laws.{OpeningIsSound, NeverUnsound, MarginIsKept}
+use Rattle.session.specs.Opening.{openedStream, openedSession, freshSession, openingOf}
+use Rattle.session.specs.Laws.{OpeningIsSound, NeverUnsound, AskIsLatest, MarginIsKept}
 use Rattle.stream.specs.declared.Stream.{Stream}
 use Rattle.session.specs.declared.Session.{Session}
 use Rattle.calls.specs.declared.Call.{Call}
 use Rattle.calls.specs.declared.Reply.{Reply}
 use Rattle.session.proofs.Rules.{rules}
 use Rattle.stream.proofs.Orderly.{InOrder, fresh-order}
-use Rattle.session.proofs.Sound.{Sound, sound-of, of-sound}
+use Rattle.session.proofs.Sound.{Fit, Sound, sound-of, of-sound, looking-ahead}
+use Rattle.session.proofs.Remainders.{remainders-split}
+use Rattle.session.proofs.Latest.{asked-is}
 use Rattle.session.proofs.Grounds.{Grounds, verdict-grounds}
 use Rattle.session.proofs.Keeps.{calls-keep-sound}
+
+covered : (h shares w q span : ℕ) → q * h ≡ span → h * (shares + w * q) ≡ h * shares + w * span
+covered h shares w q span whole = omega (arith, ap (λ (z : ℕ). w * z) whole)
 
 module _ (t : Table) (admitted : admissionOf t ≡ 0) where
   abbrev judged : Admits t
   judged = admits-of t admitted
 
   -- the stream at i, for each of the eight
-  opened-at : (i : ℕ) → i < streams-max → streamAt (freshSession t) i ≡ openedStream t i
-  unfolding freshSession
+  opened-at : (i : ℕ) → i < streams-max → streamAt (openedSession t) i ≡ openedStream t i
   opened-at i l = getD-listTo (openedStream t) noStream streams-max i l
 
   -- those below the count hold their reservations
-  pub fresh-at : (i : ℕ) → i < t .count
-      → streamAt (freshSession t) i ≡ freshStream (reservedAt t i) (periodAt t i) (grantedOf (t .worst) (t .padding) (reservedAt t i))
+  held-at : (i : ℕ) → i < t .count
+      → streamAt (openedSession t) i ≡ freshStream (reservedAt t i) (periodAt t i) (grantedOf (t .worst) (t .padding) (reservedAt t i))
   unfolding openedStream if
-  fresh-at i l = opened-at i (omega (arith, judged .numbers .count-high)) ∙ rw (lt-ltb i (t .count) l)
+  held-at i l = opened-at i (omega (arith, judged .numbers .count-high)) ∙ rw (lt-ltb i (t .count) l)
 
   -- and are in order
-  order-at : (h i : ℕ) → i < t .count → InOrder (t .worst) (t .padding) h (streamAt (freshSession t) i)
+  order-at : (h i : ℕ) → i < t .count → InOrder (t .worst) (t .padding) h (streamAt (openedSession t) i)
   order-at h i l =
-      rw (fresh-at i l) (fresh-order (t .worst) (t .padding) h (reservedAt t i) (periodAt t i) (omega (arith, judged .each i l .period-high)))
+      rw (held-at i l) (fresh-order (t .worst) (t .padding) h (reservedAt t i) (periodAt t i) (omega (arith, judged .each i l .period-high)))
 
   -- the table of the session is the one that was admitted, as far as it is used
-  cell : (f : Stream → ℕ) (i : ℕ) → i < t .count → getD (map f (freshSession t .streams)) i (f noStream)
+  cell : (f : Stream → ℕ) (i : ℕ) → i < t .count → getD (map f (openedSession t .streams)) i (f noStream)
       ≡ f (freshStream (reservedAt t i) (periodAt t i) (grantedOf (t .worst) (t .padding) (reservedAt t i)))
-  cell f i l = List·getD-map f (freshSession t .streams) i noStream ∙ ap f (fresh-at i l)
+  cell f i l = List·getD-map f (openedSession t .streams) i noStream ∙ ap f (held-at i l)
 
-  fresh-admitted : admissionOf (tableOf (freshSession t)) ≡ 0
-  unfolding freshSession freshStream
+  fresh-admitted : admissionOf (tableOf (openedSession t)) ≡ 0
+  unfolding freshStream
   fresh-admitted =
-      admits-alike t (tableOf (freshSession t) .reserved) (tableOf (freshSession t) .period) admitted
+      admits-alike t (tableOf (openedSession t) .reserved) (tableOf (openedSession t) .period) admitted
       (cell (λ x. x .reserved))
       (cell (λ x. x .period))
 
   -- and so its margin is that
-  fresh-margin : marginOf t ≡ marginOf (tableOf (freshSession t))
-  unfolding marginOf freshSession freshStream
+  fresh-margin : marginOf t ≡ marginOf (tableOf (openedSession t))
+  unfolding marginOf freshStream
   fresh-margin =
       ap (lessLoad (t .span))
       (sym
-      (load-alike t (tableOf (freshSession t) .reserved) (tableOf (freshSession t) .period) admitted
+      (load-alike t (tableOf (openedSession t) .reserved) (tableOf (openedSession t) .period) admitted
       (cell (λ x. x .reserved))
       (cell (λ x. x .period))))
 
   -- the others are 0
-  fresh-others : (i : ℕ) → t .count ≤ i → i < streams-max → unusedStream (streamAt (freshSession t) i) ≡ true
+  fresh-others : (i : ℕ) → t .count ≤ i → i < streams-max → unusedStream (streamAt (openedSession t) i) ≡ true
   unfolding openedStream freshStream unusedStream zeroJob soundQueue allTo if
   fresh-others i past l = rw (opened-at i l, le-ltb i (t .count) past)
 
-  -- the session of an admitted table is sound
-  pub fresh-sound : Sound (freshSession t)
-  unfolding freshSession soundDisk if
-  fresh-sound =
+  -- the session of an admitted table is sound once it looks ahead
+  pub opened-fit : Fit (openedSession t)
+  unfolding soundDisk if
+  opened-fit =
       record {
         admitted = fresh-admitted;
         margin-is = fresh-margin;
         eight = length-listTo (openedStream t) streams-max;
-        each = order-at (horizon (freshSession t));
+        each = order-at (horizon (openedSession t));
         others = fresh-others;
         clock-high = omega arith;
         disk = refl;
       }
+
+  pub fresh-sound : Sound (freshSession t)
+  unfolding freshSession
+  fresh-sound = looking-ahead (openedSession t) opened-fit
+
+  -- nothing is charged yet, so that the sum of its remainders is the horizon times the shares: the load, less W for each of the shortest periods, of which the horizon is one
+  abbrev first : ℕ
+  first = horizon (openedSession t)
+
+  first-is : first ≡ smallestPeriod t
+  unfolding horizon smallestPeriod freshStream
+  first-is =
+      smallest-agree (λ i. streamAt (openedSession t) i .deadline .0) (periodAt t) (t .count) (judged .numbers .count-low)
+      (λ i l. ap (λ (x : Stream). x .deadline .0) (held-at i l))
+
+  first-divides : t .span / first * first ≡ t .span
+  unfolding smallestPeriod
+  first-divides =
+      rw first-is
+      (smallest-is (λ (d : ℕ). t .span / d * d ≡ t .span) (periodAt t) (t .count) (judged .numbers .count-low)
+      (λ i l. omega (arith, div-add-mod' (t .span) (periodAt t i), judged .each i l .divides)))
+
+  parts-are : sumTo (scaledPart (openedSession t)) (t .count) ≡ first * sharesOf t
+  unfolding sharesOf shareOf freshStream
+  parts-are =
+      sum-agree (scaledPart (openedSession t)) (λ i. first * shareAt t i) (t .count)
+      (λ i l.
+      ap (λ (x : Stream). (first - x .release .0) * x .granted .0 * (t .span / x .period)) (held-at i l)
+      ∙ mul-assoc (first - 0) (grantedOf (t .worst) (t .padding) (reservedAt t i)) (t .span / periodAt t i)
+      ∙ ap (λ (n : ℕ). n * shareAt t i) (let none : first - 0 ≡ first = omega arith in none))
+      ∙ sum-scaled first (shareAt t) (t .count)
+
+  charges-are : sumTo (λ i. streamAt (openedSession t) i .charge .0) (t .count) ≡ 0
+  unfolding freshStream
+  charges-are = sum-none _ (t .count) (λ i l. ap (λ (x : Stream). x .charge .0) (held-at i l))
+
+  load-covers : first * loadOf t ≡ first * sharesOf t + t .worst * t .span
+  unfolding loadOf
+  load-covers =
+      ap (λ (d : ℕ). first * (sharesOf t + t .worst * (t .span / d))) (sym first-is)
+      ∙ covered first (sharesOf t) (t .worst) (t .span / first) (t .span) first-divides
+
+  pub opened-sum : pos (first * loadOf t) -ℤ pos (t .worst * t .span) ≡ remaindersOf (openedSession t)
+  opened-sum =
+      let blocking = t .worst * t .span in
+      let left : first * loadOf t - blocking ≡ first * sharesOf t - 0 = omega (arith, load-covers) in
+      let charged : sumTo (λ i. streamAt (openedSession t) i .charge .0) (t .count) * t .span ≡ 0 = ap (λ (n : ℕ). n * t .span) charges-are ∙ omega arith in
+      less-left (first * loadOf t) blocking (omega (arith, load-covers))
+      ∙ ap pos left
+      ∙ sym (remainders-split (openedSession t) ∙ ap₂ (λ (n m : ℕ). pos n -ℤ pos m) parts-are charged ∙ less-left (first * sharesOf t) 0 (omega arith))
+
+  -- what the margin leaves is the load, and these numbers are small
+  pub margin-left : aboveZero (marginOf t) ≡ t .span - loadOf t
+  unfolding marginOf aboveZero
+  margin-left = rw (less-left (t .span) (loadOf t) (judged .fits))
+
+  pub opening-fits : (loadOf t ≤ t .span) × (first * loadOf t ≤ parts-max) × (t .worst * t .span ≤ parts-max)
+  unfolding smallestPeriod
+  opening-fits =
+      let n = judged .numbers in
+      let soon : first ≤ period-max = rw first-is (smallest-is (λ (d : ℕ). d ≤ period-max) (periodAt t) (t .count) (n .count-low) (λ i l. judged .each i l .period-high)) in
+      let load : loadOf t ≤ span-max = omega (arith, judged .fits, n .span-high) in
+      let most = mul-le-mul {n₂ = period-max} {m₂ = span-max} soon load in
+      let blocking = mul-le-mul {n₂ = worst-max} {m₂ = span-max} (n .worst-high) (n .span-high) in
+      (judged .fits, omega (arith, most), omega (arith, blocking))
+
+  -- and its streams hold their reservations
+  pub fresh-at : (i : ℕ) → i < t .count
+      → streamAt (freshSession t) i ≡ freshStream (reservedAt t i) (periodAt t i) (grantedOf (t .worst) (t .padding) (reservedAt t i))
+  unfolding freshSession
+  fresh-at = held-at
 
 -- opening gives that session where the table is admitted
 opened-sound : (t : Table) → admissionOf t ≡ 0 → sound (openingOf t .session) ≡ true
@@ -108,6 +189,13 @@ pub sound-after : (s : Session) (ks : List Call) → sound s ≡ true → sound 
 unfolding after
 sound-after s [] t = t
 sound-after s (k ∷ ks) t = sound-after (answerTo s k .session) ks (calls-keep-sound s k t)
+
+-- so what is asked of it is its latest safe moment
+pub ask-is-latest : AskIsLatest
+ask-is-latest = (
+  λ s t. asked-is s (sound-of s t),
+  λ t calls admitted. asked-is _ (sound-of _ (sound-after (openingOf t .session) calls (opening-is-sound .0 t admitted))),
+)
 
 -- a verdict leaves the margin as it is, and so does every call
 margin-stays : (s : Session) (v : Verdict) → apply s v .margin ≡ s .margin

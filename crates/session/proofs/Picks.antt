@@ -110,7 +110,7 @@ module _ (s : Session) (i : ℕ) (p : Pick) (q : Picked s i p) where
       go (suc m) e true ef = meets (λ z. omega (arith, e)) ef (sentBefore s i (p .stream)) refl
       go (suc m) e false ef = starts (λ z. omega (arith, e)) ef
 
-  -- one stream further, by a horizon h that was found before
+  -- one stream further, by the horizon that is kept
   pub picked-more : (h : Clock) (more : Pick) → h ≡ moment (horizon s) → more ≡ considered (s .worst) (h .0) (s .head) p (streamAt s i) i → Picked s (i + 1) more
   picked-more h more ahead e = rw (e, ahead, add-one) picked-next
 

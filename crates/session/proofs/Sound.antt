@@ -1,29 +1,38 @@
 -- A sound session, test by test: what each test says, and that these facts make it sound.
 use mathlib.Core.Bool.{true, _||_}
-use mathlib.Core.Path.{_≡_, ap}
+use mathlib.Core.Path.{_≡_, refl, ap}
 use mathlib.Core.Logic.{⊎-elim}
 use Prim.Native.Nat.{ℕ, _≤_, _<_}
 use native.Mathlib.Omega.{arith}
 use lib.ListN.{length, List·getD-map}
 use lib.Dec.{ltb}
 use borrow.Author.Tests.{leb-true, eqb-true, le-leb, lt-ltb, le-ltb, eq-eqb}
-use Rattle.table.specs.Admission.{grantedOf, admissionOf}
+use Rattle.table.specs.Admission.{admissionOf}
 use Rattle.table.specs.Margin.{marginOf}
 use Rattle.table.proofs.Tests.{both, le-or-lt}
 use Rattle.table.proofs.Folds.{all-at, all-of, smallest-le}
 use Rattle.table.proofs.Whole.{same-is, is-same}
 use Rattle.table.proofs.Judged.{Fits-in, Admits, admits-of}
 use Rattle.time.specs.Time.{session-end, moment}
+use Rattle.time.specs.Latest.{remainders}
 use Rattle.stream.specs.Stream.{freshStream, soundStream, unusedStream}
 use Rattle.stream.specs.Bounds.{Bounded}
-use Rattle.session.specs.Session.{noStream, streamAt, horizon, tableOf, soundDisk, soundRest, usedStreams, sound}
+use Rattle.session.specs.Session.{noStream, streamAt, horizon, remaindersOf, tableOf, soundDisk, soundRest, usedStreams, soundAhead, sound, lookingAhead}
+use Rattle.session.specs.Inner.{Bookkept}
 use Rattle.time.specs.declared.Clock.{Clock}
+use Rattle.time.specs.declared.remainders.Remainders.{Remainders}
 use Rattle.stream.specs.declared.Stream.{Stream}
 use Rattle.session.specs.declared.Session.{Session}
-use Rattle.stream.proofs.Orderly.{InOrder, used-or-zero, or-right, stream-of, of-stream}
+use Rattle.stream.proofs.Orderly.{InOrder, used-or-zero, or-right, stream-of, of-stream, bounded-of}
 use Rattle.stream.proofs.Unused.{unused-is-zero}
 
-pub record Sound (s : Session) : Type 0 where
+-- the horizon and the sum that a session keeps
+pub record Ahead (s : Session) : Type 0 where
+  pub horizon-is : s .horizon ≡ moment (horizon s)
+  pub remainders-is : s .remainders ≡ remainders (remaindersOf s)
+
+-- all else
+pub record Fit (s : Session) : Type 0 where
   pub admitted : admissionOf (tableOf s) ≡ 0
   pub margin-is : s .margin .0 ≡ marginOf (tableOf s)
   pub eight : length (s .streams) ≡ 8
@@ -31,6 +40,45 @@ pub record Sound (s : Session) : Type 0 where
   pub others : (i : ℕ) → s .count ≤ i → i < 8 → unusedStream (streamAt s i) ≡ true
   pub clock-high : s .clock .0 ≤ session-end
   pub disk : soundDisk s ≡ true
+
+-- and both
+pub record Sound (s : Session) : Type 0 where
+  pub ahead : Ahead s
+  pub admitted : admissionOf (tableOf s) ≡ 0
+  pub margin-is : s .margin .0 ≡ marginOf (tableOf s)
+  pub eight : length (s .streams) ≡ 8
+  pub each : (i : ℕ) → i < s .count → InOrder (s .worst) (s .padding) (horizon s) (streamAt s i)
+  pub others : (i : ℕ) → s .count ≤ i → i < 8 → unusedStream (streamAt s i) ≡ true
+  pub clock-high : s .clock .0 ≤ session-end
+  pub disk : soundDisk s ≡ true
+
+pub fit-ahead : (s : Session) → Fit s → Ahead s → Sound s
+fit-ahead s q ahead =
+    record {
+      ahead = ahead;
+      admitted = q .admitted;
+      margin-is = q .margin-is;
+      eight = q .eight;
+      each = q .each;
+      others = q .others;
+      clock-high = q .clock-high;
+      disk = q .disk;
+    }
+
+-- a session that looks ahead anew
+pub looking-ahead : (s : Session) → Fit s → Sound (lookingAhead s)
+unfolding horizon remaindersOf soundDisk
+looking-ahead s q =
+    record {
+      ahead = record { horizon-is = refl; remainders-is = refl };
+      admitted = q .admitted;
+      margin-is = q .margin-is;
+      eight = q .eight;
+      each = q .each;
+      others = q .others;
+      clock-high = q .clock-high;
+      disk = q .disk;
+    }
 
 -- the streams past the count, of a session that has eight
 pub rest-of : (s : Session) → soundRest (s .streams) (s .count) ≡ true
@@ -41,15 +89,18 @@ rest-of s t =
     (eqb-true _ _ (rest .0), λ i past l. used-or-zero _ _ (all-at _ 8 (rest .1) i l) (le-ltb i (s .count) past))
 
 pub sound-of : (s : Session) → sound s ≡ true → Sound s
-unfolding sound usedStreams
+unfolding sound usedStreams soundAhead
 sound-of s t =
     let a = both _ _ t in
     let b = both _ _ (a .0) in
     let d = both _ _ (b .0) in
     let rest = rest-of s (d .1) in
-    let e = both _ _ (d .0) in
+    let g = both _ _ (d .0) in
+    let kept = both _ _ (g .1) in
+    let e = both _ _ (g .0) in
     let f = both _ _ (e .0) in
     record {
+      ahead = record { horizon-is = ap moment (eqb-true _ _ (kept .0)); remainders-is = ap remainders (same-is _ _ (kept .1)) };
       admitted = eqb-true _ _ (f .0);
       margin-is = same-is _ _ (f .1);
       eight = rest .0;
@@ -60,13 +111,15 @@ sound-of s t =
     }
 
 pub of-sound : (s : Session) → Sound s → sound s ≡ true
-unfolding sound usedStreams soundRest
+unfolding sound usedStreams soundAhead soundRest
 of-sound s q =
     rw (
       eq-eqb _ _ (q .admitted),
       is-same _ _ (q .margin-is),
       all-of (λ i. soundStream (s .worst) (s .padding) (horizon s) (streamAt s i)) (s .count)
           (λ i l. of-stream (s .worst) (s .padding) (horizon s) (streamAt s i) (q .each i l)),
+      eq-eqb _ _ (ap (λ (h : Clock). h .0) (q .ahead .horizon-is)),
+      is-same _ _ (ap (λ (r : Remainders). r .0) (q .ahead .remainders-is)),
       eq-eqb _ _ (q .eight),
       all-of (λ i. ltb i (s .count) || unusedStream (streamAt s i)) 8
           (λ i l.
@@ -78,18 +131,15 @@ of-sound s q =
       q .disk,
     )
 
-granted-low : (worst k e : ℕ) → (e ≡ 0 → ⊥) → 1 ≤ grantedOf worst k e
-unfolding grantedOf
-granted-low worst k e ne = omega arith
-
 -- the part of a sound session that says what its streams' numbers are
 pub record Used (s : Session) : Type 0 where
   pub admitted : admissionOf (tableOf s) ≡ 0
   pub margin-is : s .margin .0 ≡ marginOf (tableOf s)
   pub each : (i : ℕ) → i < s .count → InOrder (s .worst) (s .padding) (horizon s) (streamAt s i)
+  pub ahead : Ahead s
 
 abbrev pub used : (s : Session) → Sound s → Used s
-used s q = record { admitted = q .admitted; margin-is = q .margin-is; each = q .each }
+used s q = record { admitted = q .admitted; margin-is = q .margin-is; each = q .each; ahead = q .ahead }
 
 -- the table's facts, read off the session
 pub admits : (s : Session) → Sound s → Admits (tableOf s)
@@ -98,9 +148,10 @@ admits s q = admits-of (tableOf s) (q .admitted)
 pub count-high : (s : Session) → sound s ≡ true → s .count ≤ 8
 count-high s t = admits s (sound-of s t) .numbers .count-high
 
-module _ (s : Session) (q : Used s) where
+-- the numbers of the used streams, of any session that is fit
+module _ (s : Session) (admitted : admissionOf (tableOf s) ≡ 0) (each : (i : ℕ) → i < s .count → InOrder (s .worst) (s .padding) (horizon s) (streamAt s i)) where
   abbrev booked : Admits (tableOf s)
-  booked = admits-of (tableOf s) (q .admitted)
+  booked = admits-of (tableOf s) admitted
 
   pub used-reservation : (i : ℕ) → i < s .count → Fits-in (s .worst) (s .span) (s .padding) (streamAt s i .reserved) (streamAt s i .period)
   used-reservation i l =
@@ -110,35 +161,25 @@ module _ (s : Session) (q : Used s) where
   pub used-bounded : (i : ℕ) → i < s .count → Bounded (s .worst) (horizon s) (streamAt s i)
   unfolding horizon
   used-bounded i l =
-      let x = q .each i l in
-      let b = used-reservation i l in
       let n = booked .numbers in
-      record {
-        worst-low = n .worst-low;
-        worst-high = n .worst-high;
-        period-low = b .period-low;
-        period-high = b .period-high;
-        budget-low = rw (x .budget) (granted-low (s .worst) (s .padding) (streamAt s i .reserved) (b .reserved-low));
-        budget-high = rw (x .budget) (b .budget);
-        due = x .due;
-        deadline-high = x .deadline-high;
-        released = x .released;
-        ahead = smallest-le (λ j. streamAt s j .deadline .0) (s .count) i l;
-        charge-high = x .charge-high;
-        covered = x .covered;
-        queued-high = x .queue .queued-high;
-      }
+      bounded-of (s .worst) (s .span) (s .padding) (horizon s) (streamAt s i) (n .worst-low) (n .worst-high) (used-reservation i l) (each i l)
+      (smallest-le (λ j. streamAt s j .deadline .0) (s .count) i l)
+
+  pub bookkept : Bookkept s
+  bookkept =
+      let n = booked .numbers in
+      record { some = n .count-low; few = n .count-high; span-high = n .span-high; each = used-bounded }
 
 pub reservation : (s : Session) → Sound s → (i : ℕ) → i < s .count
     → Fits-in (s .worst) (s .span) (s .padding) (streamAt s i .reserved) (streamAt s i .period)
-reservation s q = used-reservation s (used s q)
+reservation s q = used-reservation s (q .admitted) (q .each)
 
 pub bounded : (s : Session) → Sound s → (i : ℕ) → i < s .count → Bounded (s .worst) (horizon s) (streamAt s i)
-bounded s q = used-bounded s (used s q)
+bounded s q = used-bounded s (q .admitted) (q .each)
 
--- by a horizon h that was found before
-pub bounded-by : (s : Session) → Sound s → (h : Clock) → h ≡ moment (horizon s) → (i : ℕ) → i < s .count → Bounded (s .worst) (h .0) (streamAt s i)
-bounded-by s q h ahead i l = rw ahead (bounded s q i l)
+-- by the horizon that is kept
+pub bounded-by : (s : Session) → Sound s → (h : Clock) → h ≡ s .horizon → (i : ℕ) → i < s .count → Bounded (s .worst) (h .0) (streamAt s i)
+bounded-by s q h is i l = rw (is, q .ahead .horizon-is) (bounded s q i l)
 
 -- an unused stream has the deadline 0
 pub unused-deadline : (x : Stream) → unusedStream x ≡ true → x .deadline .0 ≡ 0

@@ -63,7 +63,7 @@ module _ (s : Session) (q : Sound s) where
     send-room i j g = queue-room i (g .exists) (without j (x i) .queued) (without j (x i) .places)
 
     expire-room : (i : ℕ) → Grounds s (expire i) → Room (apply s (expire i))
-    unfolding apply lapsed
+    unfolding apply lapsed horizon
     expire-room i g = charge-keeps-room s q i (g .exists) _ _ _ _ (s .worst) refl (slot-has-room s q i (g .exists) (g .slot)) room
 
     finish-room : (i a : ℕ) → Grounds s (finish i a) → a ≤ s .worst → Room (apply s (finish i a))
@@ -95,7 +95,7 @@ module _ (s : Session) (q : Sound s) where
     send-time i j g = queue-time i (g .exists) (without j (x i) .queued) (without j (x i) .places)
 
     expire-time : (i : ℕ) → Grounds s (expire i) → InTime (apply s (expire i)) (s .clock .0)
-    unfolding apply lapsed
+    unfolding apply lapsed horizon
     expire-time i g = charge-keeps-time s q i (g .exists) _ _ _ _ (s .worst) refl (s .clock .0) (s .clock .0) (omega arith) time
 
     finish-time : (i a : ℕ) → Grounds s (finish i a) → InTime (apply s (finish i a)) (s .clock .0 + a)

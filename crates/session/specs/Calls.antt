@@ -8,7 +8,7 @@ use Rattle.table.specs.Fold.{if, someTo}
 use Rattle.table.specs.Refusal.{given, _or-next_, outside}
 use Rattle.time.specs.Time.{session-end, duration-max, moment, diskTime}
 use Rattle.stream.specs.Stream.{queue-max, closesPastEnd, arrived, without, charged, lapsed, moved}
-use Rattle.session.specs.Session.{streamAt, horizon, inSet, someFilled, noSlot, latest, sound, withStreams, withStream, withDisk}
+use Rattle.session.specs.Session.{streamAt, horizon, inSet, someFilled, noSlot, latest, sound, withStreams, withStream, withDisk, lookingAhead}
 use Rattle.session.specs.Choice.{nearestAt, chosen, expiring}
 use Rattle.session.specs.declared.Session.{Session}
 use Rattle.calls.specs.declared.Call.{Call}
@@ -88,18 +88,18 @@ ruled (suc n) v = refuse (suc n)
 unfoldable pub verdict : Session → Call → Verdict
 verdict s k = ruled (refusal s k) (effect s k)
 
--- The session afterwards. "A refused call returns its number and changes no byte of session or buffer."
+-- The session afterwards. "A refused call returns its number and changes no byte of session or buffer." A move, an expiry and a completion change a charge or the horizon.
 unfoldable pub apply : Session → Verdict → Session
 apply s (refuse n) = s
 apply s (append i place) = withStream s i (arrived place (streamAt s i))
 apply s (send i j) =
     let place = getD (streamAt s i .places) j 0 in
     withDisk (withStream s i (without j (streamAt s i))) (s .clock) place (i + 1) place
-apply s move = withStreams s (map (moved (s .clock) (horizon s)) (s .streams))
+apply s move = lookingAhead (withStreams s (map (moved (s .clock) (horizon s)) (s .streams)))
 apply s wait = s
-apply s (expire i) = withStream s i (lapsed (s .worst) (streamAt s i))
+apply s (expire i) = lookingAhead (withStream s i (lapsed (s .worst) (streamAt s i)))
 apply s (finish i a) =
-    withDisk (withStream s i (charged a (streamAt s i))) (moment (s .clock .0 + a)) (s .head) 0 0
+    lookingAhead (withDisk (withStream s i (charged a (streamAt s i))) (moment (s .clock .0 + a)) (s .head) 0 0)
 apply s (set-clock t) = withDisk s (moment t) (s .head) (s .served) (s .place)
 
 -- "Overlong if a > W."

@@ -1,6 +1,7 @@
 -- The documents' worked cases, one line each: what the rules give, beside what the document says. Those marked P and the others stand in two lists; the statements that cover them are `MarkedCasesHold` and `OtherCasesHold` of `Laws`.
 use mathlib.Core.List.{List, [], _∷_, _++_, map}
 use Prim.Native.Nat.{ℕ, zero, suc, _/_, _%_}
+use lib.IntN.{ℤ, pos, negsuc}
 use lib.ListN.{length, replicate, take}
 use Rattle.table.specs.Fold.{listTo}
 use Rattle.table.specs.Ranges.{streams-max}
@@ -8,6 +9,9 @@ use Rattle.table.specs.Admission.{admissionOf}
 use Rattle.table.specs.Margin.{leftOf, overOf, numberIn, marginIn}
 use Rattle.table.specs.declared.Table.{Table}
 use Rattle.time.specs.Exact.{Fraction}
+use Rattle.time.specs.Latest.{latestOf}
+use Rattle.time.specs.declared.remainders.Latest.{Latest}
+use Rattle.time.specs.declared.remainders.Latest.the-variants.{At, Refused}
 use Rattle.stream.specs.Stream.{slots, microDeadline, charged, freshStream}
 use Rattle.session.specs.Session.{streamAt}
 use Rattle.session.specs.Calls.{Line, after, linesFrom}
@@ -55,6 +59,19 @@ abbrev pub opens : Table → ℕ → ℕ → ℕ → Case
 opens t number left over =
     let m = marginIn (openingOf t .admission) .0 in
     record { rules = (numberIn (openingOf t .admission) ∷ leftOf m ∷ overOf m ∷ []) ∷ []; document = (number ∷ left ∷ over ∷ []) ∷ [] }
+
+-- what is asked with three numbers, and of a session after some calls: 0 and the latest safe moment, or 31 and 0
+abbrev pub told : Latest → List ℕ
+told (At until) = 0 ∷ until .0 ∷ []
+told (Refused n) = n ∷ 0 ∷ []
+
+abbrev pub asks : ℕ → ℤ → ℕ → ℕ → ℕ → Case
+asks horizon sum span number at = record { rules = told (latestOf horizon sum span) ∷ []; document = (number ∷ at ∷ []) ∷ [] }
+
+abbrev pub asksAfter : Table → List Call → ℕ → Case
+asksAfter t calls at =
+    let s = after (openingOf t .session) calls in
+    record { rules = told (latestOf (s .horizon .0) (s .remainders .0) (s .span)) ∷ []; document = (0 ∷ at ∷ []) ∷ [] }
 
 -- a stream with a short period beside seven with a long one
 abbrev pub crowded : ℕ → Table
@@ -201,7 +218,7 @@ markedCases =
     ∷ answers listed (replicate 17 (Arrival 1 5)) (replicate 16 20 ++ (9 ∷ []))
     ∷ []
 
--- the lines of the document that are not marked, and what else a reader may ask: a duration of W, W + 1, 0, 10,000,000 and 10,000,001; a clock at L = 200,000, at L + 1, and at the present time past L; two streams that share a deadline both close; stream 1's 6 comes before stream 2's 5; document 02, Req 02, "A padding of 0 in a table now stands for 3": the lines of k 3 are those of k 0, and two tables that opened with 0 while it stood for 1 give 7 and 6 now; Req 03, "the new job starts with the old charge less the granted budget, or zero if that is negative": two due streams of which one has overrun, a charge above three budgets over three closings and one above four over five, one that just reaches the budget, one above it by 1, one below it, and a completion after a carry; Req 05, "the exact margin, span less load": of the listing's table, of one whose load is the span and of the same with a reserved time raised by 1, of the stream alone that is over by 1, and of one that 6 refuses
+-- the lines of the document that are not marked, and what else a reader may ask: a duration of W, W + 1, 0, 10,000,000 and 10,000,001; a clock at L = 200,000, at L + 1, and at the present time past L; two streams that share a deadline both close; stream 1's 6 comes before stream 2's 5; document 02, Req 02, "A padding of 0 in a table now stands for 3": the lines of k 3 are those of k 0, and two tables that opened with 0 while it stood for 1 give 7 and 6 now; Req 03, "the new job starts with the old charge less the granted budget, or zero if that is negative": two due streams of which one has overrun, a charge above three budgets over three closings and one above four over five, one that just reaches the budget, one above it by 1, one below it, and a completion after a carry; Req 05, "the exact margin, span less load": of the listing's table, of one whose load is the span and of the same with a reserved time raised by 1, of the stream alone that is over by 1, and of one that 6 refuses; Req 06, "the horizon less the sum divided by the span, rounded down, is below 0 or does not fit 64 unsigned bits": a span of 0, numbers of no sound session that are told a moment, rounded once, at 0 and just below it, at the last moment of 64 bits and just past it, with the least sum of 64 bits, of the listing after its third call, and after an overrun and the move that carries it
 unfoldable pub otherCases : List Case
 otherCases =
     answers single (oneRequest 25_000) (20 ∷ 21 ∷ 25 ∷ [])
@@ -254,4 +271,17 @@ otherCases =
     ∷ opens (crowded 9_381) 7 0 2
     ∷ opens (alone 1 950_001) 7 0 1
     ∷ opens (alone 1 975_001) 6 0 0
+    ∷ asks 0 (pos 0) 5 0 0
+    ∷ asks 1_000 (pos 0) 0 31 0
+    ∷ asks 1_000 (pos 1) 3 0 999
+    ∷ asks 1_000 (negsuc 0) 3 0 1_000
+    ∷ asks 1_000 (pos 3_000) 3 0 0
+    ∷ asks 1_000 (pos 3_001) 3 31 0
+    ∷ asks 18_446_744_073_709_551_615 (negsuc 0) 2 0 18_446_744_073_709_551_615
+    ∷ asks 18_446_744_073_709_551_615 (negsuc 0) 1 31 0
+    ∷ asks 9_223_372_036_854_775_807 (negsuc 9_223_372_036_854_775_807) 1 0 18_446_744_073_709_551_615
+    ∷ asks 9_223_372_036_854_775_808 (negsuc 9_223_372_036_854_775_807) 1 31 0
+    ∷ asksAfter listed (oneRequest 5_000) 105_000
+    ∷ asksAfter single (oneRequest 230_000) 430_000
+    ∷ asksAfter single (thenTurns 230_000 1) 630_000
     ∷ []

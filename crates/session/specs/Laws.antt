@@ -7,8 +7,14 @@ use Prim.Native.Nat.{ℕ, _+_, _-_, _*_, _≤_, _<_}
 use lib.ListN.{getD}
 use Rattle.table.specs.Fold.{sumTo}
 use Rattle.table.specs.Admission.{admissionOf}
+use Rattle.table.specs.Whole.{aboveZero, belowZero}
 use Rattle.table.specs.Margin.{marginOf}
 use Rattle.table.specs.declared.Table.{Table}
+use Rattle.time.specs.Time.{session-end, moment}
+use Rattle.time.specs.Latest.{latestOf}
+use Rattle.time.specs.declared.Clock.{Clock}
+use Rattle.time.specs.declared.remainders.Latest.{Latest}
+use Rattle.time.specs.declared.remainders.Latest.the-variants.{At}
 use Rattle.stream.specs.Laws.{CarriedOn, GoesFirst}
 use Rattle.session.specs.Session.{streamAt, horizon, slotsAt, filledAt, inSet, someFilled, noSlot, scaledPart, latest, tableOf, sound}
 use Rattle.stream.specs.Choice.{distance}
@@ -21,6 +27,7 @@ use Rattle.session.specs.History.{Moment, historyOf, withinBounds, never
 use Rattle.session.specs.Promise.{EachClosed}
 use Rattle.session.specs.declared.Session.{Session}
 use Rattle.calls.specs.declared.Call.{Call}
+use Rattle.calls.specs.declared.Reply.{Reply}
 
 -- each case of a list comes out as the document says
 abbrev pub Hold : List Case → Type 0
@@ -118,6 +125,42 @@ PartsAreExact =
     (s : Session) → sound s ≡ true → (i : ℕ) → i < s .count
     → (streamAt s i .release .0 ≤ horizon s)
     × (scaledPart s i * streamAt s i .period ≡ (horizon s - streamAt s i .release .0) * streamAt s i .granted .0 * s .span)
+
+-- Document 02, Req 06: "Asking reads only that sum, the horizon and the span, and gives the L of the full sum for every session that calls can reach, overruns included." So of every sound session, and so after any calls.
+abbrev pub asked : Session → Latest
+asked s = latestOf (s .horizon .0) (s .remainders .0) (s .span)
+
+abbrev pub AskIsLatest : Type 0
+AskIsLatest =
+    ((s : Session) → sound s ≡ true → asked s ≡ At (moment (latest s)))
+    × ((t : Table) (calls : List Call) → admissionOf t ≡ 0 → let s = after (openingOf t .session) calls in asked s ≡ At (moment (latest s)))
+
+-- Two sessions that agree in the three numbers are told the same, sound or not.
+abbrev pub AskReadsThree : Type 0
+AskReadsThree =
+    (s z : Session) → s .horizon ≡ z .horizon → s .remainders ≡ z .remainders → s .span ≡ z .span → asked s ≡ asked z
+
+-- The sum that a sound session keeps is far from the ends of 64 bits: eight streams, a charge of at most 60,000,000 + 10,000,000 each, in a span of at most 600,000,000.
+abbrev pub remainders-max : ℕ
+remainders-max = 336_000_000_000_000_000
+
+abbrev pub RemaindersAreBounded : Type 0
+RemaindersAreBounded =
+    (s : Session) → sound s ≡ true → (aboveZero (s .remainders .0) ≤ remainders-max) × (belowZero (s .remainders .0) ≤ remainders-max)
+
+-- May a foreign request that takes at most x run now? If nothing is at the disk, and the clock and x together are no later than the moment that is told, the clock report after it is answered by 27, whatever is queued, and whatever arrives meanwhile: it is not late, and breaks no premise of the promise. (Past the session's end it is refused by 14, and changes nothing.)
+pub record Request : Type 0 where
+  pub stream : ℕ
+  pub place : ℕ
+
+abbrev pub arriving : List Request → List Call
+arriving requests = map (λ (r : Request). Call.Arrival (r .stream) (r .place)) requests
+
+abbrev pub ForeignRequestFits : Type 0
+ForeignRequestFits =
+    (s : Session) (until : Clock) (x : ℕ) (meanwhile : List Request) → sound s ≡ true → s .served ≡ 0 → asked s ≡ At until
+    → let now = s .clock .0 + x in
+    now ≤ until .0 → now ≤ session-end → answerTo (after s (arriving meanwhile)) (Call.Clock now) .reply ≡ Reply.Clock (moment now)
 
 -- "Horizon h = smallest deadline. Always r ≤ h ≤ d."
 abbrev pub HorizonBetween : Type 0

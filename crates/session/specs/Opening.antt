@@ -9,8 +9,10 @@ use Rattle.table.specs.Admission.{reservedAt, periodAt, grantedOf, admissionOf}
 use Rattle.table.specs.Margin.{margin, marginOf, answerOf}
 use Rattle.table.specs.declared.Table.{Table}
 use Rattle.time.specs.Time.{moment}
+use Rattle.time.specs.Latest.{remainders}
 use Rattle.stream.specs.Stream.{freshStream}
 use Rattle.stream.specs.declared.Stream.{Stream}
+use Rattle.session.specs.Session.{lookingAhead}
 use Rattle.session.specs.declared.Session.{Session}
 use Rattle.session.specs.declared.Opened.{Opened}
 
@@ -22,20 +24,25 @@ openedStream t i =
     (freshStream 0 0 0)
 
 -- "Clock t, starting at 0. Head place, starting at 0. The stream and place of the request at the disk, none at first." Of the margin, document 02, Req 05: "the session keeps it when admitted"
-unfoldable pub freshSession : Table → Session
-freshSession t =
+abbrev pub openedSession : Table → Session
+openedSession t =
     record {
       worst = t .worst;
       span = t .span;
       padding = t .padding;
       count = t .count;
       margin = margin (marginOf t);
+      horizon = moment 0;
+      remainders = remainders (pos 0);
       clock = moment 0;
       head = 0;
       served = 0;
       place = 0;
       streams = listTo (openedStream t) streams-max;
     }
+
+unfoldable pub freshSession : Table → Session
+freshSession t = lookingAhead (openedSession t)
 
 -- "no session is made, and an all-zero one, which is not sound, stands in its place"
 unfoldable pub zeroSession : Session
@@ -46,6 +53,8 @@ zeroSession =
       padding = 0;
       count = 0;
       margin = margin (pos 0);
+      horizon = moment 0;
+      remainders = remainders (pos 0);
       clock = moment 0;
       head = 0;
       served = 0;

@@ -4,14 +4,18 @@ use mathlib.Core.List.{List, [], map}
 use Prim.Native.Nat.{ℕ, _+_, _-_, _*_, _/_}
 use lib.ListN.{length, getD, set}
 use lib.Dec.{leb, ltb, eqb}
+use lib.IntN.{ℤ, pos, _-ℤ_}
 use Rattle.table.specs.Fold.{if, sumTo, smallestTo, allTo, someTo}
 use Rattle.table.specs.Ranges.{streams-max}
 use Rattle.table.specs.Admission.{admissionOf}
-use Rattle.table.specs.Margin.{marginOf, eqZ}
+use Rattle.table.specs.Whole.{eqZ, signedSumTo}
+use Rattle.table.specs.Margin.{marginOf}
 use Rattle.table.specs.declared.Table.{Table}
 use Rattle.time.specs.Time.{session-end, moment, diskTime}
+use Rattle.time.specs.Latest.{remainders}
 use Rattle.stream.specs.Stream.{slots, filled, soundStream, unusedStream}
 use Rattle.time.specs.declared.Clock.{Clock}
+use Rattle.time.specs.declared.remainders.Remainders.{Remainders}
 use Rattle.stream.specs.declared.Stream.{Stream}
 use Rattle.session.specs.declared.Session.{Session}
 
@@ -67,6 +71,13 @@ unfoldable pub latest : Session → ℕ
 latest s =
     ((horizon s + sumTo (λ i. streamAt s i .charge .0) (s .count)) * s .span - sumTo (scaledPart s) (s .count)) / s .span
 
+-- document 02, Req 06: "the sum of remainders, scaled by the span so that it is whole"; each is a whole number of either sign
+abbrev pub scaledRemainder : Session → ℕ → ℤ
+scaledRemainder s i = pos (scaledPart s i) -ℤ pos (streamAt s i .charge .0 * s .span)
+
+unfoldable pub remaindersOf : Session → ℤ
+remaindersOf s = signedSumTo (scaledRemainder s) (s .count)
+
 -- the table that a session was opened with
 abbrev pub tableOf : Session → Table
 tableOf s =
@@ -94,12 +105,17 @@ soundRest streams count =
 unfoldable pub usedStreams : Session → Bool
 usedStreams s = allTo (λ i. soundStream (s .worst) (s .padding) (horizon s) (streamAt s i)) (s .count)
 
--- "A session is sound if its table numbers are ones that opening admits", and the rest of that sentence, which stands above part by part; since "What a later request adds to the state joins this rule", the margin that it keeps is that of its table
+-- the horizon and the sum that a session keeps are those of its streams
+unfoldable pub soundAhead : Session → Bool
+soundAhead s = eqb (s .horizon .0) (horizon s) && eqZ (s .remainders .0) (remaindersOf s)
+
+-- "A session is sound if its table numbers are ones that opening admits", and the rest of that sentence, which stands above part by part; since "What a later request adds to the state joins this rule", the margin that it keeps is that of its table, and the horizon and the sum are those of its streams
 unfoldable pub sound : Session → Bool
 sound s =
     eqb (admissionOf (tableOf s)) 0
     && eqZ (s .margin .0) (marginOf (tableOf s))
     && usedStreams s
+    && soundAhead s
     && soundRest (s .streams) (s .count)
     && leb (s .clock .0) session-end
     && soundDisk s
@@ -113,6 +129,8 @@ withStreams s streams =
       padding = s .padding;
       count = s .count;
       margin = s .margin;
+      horizon = s .horizon;
+      remainders = s .remainders;
       clock = s .clock;
       head = s .head;
       served = s .served;
@@ -132,9 +150,32 @@ withDisk s clock head served place =
       padding = s .padding;
       count = s .count;
       margin = s .margin;
+      horizon = s .horizon;
+      remainders = s .remainders;
       clock = clock;
       head = head;
       served = served;
       place = place;
       streams = s .streams;
     }
+
+-- a session with another horizon and sum, and with those of its streams as they are now: "every call that changes a charge or the horizon keeps it true"
+abbrev pub withAhead : Session → Clock → Remainders → Session
+withAhead s horizon remainders =
+    record {
+      worst = s .worst;
+      span = s .span;
+      padding = s .padding;
+      count = s .count;
+      margin = s .margin;
+      horizon = horizon;
+      remainders = remainders;
+      clock = s .clock;
+      head = s .head;
+      served = s .served;
+      place = s .place;
+      streams = s .streams;
+    }
+
+abbrev pub lookingAhead : Session → Session
+lookingAhead s = withAhead s (moment (horizon s)) (remainders (remaindersOf s))

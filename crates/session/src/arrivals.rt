@@ -11,8 +11,7 @@ impl Session {
     pub fn arrival(self, stream: u64, place: u64) -> Answer
         ensures { λ r. ⌜ r ≡ answerTo self (Call.Arrival stream place) ⌝ }
     {
-        let judged = self.judge();
-        if !judged.sound {
+        if !self.is_sound() {
             return self.refuse(31);
         }
         if (stream == 0) | ((self.count as u64) < stream) {

@@ -11,8 +11,7 @@ impl Session {
     pub fn done(self, duration: u64) -> Answer
         ensures { λ r. ⌜ r ≡ answerTo self (Call.Done duration) ⌝ }
     {
-        let judged = self.judge();
-        if !judged.sound {
+        if !self.is_sound() {
             return self.refuse(31);
         }
         if self.served == 0 {

@@ -2,7 +2,7 @@
 ghost use mathlib.Core.Path.{_≡_};
 ghost use Rattle.session.specs.Session.{latest};
 ghost use Rattle.session.specs.Calls.{refuse, append, send, move, wait, expire, finish, set-clock, outcome};
-ghost use Rattle.session.specs.Inner.{Ahead, Due};
+ghost use Rattle.session.specs.Inner.{Due};
 ghost use Rattle.time.specs.Time.{moment};
 use crate::Answer;
 use crate::Session;
@@ -66,25 +66,24 @@ impl Session {
     }
 
     // Every stream whose deadline is the horizon closes its job, and the others keep theirs. The reply has the new horizon.
-    pub(crate) fn move_on(mut self, h: Clock) -> Answer
-        requires { ⌜ Ahead self h ⌝ }
+    pub(crate) fn move_on(mut self) -> Answer
+        requires { ⌜ Due self move ⌝ }
         ensures { λ r. ⌜ r ≡ outcome self move ⌝ }
     {
         let now = self.clock;
-        let first = self.streams[0];
-        let moved = first.moved(now, h);
-        let mut next = moved.deadline;
+        let h = self.horizon;
         let mut i: usize = 0;
         while i < self.count {
             let x = self.streams[i];
             let y = x.moved(now, h);
             self.streams[i] = y;
-            next = next.earlier(y.deadline);
             i += 1;
         }
-        let reply = Reply::Moved { horizon: next };
+        let next = self.looking_ahead();
+        let later = next.horizon;
+        let reply = Reply::Moved { horizon: later };
         Answer {
-            session: self,
+            session: next,
             reply: reply,
         }
     }
@@ -109,7 +108,10 @@ impl Session {
         let x = self.streams[n];
         let y = x.lapsed(self.worst);
         let charge = y.charge;
+        let lost = Charge::of(self.worst as u64);
+        let left = self.remainders.less(lost, self.span);
         self.streams[n] = y;
+        self.remainders = left;
         let number = n as u64 + 1;
         let reply = Reply::Expired {
             stream: number,
@@ -131,7 +133,9 @@ impl Session {
         let x = self.streams[n];
         let y = x.charged(taken);
         let charge = y.charge;
+        let sum = self.remainders.less(taken, self.span);
         self.streams[n] = y;
+        self.remainders = sum;
         self.clock = end;
         self.served = 0;
         self.place = 0;

@@ -3,6 +3,7 @@ mod arrivals;
 mod completions;
 mod dispatch;
 mod effects;
+mod horizons;
 mod lent;
 mod own_turns;
 mod reports;
@@ -14,24 +15,28 @@ ghost use mathlib.Core.Path.{_≡_};
 ghost use Prim.Native.Nat.{_<_};
 ghost use Rattle.table.specs.Fold.{listTo};
 ghost use Rattle.table.specs.Ranges.{streams-max};
+ghost use Rattle.table.specs.Admission.{admissionOf};
 ghost use Rattle.table.specs.Margin.{marginOf};
 ghost use Rattle.session.specs.Opening.{openedStream, freshSession, zeroSession, openingOf};
 use calls::Reply;
 pub use searches::Outlook;
-pub use soundness::Judged;
 use stream::Stream;
 use table::Admission;
 use table::Margin;
 use table::Table;
+use time::Charge;
 use time::Clock;
+use time::Remainders;
 
-// The first `count` of the eight streams are used. The margin is that of the table. `served` is the stream whose request is at the disk, counted from 1, or 0.
+// The first `count` of the eight streams are used. The margin is that of the table; the horizon is the smallest deadline, and the sum of all remainders is scaled by the span. `served` is the stream whose request is at the disk, counted from 1, or 0.
 pub struct Session {
     pub worst: u32,
     pub span: u32,
     pub padding: u32,
     pub count: usize,
     pub margin: Margin,
+    pub horizon: Clock,
+    pub remainders: Remainders,
     pub clock: Clock,
     pub head: u64,
     pub served: usize,
@@ -81,12 +86,15 @@ impl Session {
         let streams = [unused; Table::STREAMS_MAX];
         let start = Clock::at(0);
         let margin = Margin::none();
+        let nothing = Remainders::none();
         Session {
             worst: 0,
             span: 0,
             padding: 0,
             count: 0,
             margin: margin,
+            horizon: start,
+            remainders: nothing,
             clock: start,
             head: 0,
             served: 0,
@@ -96,25 +104,35 @@ impl Session {
     }
 }
 
-// A session at the first release of every stream, with the margin of its table.
+// A session at the first release of every stream, with the margin of its table. Nothing is charged yet, so that the sum of remainders is the horizon times the shares, and the shares are the load less W for each of the shortest periods: no stream's share is divided for again.
 fn fresh(t: Table, margin: Margin) -> Session
-    requires { ⌜ margin .0 ≡ marginOf t ⌝ }
+    requires { ⌜ (admissionOf t ≡ 0) × (margin .0 ≡ marginOf t) ⌝ }
     ensures { λ r. ⌜ r ≡ freshSession t ⌝ }
 {
     let streams = opened_streams(t);
     let start = Clock::at(0);
-    Session {
+    let nothing = Remainders::none();
+    let mut session = Session {
         worst: t.worst,
         span: t.span,
         padding: t.padding,
         count: t.count,
         margin: margin,
+        horizon: start,
+        remainders: nothing,
         clock: start,
         head: 0,
         served: 0,
         place: 0,
         streams: streams,
-    }
+    };
+    let h = session.soonest();
+    let load = t.span as u64 - margin.left();
+    let blocking = Charge::of(t.worst as u64);
+    let sum = Remainders::of(h.micros() * load, blocking, t.span);
+    session.horizon = h;
+    session.remainders = sum;
+    session
 }
 
 // The eight streams of a session that is opened with a table.

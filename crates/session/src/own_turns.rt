@@ -10,8 +10,7 @@ impl Session {
     pub fn own_turn(self, stream: u64, index: u64) -> Answer
         ensures { λ r. ⌜ r ≡ answerTo self (Call.OwnTurn stream index) ⌝ }
     {
-        let judged = self.judge();
-        if !judged.sound {
+        if !self.is_sound() {
             return self.refuse(31);
         }
         if self.served != 0 {
@@ -22,7 +21,7 @@ impl Session {
         }
         let n = (stream - 1) as usize;
         let x = self.streams[n];
-        let filled = x.filled(self.worst, judged.horizon);
+        let filled = x.filled(self.worst, self.horizon);
         if filled as u64 <= index {
             return self.refuse(15);
         }

@@ -5,14 +5,14 @@ use crate::Answer;
 use crate::Session;
 use calls::Call;
 use time::Clock;
+use time::Latest;
 
 impl Session {
     // The time is reported: 10, 13, 14.
     pub fn clock(self, time: u64) -> Answer
         ensures { λ r. ⌜ r ≡ answerTo self (Call.Clock time) ⌝ }
     {
-        let judged = self.judge();
-        if !judged.sound {
+        if !self.is_sound() {
             return self.refuse(31);
         }
         if self.served != 0 {
@@ -25,7 +25,9 @@ impl Session {
         if now.is_past_end() {
             return self.refuse(14);
         }
-        let until = self.latest(judged.horizon);
+        let Latest::At(until) = self.latest() else {
+            return self.refuse(31);
+        };
         self.set_clock(now, until)
     }
 }

@@ -1,19 +1,16 @@
 // What is looked for among the streams of a sound session, up to its horizon.
 ghost use mathlib.Core.Path.{_≡_};
 ghost use mathlib.Core.Bool.{true};
-ghost use Rattle.time.specs.Time.{moment};
-ghost use Rattle.session.specs.Session.{someFilled, latest};
+ghost use Rattle.session.specs.Session.{someFilled, sound};
 ghost use Rattle.session.specs.Choice.{nearestAt, chosen};
-ghost use Rattle.session.specs.Inner.{outlookOf, surveyOf, Ahead};
+ghost use Rattle.session.specs.Inner.{outlookOf, surveyOf};
 use crate::Session;
 use stream::Lapse;
 use stream::Pick;
-use stream::Sums;
 use stream::better;
 use stream::consider;
-use stream::summed;
-use time::Charge;
 use time::Clock;
+use time::Latest;
 
 // Whether a session is sound, its horizon and its latest safe moment, or zeros where it is not.
 pub struct Outlook {
@@ -22,20 +19,20 @@ pub struct Outlook {
     pub latest: Clock,
 }
 
-// What a turn without a request to send goes by: whether a stream has a slot and which would lose one, whether a move would close a job past the session's end, and the latest safe moment.
+// What a turn without a request to send goes by: whether a stream has a slot and which would lose one, and whether a move would close a job past the session's end.
 pub struct Survey {
     pub found: bool,
     pub expiring: usize,
     pub beyond: bool,
-    pub latest: Clock,
 }
 
 impl Session {
     // The request to send, where some slot is filled.
-    pub(crate) fn pick(self, h: Clock) -> Pick
-        requires { ⌜ Ahead self h ⌝ }
+    pub(crate) fn pick(self) -> Pick
+        requires { ⌜ sound self ≡ true ⌝ }
         ensures { λ r. ⌜ (r .found ≡ someFilled self) × (r .stream ≡ chosen self) × (r .found ≡ true → r .index ≡ nearestAt self (chosen self)) ⌝ }
     {
+        let h = self.horizon;
         let start = Clock::at(0);
         let mut pick = Pick {
             found: false,
@@ -54,18 +51,14 @@ impl Session {
     }
 
     // All that is asked of the streams where no slot is filled, in one pass.
-    pub(crate) fn survey(self, h: Clock) -> Survey
-        requires { ⌜ Ahead self h ⌝ }
+    pub(crate) fn survey(self) -> Survey
+        requires { ⌜ sound self ≡ true ⌝ }
         ensures { λ r. ⌜ r ≡ surveyOf self ⌝ }
     {
-        let nothing = Charge::of(0);
+        let h = self.horizon;
         let mut lapse = Lapse {
             found: false,
             stream: 0,
-        };
-        let mut sums = Sums {
-            charges: nothing,
-            parts: 0,
         };
         let mut passes = false;
         let mut i: usize = 0;
@@ -74,16 +67,13 @@ impl Session {
             let other = self.streams[best];
             let x = self.streams[i];
             lapse = better(lapse, other, i, x, self.worst, h);
-            sums = summed(sums, x, self.span, h);
             passes = passes | x.closes_past_end(h);
             i += 1;
         }
-        let until = h.less_remainders(sums.charges, sums.parts, self.span);
         Survey {
             found: lapse.found,
             expiring: lapse.stream,
             beyond: passes,
-            latest: until,
         }
     }
 
@@ -91,40 +81,23 @@ impl Session {
     pub fn outlook(self) -> Outlook
         ensures { λ r. ⌜ r ≡ outlookOf self ⌝ }
     {
-        let judged = self.judge();
-        if !judged.sound {
-            let start = Clock::at(0);
-            return Outlook {
-                sound: false,
-                horizon: start,
-                latest: start,
-            };
+        let start = Clock::at(0);
+        let none = Outlook {
+            sound: false,
+            horizon: start,
+            latest: start,
+        };
+        if !self.is_sound() {
+            return none;
         }
-        let h = judged.horizon;
-        let until = self.latest(h);
+        let Latest::At(until) = self.latest() else {
+            return none;
+        };
+        let h = self.horizon;
         Outlook {
             sound: true,
             horizon: h,
             latest: until,
         }
-    }
-
-    // The latest safe moment: the horizon less all remainders.
-    pub(crate) fn latest(self, h: Clock) -> Clock
-        requires { ⌜ Ahead self h ⌝ }
-        ensures { λ r. ⌜ r ≡ moment (latest self) ⌝ }
-    {
-        let nothing = Charge::of(0);
-        let mut sums = Sums {
-            charges: nothing,
-            parts: 0,
-        };
-        let mut i: usize = 0;
-        while i < self.count {
-            let x = self.streams[i];
-            sums = summed(sums, x, self.span, h);
-            i += 1;
-        }
-        h.less_remainders(sums.charges, sums.parts, self.span)
     }
 }

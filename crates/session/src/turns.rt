@@ -4,36 +4,37 @@ ghost use Rattle.session.specs.Calls.{answerTo};
 use crate::Answer;
 use crate::Session;
 use calls::Call;
+use time::Latest;
 
 impl Session {
     // What the house does next, the first that applies: 10, 14.
     pub fn turn(self) -> Answer
         ensures { λ r. ⌜ r ≡ answerTo self Call.Turn ⌝ }
     {
-        let judged = self.judge();
-        if !judged.sound {
+        if !self.is_sound() {
             return self.refuse(31);
         }
         if self.served != 0 {
             return self.refuse(10);
         }
-        let h = judged.horizon;
         // a. some slot is filled: send
-        let pick = self.pick(h);
+        let pick = self.pick();
         let filled = pick.found;
         if filled {
             return self.send(pick.stream, pick.index);
         }
         // b. no stream has a slot: move, or 14
-        let seen = self.survey(h);
+        let seen = self.survey();
         if !seen.found {
             if seen.beyond {
                 return self.refuse(14);
             }
-            return self.move_on(h);
+            return self.move_on();
         }
-        // c. only empty slots and t < L: wait until L
-        let until = seen.latest;
+        // c. only empty slots and t < L: wait until L, which a sound session always has
+        let Latest::At(until) = self.latest() else {
+            return self.refuse(31);
+        };
         if until.is_after(self.clock) {
             return self.wait(until);
         }

@@ -1,18 +1,22 @@
 -- A stream whose cells are sound, test by test: what each test says, and that these facts make them sound.
-use mathlib.Core.Bool.{Bool, true, false, _||_, false≢true}
+use mathlib.Core.Bool.{Bool, true, false, _&&_, _||_, false≢true}
 use mathlib.Core.List.{List}
 use mathlib.Core.Path.{_≡_, refl, sym}
 use mathlib.Core.Logic.{⊎-elim}
-use Prim.Native.Nat.{ℕ, _+_, _*_, _≤_, _<_}
+use Prim.Native.Nat.{ℕ, _+_, _*_, _/_, _≤_, _<_}
 use native.Mathlib.Omega.{arith}
 use lib.ListN.{length, getD, getD-replicate}
-use lib.Dec.{ltb, eqb}
+use lib.Dec.{leb, ltb, eqb}
 use borrow.Author.Tests.{leb-true, eqb-true, le-leb, lt-ltb, le-ltb, eq-eqb}
-use Rattle.table.specs.Admission.{grantedOf}
+use Rattle.table.specs.Ranges.{worst-max}
+use Rattle.table.specs.Admission.{grantedOf, shareOf, streamRefusal}
 use Rattle.table.proofs.Tests.{both, le-or-lt}
 use Rattle.table.proofs.Folds.{all-at, all-of}
+use Rattle.table.proofs.Judged.{Fits-in, stream-of as fits-of}
 use Rattle.time.specs.Time.{session-end, duration-max}
 use Rattle.stream.specs.Stream.{queue-max, freshStream, worked, closed, soundQueue, soundCells, soundStream}
+use Rattle.stream.specs.Bounds.{Bounded}
+use Rattle.stream.specs.Search.{inOrder}
 use Rattle.time.specs.declared.Clock.{Clock}
 use Rattle.stream.specs.declared.Stream.{Stream}
 
@@ -79,11 +83,6 @@ stream-of worst k h x t =
       covered = leb-true _ _ (d .1);
       queue = queue-of x (b .1);
     }
-
--- cells that are sound are in order at the release itself
-pub cells-of : (worst k : ℕ) (x : Stream) → soundCells worst k x ≡ true → InOrder worst k (x .release .0) x
-unfolding soundStream
-cells-of worst k x t = stream-of worst k (x .release .0) x (rw (t, le-leb (x .release .0) (x .release .0) (omega arith)))
 
 pub of-stream : (worst k h : ℕ) (x : Stream) → InOrder worst k h x → soundStream worst k h x ≡ true
 unfolding soundStream soundCells
@@ -154,3 +153,58 @@ fresh-order worst k h e p high =
         unused = λ j past m. getD-replicate queue-max j 0 0 m;
       };
     }
+
+-- A used stream, by its reservation and its cells: what the inner functions ask, and what is tested of it.
+granted-low : (worst k e : ℕ) → (e ≡ 0 → ⊥) → 1 ≤ grantedOf worst k e
+unfolding grantedOf
+granted-low worst k e ne = omega arith
+
+module _ (worst span k h : ℕ) (x : Stream) where
+  pub bounded-of : 1 ≤ worst → worst ≤ worst-max → Fits-in worst span k (x .reserved) (x .period) → InOrder worst k h x → h ≤ x .deadline .0 → Bounded worst h x
+  bounded-of low high fits q ahead =
+      record {
+        worst-low = low;
+        worst-high = high;
+        period-low = fits .period-low;
+        period-high = fits .period-high;
+        budget-low = rw (q .budget) (granted-low worst k (x .reserved) (fits .reserved-low));
+        budget-high = rw (q .budget) (fits .budget);
+        due = q .due;
+        deadline-high = q .deadline-high;
+        released = q .released;
+        ahead = ahead;
+        charge-high = q .charge-high;
+        covered = q .covered;
+        queued-high = q .queue .queued-high;
+      }
+
+  pub of-order : streamRefusal worst span k (x .reserved) (x .period) ≡ 0 → InOrder worst k h x → h ≤ x .deadline .0 → inOrder worst span k h x ≡ true
+  unfolding inOrder
+  of-order none q ahead = rw (eq-eqb _ _ none, of-stream worst k h x q, le-leb _ _ ahead)
+
+  module _ (t : inOrder worst span k h x ≡ true) where
+    tests : (eqb (streamRefusal worst span k (x .reserved) (x .period)) 0 && soundStream worst k h x ≡ true) × (leb h (x .deadline .0) ≡ true)
+    unfolding inOrder
+    tests = both _ _ t
+
+    parts : (eqb (streamRefusal worst span k (x .reserved) (x .period)) 0 ≡ true) × (soundStream worst k h x ≡ true)
+    parts = both _ _ (tests .0)
+
+    pub order-none : streamRefusal worst span k (x .reserved) (x .period) ≡ 0
+    order-none = eqb-true _ _ (parts .0)
+
+    pub order-fits : Fits-in worst span k (x .reserved) (x .period)
+    order-fits = fits-of worst span k (x .reserved) (x .period) order-none
+
+    pub order-cells : InOrder worst k h x
+    order-cells = stream-of worst k h x (parts .1)
+
+    pub order-ahead : h ≤ x .deadline .0
+    order-ahead = leb-true _ _ (tests .1)
+
+    pub order-share : x .granted .0 * (span / x .period) ≡ shareOf worst span k (x .reserved) (x .period)
+    unfolding shareOf
+    order-share = rw (order-cells .budget)
+
+    pub order-bounded : 1 ≤ worst → worst ≤ worst-max → Bounded worst h x
+    order-bounded low high = bounded-of low high order-fits order-cells order-ahead

@@ -2,6 +2,7 @@
 mod census;
 mod choice;
 mod expiry;
+mod sums;
 
 ghost use mathlib.Core.Path.{_≡_};
 ghost use Prim.Native.Nat.{_-_, _≤_, _<_};
@@ -15,9 +16,8 @@ pub use census::Census;
 pub use choice::Pick;
 pub use choice::consider;
 pub use expiry::Lapse;
-pub use expiry::Sums;
 pub use expiry::better;
-pub use expiry::summed;
+pub use sums::Sums;
 use time::Charge;
 use time::Clock;
 
@@ -125,15 +125,18 @@ impl Stream {
         covered & queue
     }
 
-    // Whether nothing refuses its reservation, and its cells are those of a stream in use.
-    pub(crate) fn is_in_order(self, worst: u32, span: u32, k: u32) -> bool
+    // Whether nothing refuses its reservation, its cells are those of a stream in use, and its job is open at the horizon.
+    pub(crate) fn is_in_order(self, worst: u32, span: u32, k: u32, h: Clock) -> bool
         requires { ⌜ (0 < worst) × (worst ≤ worst-max) ⌝ }
-        ensures { λ r. ⌜ r ≡ inOrder worst span k self ⌝ }
+        ensures { λ r. ⌜ r ≡ inOrder worst span k (h .0) self ⌝ }
     {
         if table::stream_refusal(worst, span, k, self.reserved, self.period) != 0 {
             return false;
         }
-        self.is_sound(worst, k)
+        let cells = self.is_sound(worst, k);
+        let released = self.release.is_by(h);
+        let due = h.is_by(self.deadline);
+        cells & released & due
     }
 
     // Whether every cell is 0.

@@ -12,18 +12,18 @@ use Rattle.session.proofs.Offsets.{offset-fits}
 use Rattle.session.proofs.Session.arrival.Statement.{statement}
 use Rattle.session.proofs.Session.arrival.Tie as tie
 
-judge-requires : tie.Need-judge-requires
-judge-requires c κs = tt
+is-sound-requires : tie.Need-is-sound-requires
+is-sound-requires c κs = tt
 
 refuse-requires : tie.Need-refuse-requires
 refuse-requires c κs = tt
 
 -- past 31 the session is sound
-ok : (c : tie.Else1) → sound (c .before .before .before .args .t1) ≡ true
-ok c = past-31 _ _ (c .before .before .judge .ensures) (c .if1 .left) .ok
+ok : (c : tie.Else1) → sound (c .before .before .args .t1) ≡ true
+ok c = past-31 _ _ (c .before .is-sound .ensures) (c .if1 .left)
 
 returns : tie.Need-returns
-returns c = answers _ _ (c .refuse .ensures) (unsound-verdict _ _ (by-31 _ _ (c .before .before .before .judge .ensures) (c .before .if1 .taken)))
+returns c = answers _ _ (c .refuse .ensures) (unsound-verdict _ _ (by-31 _ _ (c .before .before .is-sound .ensures) (c .before .if1 .taken)))
 
 refuse-requires-2 : tie.Need-refuse-requires-2
 refuse-requires-2 c κs = tt
@@ -33,11 +33,11 @@ unfolding noSuchStream
 returns-2 c = answers _ _ (c .refuse2 .ensures) (arrival-nowhere _ _ _ (ok (c .before .before)) (c .before .if2 .taken))
 
 -- past 8 the stream is one of its own
-own : (c : tie.Else2) → let a = c .before .before .before .before .args in noSuchStream (a .t1) (a .stream) ≡ false
+own : (c : tie.Else2) → let a = c .before .before .before .args in noSuchStream (a .t1) (a .stream) ≡ false
 unfolding noSuchStream
 own c = c .if2 .left
 
-here : (c : tie.Else2) → let a = c .before .before .before .before .args in (1 ≤ a .stream) × (a .stream - 1 < a .t1 .count)
+here : (c : tie.Else2) → let a = c .before .before .before .args in (1 ≤ a .stream) × (a .stream - 1 < a .t1 .count)
 here c = named _ _ (own c)
 
 sub-n : tie.Need-sub-n
@@ -56,7 +56,7 @@ returns-3 : tie.Need-returns-3
 returns-3 c = answers _ _ (c .refuse3 .ensures) (arrival-full _ _ _ (ok (c .before .before .before .before .before)) (own (c .before .before .before .before)) (c .before .if3 .taken))
 
 -- past 9 the request joins the queue
-joins : (c : tie.Else3) → let a = c .before .before .before .before .before .before .before .args in verdict (a .t1) (Call.Arrival (a .stream) (a .place)) ≡ append (a .stream - 1) (a .place)
+joins : (c : tie.Else3) → let a = c .before .before .before .before .before .before .args in verdict (a .t1) (Call.Arrival (a .stream) (a .place)) ≡ append (a .stream - 1) (a .place)
 joins c = arrival-joins _ _ _ (ok (c .before .before .before .before)) (own (c .before .before .before)) (c .if3 .left)
 
 append-requires : tie.Need-append-requires
@@ -69,7 +69,7 @@ pub arrival-spec : {M : Type 1} → statement M
 arrival-spec =
     tie.close
     (tie.spec
-    judge-requires
+    is-sound-requires
     refuse-requires
     returns
     refuse-requires-2

@@ -8,21 +8,23 @@ use Rattle.session.specs.Calls.{set-clock, verdict}
 use Rattle.calls.specs.declared.Call.{Call}
 use Rattle.session.proofs.Dues.{by-31, past-31}
 use Rattle.session.proofs.Answers.{answers, unsound-verdict, clock-busy, clock-back, clock-ends, clock-sets}
+use borrow.Author.Needs.{needs}
+use Rattle.session.proofs.Latest.{always-told, told-is}
 use Rattle.session.proofs.Session.clock.Statement.{statement}
 use Rattle.session.proofs.Session.clock.Tie as tie
 
-judge-requires : tie.Need-judge-requires
-judge-requires c κs = tt
+is-sound-requires : tie.Need-is-sound-requires
+is-sound-requires c κs = tt
 
 refuse-requires : tie.Need-refuse-requires
 refuse-requires c κs = tt
 
 -- past 31 the session is sound
-ok : (c : tie.Else1) → sound (c .before .before .before .args .self) ≡ true
-ok c = past-31 _ _ (c .before .before .judge .ensures) (c .if1 .left) .ok
+ok : (c : tie.Else1) → sound (c .before .before .args .self) ≡ true
+ok c = past-31 _ _ (c .before .is-sound .ensures) (c .if1 .left)
 
 returns : tie.Need-returns
-returns c = answers _ _ (c .refuse .ensures) (unsound-verdict _ _ (by-31 _ _ (c .before .before .before .judge .ensures) (c .before .if1 .taken)))
+returns c = answers _ _ (c .refuse .ensures) (unsound-verdict _ _ (by-31 _ _ (c .before .before .is-sound .ensures) (c .before .if1 .taken)))
 
 refuse-requires-2 : tie.Need-refuse-requires-2
 refuse-requires-2 c κs = tt
@@ -37,10 +39,10 @@ is-after-requires : tie.Need-is-after-requires
 is-after-requires c κs = tt
 
 -- what the tests for 13 and 14 say
-back : (c : tie.After-is-after) → let a = c .before .before .before .before .before .before .before .args in c .is-after .result ≡ ltb (a .time) (a .self .clock .0)
+back : (c : tie.After-is-after) → let a = c .before .before .before .before .before .before .args in c .is-after .result ≡ ltb (a .time) (a .self .clock .0)
 back c = rw (c .is-after .ensures, c .before .at .ensures)
 
-onward : (c : tie.Else3) → let a = c .before .before .before .before .before .before .before .before .args in ltb (a .time) (a .self .clock .0) ≡ false
+onward : (c : tie.Else3) → let a = c .before .before .before .before .before .before .before .args in ltb (a .time) (a .self .clock .0) ≡ false
 onward c = sym (back (c .before)) ∙ c .if3 .left
 
 refuse-requires-3 : tie.Need-refuse-requires-3
@@ -52,7 +54,7 @@ returns-3 c = answers _ _ (c .refuse3 .ensures) (clock-back _ _ (ok (c .before .
 is-past-end-requires : tie.Need-is-past-end-requires
 is-past-end-requires c κs = tt
 
-past : (c : tie.After-is-past-end) → c .is-past-end .result ≡ ltb session-end (c .before .before .before .before .before .before .before .before .before .args .time)
+past : (c : tie.After-is-past-end) → c .is-past-end .result ≡ ltb session-end (c .before .before .before .before .before .before .before .before .args .time)
 past c = rw (c .is-past-end .ensures, c .before .before .before .at .ensures)
 
 refuse-requires-4 : tie.Need-refuse-requires-4
@@ -62,23 +64,36 @@ returns-4 : tie.Need-returns-4
 returns-4 c = answers _ _ (c .refuse4 .ensures) (clock-ends _ _ (ok (c .before .before .before .before .before .before .before .before)) (c .before .before .before .before .before .before .if2 .left) (onward (c .before .before .before)) (sym (past (c .before .before)) ∙ c .before .if4 .taken))
 
 latest-requires : tie.Need-latest-requires
-latest-requires c κs = past-31 _ _ (c .before .before .before .before .before .before .before .before .before .judge .ensures) (c .before .before .before .before .before .before .before .if1 .left)
+latest-requires c κs = tt
+
+enum-known-until : tie.Need-enum-known-until
+enum-known-until c = search needs
+
+enum-told : tie.Need-enum-told
+enum-told c = search needs
+
+refuse-requires-5 : tie.Need-refuse-requires-5
+refuse-requires-5 c κs = tt
+
+-- a sound session is told its latest safe moment
+returns-5 : tie.Need-returns-5
+returns-5 c = absurd (always-told _ (ok (c .before .before .before .before .before .before .before .before .before .before .before)) _ (sym (c .before .before .before .latest .ensures) ∙ c .before .enum-told .given .1))
 
 set-clock-requires : tie.Need-set-clock-requires
-set-clock-requires c κs = c .latest .ensures
+set-clock-requires c κs = told-is _ (ok (c .before .before .before .before .before .before .before .before .before .before .before)) _ (sym (c .before .before .before .latest .ensures) ∙ c .before .until .given .1)
 
 -- past 14 the clock is set
-sets : (c : tie.Else4) → let a = c .before .before .before .before .before .before .before .before .before .before .args in verdict (a .self) (Call.Clock (a .time)) ≡ set-clock (c .before .before .before .before .at .result .0)
+sets : (c : tie.Else4) → let a = c .before .before .before .before .before .before .before .before .before .args in verdict (a .self) (Call.Clock (a .time)) ≡ set-clock (c .before .before .before .before .at .result .0)
 sets c = rw (c .before .before .before .before .at .ensures) (clock-sets _ _ (ok (c .before .before .before .before .before .before .before)) (c .before .before .before .before .before .if2 .left) (onward (c .before .before)) (sym (past (c .before)) ∙ c .if4 .left))
 
-returns-5 : tie.Need-returns-5
-returns-5 c = answers _ _ (c .set-clock .ensures) (sets (c .before .before))
+returns-6 : tie.Need-returns-6
+returns-6 c = answers _ _ (c .set-clock .ensures) (sets (c .before .before .before .before .before))
 
 pub clock-spec : {M : Type 1} → statement M
 clock-spec =
     tie.close
     (tie.spec
-    judge-requires
+    is-sound-requires
     refuse-requires
     returns
     refuse-requires-2
@@ -91,5 +106,9 @@ clock-spec =
     refuse-requires-4
     returns-4
     latest-requires
+    enum-known-until
+    enum-told
+    refuse-requires-5
+    returns-5
     set-clock-requires
-    returns-5)
+    returns-6)

@@ -16,18 +16,18 @@ use Rattle.session.proofs.Sound.{sound-of}
 use Rattle.session.proofs.Session.done.Statement.{statement}
 use Rattle.session.proofs.Session.done.Tie as tie
 
-judge-requires : tie.Need-judge-requires
-judge-requires c κs = tt
+is-sound-requires : tie.Need-is-sound-requires
+is-sound-requires c κs = tt
 
 refuse-requires : tie.Need-refuse-requires
 refuse-requires c κs = tt
 
 -- past 31 the session is sound
-ok : (c : tie.Else1) → sound (c .before .before .before .args .self) ≡ true
-ok c = past-31 _ _ (c .before .before .judge .ensures) (c .if1 .left) .ok
+ok : (c : tie.Else1) → sound (c .before .before .args .self) ≡ true
+ok c = past-31 _ _ (c .before .is-sound .ensures) (c .if1 .left)
 
 returns : tie.Need-returns
-returns c = answers _ _ (c .refuse .ensures) (unsound-verdict _ _ (by-31 _ _ (c .before .before .before .judge .ensures) (c .before .if1 .taken)))
+returns c = answers _ _ (c .refuse .ensures) (unsound-verdict _ _ (by-31 _ _ (c .before .before .is-sound .ensures) (c .before .if1 .taken)))
 
 refuse-requires-2 : tie.Need-refuse-requires-2
 refuse-requires-2 c κs = tt
@@ -43,7 +43,7 @@ unfolding outside
 returns-3 c = answers _ _ (c .refuse3 .ensures) (done-outside _ _ (ok (c .before .before .before .before)) (c .before .before .if2 .left) (c .before .if3 .taken))
 
 -- past 12 the duration is in its range
-in-range : (c : tie.Else3) → outside 1 duration-max (c .before .before .before .before .before .before .args .duration) ≡ false
+in-range : (c : tie.Else3) → outside 1 duration-max (c .before .before .before .before .before .args .duration) ≡ false
 unfolding outside
 in-range c = c .if3 .left
 
@@ -57,7 +57,7 @@ is-past-end-requires : tie.Need-is-past-end-requires
 is-past-end-requires c κs = tt
 
 -- what the test for 14 says
-past : (c : tie.After-is-past-end) → let a = c .before .before .before .before .before .before .before .before .before .args in c .is-past-end .result ≡ ltb session-end (a .self .clock .0 + a .duration)
+past : (c : tie.After-is-past-end) → let a = c .before .before .before .before .before .before .before .before .args in c .is-past-end .result ≡ ltb session-end (a .self .clock .0 + a .duration)
 past c = rw (c .is-past-end .ensures, c .before .after .ensures, c .before .before .of .ensures)
 
 refuse-requires-4 : tie.Need-refuse-requires-4
@@ -67,7 +67,7 @@ returns-4 : tie.Need-returns-4
 returns-4 c = answers _ _ (c .refuse4 .ensures) (done-ends _ _ (ok (c .before .before .before .before .before .before .before .before)) (c .before .before .before .before .before .before .if2 .left) (in-range (c .before .before .before .before .before)) (sym (past (c .before .before)) ∙ c .before .if4 .taken))
 
 -- past 14 the stream is charged
-charges : (c : tie.Else4) → let a = c .before .before .before .before .before .before .before .before .before .before .args in verdict (a .self) (Call.Done (a .duration)) ≡ finish (a .self .served - 1) (c .before .before .before .of .result .0)
+charges : (c : tie.Else4) → let a = c .before .before .before .before .before .before .before .before .before .args in verdict (a .self) (Call.Done (a .duration)) ≡ finish (a .self .served - 1) (c .before .before .before .of .result .0)
 charges c = rw (c .before .before .before .of .ensures) (done-charges _ _ (ok (c .before .before .before .before .before .before .before)) (c .before .before .before .before .before .if2 .left) (in-range (c .before .before .before .before)) (sym (past (c .before)) ∙ c .if4 .left))
 
 sub-finish : tie.Need-sub-finish
@@ -83,7 +83,7 @@ pub done-spec : {M : Type 1} → statement M
 done-spec =
     tie.close
     (tie.spec
-    judge-requires
+    is-sound-requires
     refuse-requires
     returns
     refuse-requires-2

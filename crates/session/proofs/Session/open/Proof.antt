@@ -32,7 +32,8 @@ enum-known-admission c = search needs
 
 fresh-requires : tie.Need-fresh-requires
 fresh-requires c κs =
-    ap (λ (m : Margin). m .0) (admitted-only _ _ (sym (c .before .before .before .admission .ensures) ∙ c .before .admission2 .given .1) .1)
+    let only = admitted-only _ _ (sym (c .before .before .before .admission .ensures) ∙ c .before .admission2 .given .1) in
+    (only .0, ap (λ (m : Margin). m .0) (only .1))
 
 zero-requires : tie.Need-zero-requires
 zero-requires c κs = search needs

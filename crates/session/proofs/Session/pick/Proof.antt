@@ -10,10 +10,10 @@ use Rattle.session.proofs.Session.pick.Statement.{statement}
 use Rattle.session.proofs.Session.pick.Tie as tie
 
 abbrev Inv-loop : tie.InvT-loop
-Inv-loop h s pick₀ i₀ pick i = (i ≤ s .count) × Picked s i pick
+Inv-loop s h pick₀ i₀ pick i = (i ≤ s .count) × Picked s i pick
 
 abbrev μ-loop : tie.MeasureT-loop
-μ-loop h s pick₀ i₀ pick i = s .count - i
+μ-loop s h pick₀ i₀ pick i = s .count - i
 
 at-requires : tie.Need-at-requires Inv-loop μ-loop
 at-requires c κs = tt
@@ -22,22 +22,22 @@ loop-holds : tie.Need-loop-holds Inv-loop μ-loop
 loop-holds c = (none-passed _, picked-none _ _ refl refl)
 
 mul-x : tie.Need-mul-x Inv-loop μ-loop
-mul-x c = offset-fits _ _ (inside _ (c .before .before .before .pre .ok) _ (c .loop-test .taken)) refl
+mul-x c = offset-fits _ _ (inside _ (c .before .before .before .before .pre) _ (c .loop-test .taken)) refl
 
 element-copy-out-x : tie.Need-element-copy-out-x Inv-loop μ-loop
-element-copy-out-x c = inside _ (c .before .before .before .pre .ok) _ (c .loop-test .taken)
+element-copy-out-x c = inside _ (c .before .before .before .before .pre) _ (c .loop-test .taken)
 
 consider-requires : tie.Need-consider-requires Inv-loop μ-loop
-consider-requires c κs = let pre = c .before .before .before .before .pre in bounded-by _ (sound-of _ (pre .ok)) _ (pre .is) _ (c .before .loop-test .taken)
+consider-requires c κs = bounded-by _ (sound-of _ (c .before .before .before .before .before .pre)) _ refl _ (c .before .loop-test .taken)
 
 add-i : tie.Need-add-i Inv-loop μ-loop
-add-i c = next-fits _ (inside _ (c .before .before .before .before .before .pre .ok) _ (c .before .before .loop-test .taken))
+add-i c = next-fits _ (inside _ (c .before .before .before .before .before .before .pre) _ (c .before .before .loop-test .taken))
 
 loop-less : tie.Need-loop-less Inv-loop μ-loop
 loop-less c = fewer _ _ (c .before .before .loop-test .taken)
 
 loop-again : tie.Need-loop-again Inv-loop μ-loop
-loop-again c = let at = c .before .before .before .loop in (one-passed _ _ (c .before .before .loop-test .taken), picked-more _ (at .i) (at .pick) (at .inv .1) _ _ (c .before .before .before .before .before .pre .is) (c .consider .ensures))
+loop-again c = let at = c .before .before .before .loop in (one-passed _ _ (c .before .before .loop-test .taken), picked-more _ (at .i) (at .pick) (at .inv .1) _ _ (sound-of _ (c .before .before .before .before .before .before .pre) .ahead .horizon-is) (c .consider .ensures))
 
 returns : tie.Need-returns Inv-loop μ-loop
 returns c = let at = c .before .loop in picked-all _ (at .i) (at .pick) (at .inv .1) (at .inv .0) (c .loop-test .left)

@@ -13,9 +13,12 @@ at-requires c κs = search needs
 none-requires : tie.Need-none-requires
 none-requires c κs = search needs
 
+none-requires-2 : tie.Need-none-requires-2
+none-requires-2 c κs = search needs
+
 returns : tie.Need-returns
 unfolding zeroSession
-returns c = rw (c .none .ensures, c .before .at .ensures, c .before .before .fresh .ensures)
+returns c = rw (c .none2 .ensures, c .before .none .ensures, c .before .before .at .ensures, c .before .before .before .fresh .ensures)
 
 pub zero-spec : {M : Type 1} → statement M
-zero-spec = tie.close (tie.spec fresh-requires at-requires none-requires returns)
+zero-spec = tie.close (tie.spec fresh-requires at-requires none-requires none-requires-2 returns)

@@ -7,6 +7,7 @@ use native.Mathlib.Omega.{arith}
 use Rattle.table.specs.Admission.{grantedOf, streamRefusal}
 use Rattle.table.specs.Ranges.{period-max}
 use Rattle.table.proofs.Judged.{stream-of}
+use Rattle.stream.specs.Stream.{soundStream}
 use Rattle.stream.specs.Search.{inOrder}
 use Rattle.stream.proofs.Stream.is_in_order.Statement.{statement}
 use Rattle.stream.proofs.Stream.is_in_order.Tie as tie
@@ -27,9 +28,15 @@ none c = sym (c .before .stream-refusal .ensures) ∙ c .if1 .left
 is-sound-requires : tie.Need-is-sound-requires
 is-sound-requires c κs = let start = c .before .before in (start .pre .0, start .pre .1, budget-small _ _ _ _ _ (none c))
 
+is-by-requires : tie.Need-is-by-requires
+is-by-requires c κs = search needs
+
+is-by-requires-2 : tie.Need-is-by-requires-2
+is-by-requires-2 c κs = search needs
+
 returns-2 : tie.Need-returns-2
-unfolding inOrder
-returns-2 c = rw (eq-eqb _ _ (none (c .before)), c .is-sound .ensures)
+unfolding inOrder soundStream
+returns-2 c = rw (eq-eqb _ _ (none (c .before .before .before)), c .before .before .is-sound .ensures, c .before .is-by .ensures, c .is-by2 .ensures)
 
 pub is-in-order-spec : {M : Type 1} → statement M
-is-in-order-spec = tie.close (tie.spec stream-refusal-requires returns is-sound-requires returns-2)
+is-in-order-spec = tie.close (tie.spec stream-refusal-requires returns is-sound-requires is-by-requires is-by-requires-2 returns-2)

@@ -7,12 +7,12 @@ use Rattle.stream.proofs.census.Census.begin.Tie as tie
 numbers-refusal-requires : tie.Need-numbers-refusal-requires
 numbers-refusal-requires c κs = search needs
 
-at-requires : tie.Need-at-requires
-at-requires c κs = search needs
+none-requires : tie.Need-none-requires
+none-requires c κs = search needs
 
 returns : tie.Need-returns
 unfolding begun
-returns c = rw (c .before .at .ensures, c .before .before .numbers-refusal .ensures)
+returns c = rw (c .before .none .ensures, c .before .before .numbers-refusal .ensures)
 
 pub begin-spec : {M : Type 1} → statement M
-begin-spec = tie.close (tie.spec numbers-refusal-requires at-requires returns)
+begin-spec = tie.close (tie.spec numbers-refusal-requires none-requires returns)

@@ -7,12 +7,14 @@ use Rattle.table.specs.Fold.{if}
 use Rattle.table.specs.Ranges.{streams-max}
 use Rattle.table.specs.Refusal.{given, _or-next_}
 use Rattle.table.proofs.Lists.{getD-listTo}
-use Rattle.calls.specs.Replies.{numberOf}
+use Rattle.time.specs.declared.Clock.{Clock}
+use Rattle.calls.specs.Replies.{numberOf, streamOf}
 use Rattle.calls.specs.declared.Call.{Call}
 use Rattle.session.specs.Session.{streamAt, sound}
 use Rattle.session.specs.Calls.{refusal, ruled, verdict, replyTo, answerTo, after}
-use Rattle.session.specs.History.{Moment, historyFrom}
+use Rattle.session.specs.History.{durationOf, Moment, historyFrom}
 use Rattle.session.specs.declared.Session.{Session}
+use Rattle.session.proofs.Sound.{sound-of}
 use Rattle.file.specs.declared.event.Event.{Event}
 use Rattle.counts.specs.Tally.{nothing, together, added, tallyOf}
 use Rattle.counts.specs.Counts.{counts, none, both, callsOf, countsOf}
@@ -33,14 +35,18 @@ unsound-answer : (s : Session) (k : Call) → sound s ≡ false → numberOf (an
 unfolding answerTo verdict refusal given _or-next_ ruled replyTo
 unsound-answer s k e = rw e
 
--- so what is told of a call is what its moment says
+-- so what is told of a call is what its moment says: the horizon that a sound session keeps is its own
 added-is : (s : Session) (k : Call) (i : ℕ)
     → addedBy (toldBy s k (answerTo s k .reply)) (streamAt s i .deadline .0) i ≡ added i (momentOf s k)
 unfolding addedBy toldBy added if
 added-is s k i = go (sound s) refl
   where
     go : (b : Bool) → sound s ≡ b → addedBy (toldBy s k (answerTo s k .reply)) (streamAt s i .deadline .0) i ≡ added i (momentOf s k)
-    go true e = rw e
+    go true e =
+        let r = answerTo s k .reply in
+        ap
+        (λ (h : Clock). addedBy (record { number = numberOf r; stream = streamOf k r; duration = durationOf k; horizon = h; clock = s .clock }) (streamAt s i .deadline .0) i)
+        (sound-of s e .ahead .horizon-is)
     go false e = rw (unsound-answer s k e)
 
 -- one call more

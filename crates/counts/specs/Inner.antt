@@ -5,11 +5,10 @@ use Prim.Native.Nat.{ℕ, _+_}
 use lib.Dec.{ltb, eqb}
 use Rattle.table.specs.Fold.{if, listTo}
 use Rattle.table.specs.Ranges.{streams-max}
-use Rattle.time.specs.Time.{moment}
 use Rattle.calls.specs.Replies.{numberOf, streamOf}
 use Rattle.calls.specs.declared.Call.{Call}
 use Rattle.calls.specs.declared.Reply.{Reply}
-use Rattle.session.specs.Session.{streamAt, horizon, sound}
+use Rattle.session.specs.Session.{streamAt}
 use Rattle.session.specs.Calls.{answerTo}
 use Rattle.session.specs.History.{durationOf}
 use Rattle.session.specs.declared.Session.{Session}
@@ -27,7 +26,7 @@ toldBy s k r =
       number = numberOf r;
       stream = streamOf k r;
       duration = durationOf k;
-      horizon = moment (if (sound s) (horizon s) 0);
+      horizon = s .horizon;
       clock = s .clock;
     }
 

@@ -102,8 +102,7 @@ impl Told {
     fn by(session: Session, call: Call, reply: Reply) -> Told
         ensures { λ r. ⌜ r ≡ toldBy session call reply ⌝ }
     {
-        let judged = session.judge();
-        let horizon = judged.horizon;
+        let horizon = session.horizon;
         let clock = session.clock;
         Told {
             number: reply.number(),

@@ -1,14 +1,22 @@
--- What an image keeps: it is its session and back again, and a refusal changes none of its numbers.
+-- What an image keeps: it is its session and back again, a refusal changes none of its numbers, and what is asked of it is what it shows.
 use mathlib.Core.Path.{_≡_, refl, sym, ap, _∙_}
+use mathlib.Core.Bool.{true, false≢true}
 use Prim.Native.Nat.{ℕ, suc}
+use native.Mathlib.Omega.{arith}
 use lib.Dec.{eqb}
 use borrow.Author.Tests.{eqb-true}
 use Rattle.table.proofs.Tests.{by-if}
+use Rattle.session.specs.Session.{sound}
+use Rattle.session.specs.Opening.{zeroSession}
+use Rattle.session.specs.Laws.{asked}
+use Rattle.session.proofs.Openings.{opening-is-sound, ask-is-latest}
+use Rattle.view.specs.View.{viewOf}
+use Rattle.view.specs.declared.View.{View}
 use Rattle.session.specs.Calls.{refusal, ruled, verdict, apply, answerTo}
 use Rattle.session.specs.declared.Session.{Session}
 use Rattle.calls.specs.declared.Call.{Call}
-use Rattle.shelf.specs.Image.{nearest-first, imageOf, sessionOf, answeredAs}
-use Rattle.shelf.specs.Laws.{NothingIsLost, RefusalChangesNothing}
+use Rattle.shelf.specs.Image.{nearest-first, imageOf, sessionOf, answeredAs, shownOf, momentAs, latestAs}
+use Rattle.shelf.specs.Laws.{NothingIsLost, AskedAsShown, RefusalChangesNothing}
 use Rattle.shelf.specs.declared.images.Image.{Image}
 use Rattle.shelf.specs.declared.images.Answered.{Answered}
 
@@ -30,3 +38,19 @@ refusal-changes-nothing i k n e =
     by-if (λ (a : Answered). a .session ≡ i) (eqb (i .order) nearest-first) _ _
     (λ near. ap imageOf (same-session (sessionOf i) k n e) ∙ back i (eqb-true (i .order) nearest-first near))
     (λ other. refl)
+
+-- a session that is shown is sound, and so is told its latest safe moment
+shown-is : (i : Image) (s : Session) → (sound s ≡ true → latestAs (i .horizon .0) (i .remainders .0) (i .span) ≡ momentAs (asked s)) → viewOf s .number ≡ 0
+    → latestAs (i .horizon .0) (i .remainders .0) (i .span) ≡ record { number = 0; at = viewOf s .latest .0 }
+unfolding viewOf
+shown-is i s same =
+    by-if (λ (v : View). v .number ≡ 0 → latestAs (i .horizon .0) (i .remainders .0) (i .span) ≡ record { number = 0; at = v .latest .0 }) (sound s) _ _
+    (λ ok is. same ok ∙ ap momentAs (ask-is-latest .0 s ok))
+    (λ bad is. absurd (omega (arith, is)))
+
+pub asked-as-shown : AskedAsShown
+unfolding shownOf sessionOf
+asked-as-shown i =
+    by-if (λ (s : Session). viewOf s .number ≡ 0 → latestAs (i .horizon .0) (i .remainders .0) (i .span) ≡ record { number = 0; at = viewOf s .latest .0 }) (eqb (i .order) nearest-first) _ _
+    (λ near. shown-is i (sessionOf i) (λ ok. refl))
+    (λ other. shown-is i zeroSession (λ ok. absurd (false≢true (sym (opening-is-sound .1) ∙ ok))))

@@ -1,9 +1,13 @@
 -- A session as numbers alone, and what is answered to it.
 use Prim.Native.Nat.{ℕ}
 use lib.Dec.{eqb}
+use lib.IntN.{ℤ}
 use Rattle.table.specs.Fold.{if}
 use Rattle.table.specs.Margin.{numberIn, marginIn}
 use Rattle.table.specs.declared.Table.{Table}
+use Rattle.time.specs.Latest.{latestOf}
+use Rattle.time.specs.declared.remainders.Latest.{Latest}
+use Rattle.time.specs.declared.remainders.Latest.the-variants.{At, Refused}
 use Rattle.session.specs.Opening.{zeroSession, openingOf}
 use Rattle.calls.specs.Replies.{numberOf, valueOf, streamOf}
 use Rattle.session.specs.Calls.{answerTo}
@@ -18,6 +22,7 @@ use Rattle.shelf.specs.declared.images.Image.{Image}
 use Rattle.shelf.specs.declared.images.Told.{Told}
 use Rattle.shelf.specs.declared.images.Answered.{Answered}
 use Rattle.shelf.specs.declared.images.Opening.{Opening}
+use Rattle.shelf.specs.declared.images.Moment.{Moment}
 
 -- the number of the one order there is, nearest first
 abbrev pub nearest-first : ℕ
@@ -32,6 +37,8 @@ imageOf s =
       order = nearest-first;
       count = s .count;
       margin = s .margin;
+      horizon = s .horizon;
+      remainders = s .remainders;
       clock = s .clock;
       head = s .head;
       served = s .served;
@@ -48,6 +55,8 @@ sessionOf i =
       padding = i .padding;
       count = i .count;
       margin = i .margin;
+      horizon = i .horizon;
+      remainders = i .remainders;
       clock = i .clock;
       head = i .head;
       served = i .served;
@@ -87,3 +96,12 @@ stateAs i n = stateOf (shownOf i) n
 
 abbrev pub closingAs : Image → ℕ → Closing
 closingAs i n = closingOf (shownOf i) n
+
+-- the latest safe moment as two numbers: 0 and the moment, or the refusal and 0
+abbrev pub momentAs : Latest → Moment
+momentAs (At until) = record { number = 0; at = until .0 }
+momentAs (Refused n) = record { number = n; at = 0 }
+
+-- what asking with three numbers is answered
+abbrev pub latestAs : ℕ → ℤ → ℕ → Moment
+latestAs horizon sum span = momentAs (latestOf horizon sum span)

@@ -4,7 +4,7 @@ use Prim.Native.Nat.{ℕ, suc}
 use Rattle.session.specs.Calls.{refusal}
 use Rattle.session.specs.declared.Session.{Session}
 use Rattle.calls.specs.declared.Call.{Call}
-use Rattle.shelf.specs.Image.{nearest-first, imageOf, sessionOf, answeredAs}
+use Rattle.shelf.specs.Image.{nearest-first, imageOf, sessionOf, answeredAs, viewedAs, latestAs}
 use Rattle.shelf.specs.declared.images.Image.{Image}
 
 -- An image is its session and back again, so that nothing is lost on the way.
@@ -12,6 +12,11 @@ abbrev pub NothingIsLost : Type 0
 NothingIsLost =
     ((s : Session) → sessionOf (imageOf s) ≡ s)
     × ((i : Image) → i .order ≡ nearest-first → imageOf (sessionOf i) ≡ i)
+
+-- What is asked of an image's three cells is the latest safe moment that is shown of it, where one is shown.
+abbrev pub AskedAsShown : Type 0
+AskedAsShown =
+    (i : Image) → viewedAs i .number ≡ 0 → latestAs (i .horizon .0) (i .remainders .0) (i .span) ≡ record { number = 0; at = viewedAs i .latest .0 }
 
 -- "A refused call returns its number and changes no byte of session or buffer."
 abbrev pub RefusalChangesNothing : Type 0

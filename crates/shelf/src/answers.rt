@@ -1,11 +1,12 @@
 // What is answered to an image, by value.
 ghost use mathlib.Core.Path.{_≡_};
 ghost use Rattle.table.specs.Reservations.{tableOfRecords};
-ghost use Rattle.shelf.specs.Image.{imageOf, openedAs, toldAs, answeredAs, shownOf, viewedAs, stateAs, closingAs};
+ghost use Rattle.shelf.specs.Image.{imageOf, openedAs, toldAs, answeredAs, shownOf, viewedAs, stateAs, closingAs, latestAs};
 ghost use Rattle.shelf.specs.Filed.{readAs, writtenAs};
 use crate::Answered;
 use crate::Filed;
 use crate::Image;
+use crate::Moment;
 use crate::Opening;
 use crate::Told;
 use crate::Wrote;
@@ -16,6 +17,9 @@ use file::Writing;
 use session::Answer;
 use session::Session;
 use table::Records;
+use time::Clock;
+use time::Latest;
+use time::Remainders;
 use view::Closing;
 use view::State;
 use view::View;
@@ -158,6 +162,22 @@ pub(crate) fn closing(image: Image, stream: u64) -> Closing
 {
     let session = shown(image);
     view::closing_of(session, stream)
+}
+
+pub(crate) fn latest(horizon: u64, remainders: i64, span: u64) -> Moment
+    ensures { λ r. ⌜ r ≡ latestAs horizon remainders span ⌝ }
+{
+    let h = Clock::at(horizon);
+    match h.less_remainders(Remainders(remainders), span) {
+        Latest::At(until) => Moment {
+            number: 0,
+            at: until.micros(),
+        },
+        Latest::Refused(number) => Moment {
+            number: number,
+            at: 0,
+        },
+    }
 }
 
 pub(crate) fn filed(reading: Reading) -> Filed

@@ -6,6 +6,7 @@ use stream::Stream;
 use table::Margin;
 use table::Table;
 use time::Clock;
+use time::Remainders;
 
 // A session. The order of choice is 0, nearest first; another number stands for none.
 #[repr(C)]
@@ -16,6 +17,8 @@ pub struct Image {
     pub order: u32,
     pub count: usize,
     pub margin: Margin,
+    pub horizon: Clock,
+    pub remainders: Remainders,
     pub clock: Clock,
     pub head: u64,
     pub served: usize,
@@ -45,6 +48,13 @@ pub struct Opening {
     pub session: Image,
 }
 
+// The latest safe moment, and 0; or the refusal, and 0.
+#[repr(C)]
+pub struct Moment {
+    pub number: u64,
+    pub at: u64,
+}
+
 // The parts of a session file, and 0; or the refusal, and zeros.
 #[repr(C)]
 pub struct Filed {
@@ -69,6 +79,8 @@ impl Image {
         ensures { λ r. ⌜ r ≡ imageOf s ⌝ }
     {
         let margin = s.margin;
+        let horizon = s.horizon;
+        let remainders = s.remainders;
         let clock = s.clock;
         let streams = s.streams;
         Image {
@@ -78,6 +90,8 @@ impl Image {
             order: Self::NEAREST,
             count: s.count,
             margin: margin,
+            horizon: horizon,
+            remainders: remainders,
             clock: clock,
             head: s.head,
             served: s.served,
@@ -91,6 +105,8 @@ impl Image {
         ensures { λ r. ⌜ r ≡ sessionOf self ⌝ }
     {
         let margin = self.margin;
+        let horizon = self.horizon;
+        let remainders = self.remainders;
         let clock = self.clock;
         let streams = self.streams;
         Session {
@@ -99,6 +115,8 @@ impl Image {
             padding: self.padding,
             count: self.count,
             margin: margin,
+            horizon: horizon,
+            remainders: remainders,
             clock: clock,
             head: self.head,
             served: self.served,

@@ -6,13 +6,14 @@ ghost use mathlib.Core.Path.{_≡_};
 ghost use Rattle.table.specs.Reservations.{lentTable};
 ghost use Rattle.file.specs.Reading.{readOf, tableIn};
 ghost use Rattle.file.specs.Writing.{writeOf, writtenOn};
-ghost use Rattle.shelf.specs.Image.{openedAs, answeredAs, viewedAs, stateAs, closingAs};
+ghost use Rattle.shelf.specs.Image.{openedAs, answeredAs, viewedAs, stateAs, closingAs, latestAs};
 ghost use Rattle.shelf.specs.Filed.{readAs, writtenAs};
 use answers::arrival;
 use answers::clock;
 use answers::closing;
 use answers::done;
 use answers::filed;
+use answers::latest;
 use answers::open;
 use answers::own_turn;
 use answers::state;
@@ -23,6 +24,7 @@ use calls::Call;
 pub use images::Answered;
 pub use images::Filed;
 pub use images::Image;
+pub use images::Moment;
 pub use images::Opening;
 pub use images::Told;
 pub use images::Wrote;
@@ -97,6 +99,14 @@ pub extern "C" fn yerbagunt_view(session: Image) -> View
     ensures { λ r. ⌜ r ≡ viewedAs session ⌝ }
 {
     view(session)
+}
+
+// The latest safe moment of a session, from its horizon, its sum of remainders and its span. Nothing else is judged.
+#[no_mangle]
+pub extern "C" fn yerbagunt_latest(horizon: u64, remainders: i64, span: u64) -> Moment
+    ensures { λ r. ⌜ r ≡ latestAs horizon remainders span ⌝ }
+{
+    latest(horizon, remainders, span)
 }
 
 // A stream of a session, counted from 1.

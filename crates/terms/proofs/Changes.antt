@@ -9,7 +9,8 @@ use lib.Dec.{eqb}
 use borrow.Author.Tests.{lt-ltb, le-ltb, ne-eqb}
 use Rattle.table.specs.Fold.{if}
 use Rattle.table.specs.Admission.{reservedAt, periodAt, withReserved, grantedOf, loadOf, partsRefusal, admissionOf}
-use Rattle.table.specs.Margin.{marginOf, leftOf, overOf}
+use Rattle.table.specs.Whole.{aboveZero, belowZero}
+use Rattle.table.specs.Margin.{marginOf, overOf}
 use Rattle.table.specs.declared.Table.{Table}
 use Rattle.table.proofs.Tests.{le-or-lt}
 use Rattle.table.proofs.Judged.{Fits-in, numbers-of, streams-of, parts-none, load-is-exact}
@@ -17,7 +18,6 @@ use Rattle.table.proofs.Margins.{within, beyond}
 use Rattle.table.proofs.Others.{load-raised, load-lowered, other-admitted}
 use Rattle.terms.specs.Terms.{roomOf, shrinkOf, changeOf}
 use Rattle.terms.specs.Laws.{changeAt, ChangeHolds, ChangeIsExact}
-use Rattle.terms.specs.declared.Change.{Change}
 use Rattle.terms.specs.declared.Change.the-variants.{Grow, Shrink, NotAlone}
 
 -- a budget with x more, and with x less
@@ -58,7 +58,7 @@ module _ (t : Table) (i : ℕ) (parts : partsRefusal t ≡ 0) (l : i < t .count)
   -- where the load fits
   module _ (fits : loadOf t ≤ t .span) where
     room : (x : ℕ) → (admissionOf (withReserved t i (e + x)) ≡ 0) ↔ (x ≤ roomOf (marginOf t) (t .worst) (t .span) (t .padding) e p)
-    unfolding roomOf leftOf
+    unfolding roomOf aboveZero
     room x =
         let judged = other-admitted t i (e + x) few l parts in
         let budget = granted-more (t .worst) (t .padding) e x in
@@ -81,7 +81,7 @@ module _ (t : Table) (i : ℕ) (parts : partsRefusal t ≡ 0) (l : i < t .count)
   -- where it does not
   module _ (over : t .span < loadOf t) where
     shrink : (x : ℕ) → x < e → (admissionOf (withReserved t i (e - x)) ≡ 0) ↔ (shrinkOf (marginOf t) (t .span) p ≤ x)
-    unfolding shrinkOf overOf
+    unfolding shrinkOf belowZero
     shrink x le =
         let judged = other-admitted t i (e - x) few l parts in
         let by-load = div-lt-iff-lt-mul {k = q} {x = loadOf t - suc (t .span)} {y = x} some-times in
@@ -103,11 +103,11 @@ module _ (t : Table) (i : ℕ) (parts : partsRefusal t ≡ 0) (l : i < t .count)
 
   -- a choice by the amount over, and by what is left of the reserved time
   grows : loadOf t ≤ t .span → changeAt t i ≡ Grow (roomOf (marginOf t) (t .worst) (t .span) (t .padding) e p)
-  unfolding changeOf overOf if
+  unfolding changeOf belowZero if
   grows fits = rw (within t parts fits .is)
 
   exceeds : t .span < loadOf t → (eqb (overOf (marginOf t)) 0) ≡ false
-  unfolding overOf
+  unfolding belowZero
   exceeds over = rw (beyond t parts over .is) (ne-eqb (suc (loadOf t - suc (t .span))) 0 (λ z. omega arith))
 
   shrinks : t .span < loadOf t → shrinkOf (marginOf t) (t .span) p < e → changeAt t i ≡ Shrink (shrinkOf (marginOf t) (t .span) p)

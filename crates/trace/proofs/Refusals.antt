@@ -7,7 +7,8 @@ use native.Mathlib.Omega.{arith}
 use borrow.Author.Tests.{ne-eqb}
 use Rattle.table.specs.Fold.{if}
 use Rattle.table.specs.Admission.{admissionOf}
-use Rattle.table.specs.Margin.{overOf, marginOf, margin, overIn, answerOf}
+use Rattle.table.specs.Whole.{belowZero}
+use Rattle.table.specs.Margin.{overOf, marginOf, overIn, answerOf}
 use Rattle.table.specs.declared.Table.{Table}
 use Rattle.table.specs.declared.margin.Margin.{Margin}
 use Rattle.table.proofs.Margins.{over-load, over-is-exact, answer-carries-margin, parts-or-load}
@@ -36,7 +37,7 @@ over-7 : (t : Table) → admissionOf t ≡ 7 → overIn (answerOf t) ≡ overOf 
 over-7 t e = ap (λ (m : Margin). overOf (m .0)) (answer-carries-margin t .1 (over-load t e .0))
 
 no-amount : (t : Table) → (admissionOf t ≡ 0 → ⊥) → (admissionOf t ≡ 7 → ⊥) → overIn (answerOf t) ≡ 0
-unfolding overOf
+unfolding belowZero
 no-amount t some other = ap (λ (m : Margin). overOf (m .0)) (answer-carries-margin t .2 (λ z. ⊎-elim some other (parts-or-load t z)))
 
 pub refusal-prints : RefusalPrints

@@ -64,9 +64,8 @@ pub fn view_of(session: Session) -> View
 pub fn state_of(session: Session, stream: u64) -> State
     ensures { λ r. ⌜ r ≡ stateOf session stream ⌝ }
 {
-    let judged = session.judge();
     let unused = Stream::fresh(0, 0, 0);
-    if !judged.sound {
+    if !session.is_sound() {
         return State {
             number: 31,
             stream: unused,

@@ -15,30 +15,30 @@ use Rattle.session.proofs.Sound.{count-high}
 use Rattle.view.proofs.state_of.Statement.{statement}
 use Rattle.view.proofs.state_of.Tie as tie
 
-judge-requires : tie.Need-judge-requires
-judge-requires c κs = search needs
-
 fresh-requires : tie.Need-fresh-requires
 fresh-requires c κs = search needs
+
+is-sound-requires : tie.Need-is-sound-requires
+is-sound-requires c κs = search needs
 
 returns : tie.Need-returns
 unfolding stateOf stateRefusal given _or-next_ if
 returns c =
-    rw (by-31 _ _ (c .before .before .before .judge .ensures) (c .if1 .taken), c .before .before .fresh .ensures)
+    rw (by-31 _ _ (c .before .is-sound .ensures) (c .if1 .taken), c .before .before .fresh .ensures)
 
 -- past 31 the session is sound
-ok : (c : tie.Else1) → sound (c .before .before .before .before .args .session) ≡ true
-ok c = past-31 _ _ (c .before .before .before .judge .ensures) (c .if1 .left) .ok
+ok : (c : tie.Else1) → sound (c .before .before .before .args .session) ≡ true
+ok c = past-31 _ _ (c .before .is-sound .ensures) (c .if1 .left)
 
 returns-2 : tie.Need-returns-2
 unfolding stateOf stateRefusal given _or-next_ noSuchStream if
 returns-2 c = rw (ok (c .before), c .if2 .taken, c .before .before .before .fresh .ensures)
 
 -- past 8 the stream is one of the eight
-exists : (c : tie.Else2) → let a = c .before .before .before .before .before .args in (1 ≤ a .stream) × (a .stream - 1 < 8)
+exists : (c : tie.Else2) → let a = c .before .before .before .before .args in (1 ≤ a .stream) × (a .stream - 1 < 8)
 unfolding noSuchStream
 exists c =
-    let a = c .before .before .before .before .before .args in
+    let a = c .before .before .before .before .args in
     let n = named (a .session) (a .stream) (c .if2 .left) in
     (n .0, omega (arith, n, count-high (a .session) (ok (c .before))))
 
@@ -59,8 +59,8 @@ pub state-of-spec : {M : Type 1} → statement M
 state-of-spec =
     tie.close
     (tie.spec
-    judge-requires
     fresh-requires
+    is-sound-requires
     returns
     returns-2
     sub-i

@@ -4,9 +4,6 @@ use borrow.Author.Needs.{needs}
 use Rattle.counts.proofs.run.Told.by.Statement.{statement}
 use Rattle.counts.proofs.run.Told.by.Tie as tie
 
-judge-requires : tie.Need-judge-requires
-judge-requires c κs = search needs
-
 number-requires : tie.Need-number-requires
 number-requires c κs = search needs
 
@@ -18,9 +15,9 @@ duration-of-requires c κs = search needs
 
 returns : tie.Need-returns
 unfolding toldBy
-returns c = rw (c .before .before .number .ensures, c .before .stream .ensures, c .duration-of .ensures, c .before .before .before .before .before .judge .ensures)
+returns c = rw (c .before .before .number .ensures, c .before .stream .ensures, c .duration-of .ensures)
 
 pub by-spec : {M : Type 1} → statement M
 by-spec =
     tie.close
-    (tie.spec judge-requires number-requires stream-requires duration-of-requires returns)
+    (tie.spec number-requires stream-requires duration-of-requires returns)

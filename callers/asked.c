@@ -1,4 +1,5 @@
-/* Goes up to the edge of what yerbagunt.h asks of a caller: where it asks nothing more, every call answers as it always does. */
+/* Goes up to the edge of what yerbagunt.h asks of a caller: where it asks nothing more, every call answers as it always does.
+ * After each call the latest safe moment is asked for, which the header lets a caller do at any time. */
 #include <pthread.h>
 #include <stdio.h>
 #include <string.h>
@@ -17,12 +18,54 @@ static struct yerbagunt_written written(const uint8_t *from, size_t length, uint
     return yerbagunt_write(table, (struct yerbagunt_bytes){from, length}, (struct yerbagunt_buffer){out, room});
 }
 
+/* At every other horizon the second stream is owed half a microsecond beside whole ones. */
+static const struct yerbagunt_reservation records[2] = {{25000, 250000}, {175001, 500000}};
+
 static struct yerbagunt_session opened(void)
 {
-    const struct yerbagunt_reservation records[2] = {{25000, 250000}, {175000, 500000}};
     struct yerbagunt_opening o = yerbagunt_open(25000, 1000000, 1, (struct yerbagunt_reservations){records, 2});
     hold(o.number == YERBAGUNT_OK, "the table is admitted", 0);
     return o.session;
+}
+
+/* What the streams of a session are owed up to its horizon, times H. */
+static int64_t owed(const struct yerbagunt_session *session)
+{
+    int64_t sum = 0;
+    for (uint64_t i = 0; i < session->count; i++) {
+        const struct yerbagunt_stream *s = &session->streams[i];
+        sum += (int64_t)((session->horizon - s->release) * s->granted * (session->span / s->period)) - (int64_t)(s->charge * session->span);
+    }
+    return sum;
+}
+
+/* Hands a call's reply on, after the session that it left was asked for its latest safe moment. */
+static struct yerbagunt_reply asked(const struct yerbagunt_session *session, struct yerbagunt_reply reply)
+{
+    struct yerbagunt_moment latest = yerbagunt_latest_of(session);
+    struct yerbagunt_view view = yerbagunt_view(*session);
+    int64_t rest = (int64_t)(session->horizon - latest.at) * session->span - session->remainders;
+    hold(view.number == YERBAGUNT_OK && session->horizon == view.horizon && session->remainders == owed(session), "a session keeps its horizon and what is owed", reply.number);
+    hold(latest.number == YERBAGUNT_OK && latest.at == view.latest, "the moment that is asked for is the one that is shown", reply.number);
+    hold(rest >= 0 && rest < session->span, "it is the horizon less what is owed, rounded down once", reply.number);
+    hold(session->served == 0 || !yerbagunt_fits(session, 0), "nothing fits while a request is at the disk", reply.number);
+    return reply;
+}
+
+/* Makes a call or two on a session, and answers the last reply. Another pick makes another call; some run over so far that less than nothing is owed. */
+static struct yerbagunt_reply stepped(struct yerbagunt_session *session, uint64_t pick)
+{
+    struct yerbagunt_reply r = asked(session, pick % 4 == 0 ? yerbagunt_arrival(session, pick % 3, pick % 1000) : yerbagunt_turn(session));
+    if (r.number == YERBAGUNT_SENT)
+        return asked(session, yerbagunt_done(session, 1 + pick % (pick % 32 == 1 ? 900000 : 30000)));
+    if (r.number == YERBAGUNT_WAIT)
+        return asked(session, yerbagunt_clock(session, r.value));
+    return r;
+}
+
+static uint64_t picked(uint64_t n)
+{
+    return n * 2654435761 >> 7;
 }
 
 /* Makes calls on a session, and answers a number that every reply goes into. Another seed makes other calls. */
@@ -30,12 +73,7 @@ static uint64_t worked(struct yerbagunt_session *session, uint64_t seed)
 {
     uint64_t sum = 0;
     for (uint64_t n = 0; n < 2000; n++) {
-        uint64_t pick = (seed + n) * 2654435761 >> 7;
-        struct yerbagunt_reply r = pick % 4 == 0 ? yerbagunt_arrival(session, pick % 3, pick % 1000) : yerbagunt_turn(session);
-        if (r.number == YERBAGUNT_SENT)
-            r = yerbagunt_done(session, 1 + pick % 30000);
-        else if (r.number == YERBAGUNT_WAIT)
-            r = yerbagunt_clock(session, r.value);
+        struct yerbagunt_reply r = stepped(session, picked(seed + n));
         sum = sum * 31 + r.number * 7 + r.stream * 5 + r.value;
     }
     return sum;
@@ -86,8 +124,9 @@ static void alignment(void)
     static _Alignas(64) struct {
         uint32_t before;
         struct yerbagunt_reservation records[2];
-    } four = {0, {{25000, 250000}, {175000, 500000}}};
+    } four;
     static _Alignas(64) struct yerbagunt_session usual;
+    memcpy(four.records, records, sizeof records);
     usual = opened();
     eight.session = yerbagunt_open(25000, 1000000, 1, (struct yerbagunt_reservations){four.records, 2}).session;
     hold(memcmp(&eight.session, &usual, sizeof usual) == 0, "records at a multiple of 4 are taken", 0);
@@ -136,6 +175,38 @@ static void threads(void)
         hold(memcmp(alone, together, sizeof alone) == 0, "two threads make of their sessions what one makes of them", round);
     }
     hold(alone[0].sum != alone[1].sum, "two seeds make other calls", 0);
+}
+
+/* Asking copies and changes nothing, and looks at three cells: a session that no call has made may get a moment. */
+static void not_judged(void)
+{
+    struct yerbagunt_session session = opened(), before = session, none = {0};
+    struct yerbagunt_moment latest = yerbagunt_latest_of(&session), no_moment = yerbagunt_latest_of(&none);
+    yerbagunt_fits(&session, 1);
+    hold(memcmp(&session, &before, sizeof before) == 0, "asking changes nothing", 0);
+    hold(no_moment.number == YERBAGUNT_UNSOUND && no_moment.at == 0 && !yerbagunt_fits(&none, 0), "the all-zero session has no moment, and nothing fits", 0);
+    session.horizon++;
+    hold(yerbagunt_view(session).number == YERBAGUNT_UNSOUND && yerbagunt_latest_of(&session).at == latest.at + 1, "a session with another horizon is not sound, and has another moment", 0);
+}
+
+/* A request of the caller's own fits up to the latest safe moment, and is then reported in time. Nothing is at the disk, and no report was late. */
+static void own_request(const struct yerbagunt_session *session, unsigned long at)
+{
+    struct yerbagunt_session in_time = *session, late = *session;
+    uint64_t latest = yerbagunt_latest_of(session).at, longest = latest - session->clock;
+    hold(yerbagunt_fits(session, longest) && !yerbagunt_fits(session, longest + 1), "a request fits that ends at the latest safe moment, and none that ends later", at);
+    hold(!yerbagunt_fits(session, UINT64_MAX), "the end of a request does not wrap", at);
+    hold(yerbagunt_clock(&in_time, latest).number == YERBAGUNT_CLOCK && yerbagunt_fits(&in_time, 0), "a request that fits is reported in time", at);
+    hold(yerbagunt_clock(&late, latest + 1).number == YERBAGUNT_LATE && !yerbagunt_fits(&late, 0), "a longer one is reported late, and then nothing fits", at);
+}
+
+static void own_requests(void)
+{
+    struct yerbagunt_session session = opened();
+    for (uint64_t n = 0; n < 2000; n++) {
+        stepped(&session, picked(n));
+        own_request(&session, n);
+    }
 }
 
 /* A copy goes on from where it was taken, and its original is none of its concern. */
@@ -193,6 +264,8 @@ int main(void)
     side_by_side();
     alignment();
     threads();
+    not_judged();
+    own_requests();
     copied();
     stack();
     hold(strcmp(YERBAGUNT_VERSION, JOINED(YERBAGUNT_VERSION_MAJOR, YERBAGUNT_VERSION_MINOR, YERBAGUNT_VERSION_PATCH)) == 0, "the version is its three numbers", 0);

@@ -34,6 +34,10 @@ static void shown()
     yerbagunt_closing closing = yerbagunt_last_job(session, 1);
     yerbagunt_job job = closing.job;
     hold(closing.number == YERBAGUNT_OK && job.deadline == 0, "no job was closed", 0);
+    yerbagunt_moment moment = yerbagunt_latest_of(&session);
+    hold(moment.number == YERBAGUNT_OK && moment.at == view.latest, "the latest safe moment is asked for", 0);
+    hold(yerbagunt_latest(session.horizon, session.remainders, session.span).at == view.latest, "it is asked of three numbers", 0);
+    hold(yerbagunt_fits(&session, moment.at - 20000) && !yerbagunt_fits(&session, moment.at - 19999), "a length fits up to it", 0);
     auto named = &yerbagunt_view_of;
     hold(named(session).latest == view.latest, "a function that shares its name is pointed at by its other name", 0);
 }

@@ -20,6 +20,8 @@ static int to_second(const struct yerbagunt_session *i, struct session *s)
     s->table.padding = i->padding;
     s->table.count = (uint32_t)i->count;
     s->margin = i->margin;
+    s->horizon = i->horizon;
+    s->remainders = i->remainders;
     s->clock = i->clock;
     s->head = i->head;
     s->disk_stream = i->served;
@@ -82,6 +84,38 @@ static struct reply second(struct session *s, const struct trial *t)
 }
 
 static unsigned long met[32];
+static unsigned long asks, asks_refused;
+
+/* The ask agrees with the second engine's, whatever its three numbers are. */
+static void ask(uint64_t horizon, int64_t remainders, uint64_t span)
+{
+    uint64_t moment;
+    struct yerbagunt_moment m = yerbagunt_latest(horizon, remainders, span);
+    hold(m.number == (uint64_t)latest_asked(horizon, remainders, span, &moment) && m.at == moment, "the ask is the second engine's", asks);
+    asks++;
+    asks_refused += m.number != YERBAGUNT_OK;
+}
+
+/* A session is asked by three of its numbers, sound or not. What fits is what ends by the moment told, and is then no late report. */
+static void ask_session(const struct yerbagunt_session *given, int sound, unsigned long at)
+{
+    struct yerbagunt_session s = *given;
+    struct yerbagunt_moment latest = yerbagunt_latest_of(&s), told = yerbagunt_latest(s.horizon, s.remainders, s.span);
+    ask(s.horizon, s.remainders, s.span);
+    hold(latest.number == told.number && latest.at == told.at, "a session is asked by its horizon, its sum and its span", at);
+    const uint64_t left = latest.at - s.clock, lengths[] = {0, 1, left - 1, left, left + 1, UINT64_MAX - s.clock, UINT64_MAX};
+    for (size_t i = 0; i < sizeof lengths / sizeof lengths[0]; i++) {
+        unsigned __int128 end = (unsigned __int128)s.clock + lengths[i];
+        int fits = s.served == 0 && latest.number == YERBAGUNT_OK && end <= latest.at;
+        hold(yerbagunt_fits(&s, lengths[i]) == fits, "what ends by the latest safe moment fits, while nothing is at the disk", at);
+        if (sound && s.served == 0 && end <= SESSION_END) {
+            struct yerbagunt_session later = s;
+            uint64_t number = fits || lengths[i] == 0 ? YERBAGUNT_CLOCK : YERBAGUNT_LATE;
+            hold(yerbagunt_clock(&later, (uint64_t)end).number == number, "the report after what fits is not late, and any other is", at);
+        }
+    }
+    hold(memcmp(&s, given, sizeof s) == 0, "asking left every byte as it was", at);
+}
 
 /* Every call on a copy of one session. */
 static void try_all(const struct yerbagunt_session *given, unsigned long at)
@@ -111,9 +145,12 @@ static void try_all(const struct yerbagunt_session *given, unsigned long at)
     struct yerbagunt_view v = yerbagunt_view(*given);
     hold(v.number == (sound ? YERBAGUNT_OK : YERBAGUNT_UNSOUND), "a session is shown exactly if it is sound", at);
     hold(sound ? v.clock == given->clock && v.margin == given->margin : (v.clock | v.horizon | v.latest | (uint64_t)v.margin) == 0, "what is shown of an unsound session is 0", at);
+    ask_session(given, sound, at);
     struct session seen;
-    if (sound && to_second(given, &seen))
+    if (sound && to_second(given, &seen)) {
         hold(v.horizon == session_horizon(&seen) && v.latest == session_latest_safe(&seen), "horizon and latest safe moment are the second engine's", at);
+        hold(yerbagunt_latest_of(given).number == YERBAGUNT_OK && yerbagunt_latest_of(given).at == v.latest, "a sound session is asked for the moment that is shown", at);
+    }
     for (uint64_t n = 0; n < 10; n++) {
         uint64_t stream = n == 9 ? 255 : n;
         uint64_t number = !sound ? YERBAGUNT_UNSOUND : stream == 0 || stream > given->count ? YERBAGUNT_NO_STREAM : YERBAGUNT_OK;
@@ -127,19 +164,73 @@ static void try_all(const struct yerbagunt_session *given, unsigned long at)
     }
 }
 
-/* Every call on copies of one session with a margin that is not its table's: one more, one less, 0, and of the other sign. Answers how many. */
-static unsigned long try_margins(const struct yerbagunt_session *given)
+/* Every call on a session with a wrong number in a cell. */
+static void try_wrong(const struct yerbagunt_session *given, size_t cell)
 {
-    const int64_t margins[] = {given->margin + 1, given->margin - 1, 0, -given->margin};
-    const size_t many = sizeof margins / sizeof margins[0];
-    for (size_t i = 0; i < many; i++) {
+    unsigned long before = met[YERBAGUNT_UNSOUND];
+    try_all(given, cell);
+    hold(met[YERBAGUNT_UNSOUND] - before == TRIALS, "every call is refused 31 where a cell is not what follows from the others", cell);
+}
+
+/* Copies of one session with another number in a cell of eight bytes: one more, one less, a span more and less, 0, of the other sign, and the ends of both types. Answers how many. */
+static unsigned long try_cell(const struct yerbagunt_session *given, size_t cell)
+{
+    uint64_t right;
+    memcpy(&right, (const uint8_t *)given + cell, sizeof right);
+    const uint64_t numbers[] = {right + 1, right - 1, right + given->span, right - given->span, 0, -right, INT64_MAX, (uint64_t)INT64_MIN, UINT64_MAX};
+    unsigned long many = 0;
+    for (size_t i = 0; i < sizeof numbers / sizeof numbers[0]; i++) {
         struct yerbagunt_session s = *given;
-        unsigned long before = met[YERBAGUNT_UNSOUND];
-        s.margin = margins[i];
-        try_all(&s, offsetof(struct yerbagunt_session, margin));
-        hold(met[YERBAGUNT_UNSOUND] - before == TRIALS, "every call is refused 31 where the margin is not the table's", i);
+        if (numbers[i] == right)
+            continue;
+        memcpy((uint8_t *)&s + cell, &numbers[i], sizeof right);
+        try_wrong(&s, cell);
+        many++;
     }
     return many;
+}
+
+/* Copies of one session in which a cell is not what follows from the others: its margin, its horizon or its sum; or horizon and sum, where an ask is told the same moment as before. Answers how many. */
+static unsigned long try_cells(const struct yerbagunt_session *given)
+{
+    struct yerbagunt_session s = *given;
+    s.horizon++;
+    s.remainders += s.span;
+    hold(yerbagunt_latest_of(&s).at == yerbagunt_latest_of(given).at, "a later horizon and as much more in the sum have the same moment", 0);
+    try_wrong(&s, offsetof(struct yerbagunt_session, horizon));
+    return 1 + try_cell(given, offsetof(struct yerbagunt_session, margin)) + try_cell(given, offsetof(struct yerbagunt_session, horizon))
+        + try_cell(given, offsetof(struct yerbagunt_session, remainders));
+}
+
+/* Gives a session the horizon and the sum that its streams have; a sum that does not fit wraps. */
+static void mend(struct yerbagunt_session *s)
+{
+    s->horizon = UINT64_MAX;
+    for (size_t n = 0; n < s->count && n < YERBAGUNT_STREAMS_MAX; n++)
+        s->horizon = s->streams[n].deadline < s->horizon ? s->streams[n].deadline : s->horizon;
+    uint64_t sum = 0;
+    for (size_t n = 0; n < s->count && n < YERBAGUNT_STREAMS_MAX; n++) {
+        const struct yerbagunt_stream *x = &s->streams[n];
+        uint64_t times = x->period == 0 ? 0 : s->span / x->period;
+        sum += (s->horizon - x->release) * x->granted * times - x->charge * s->span;
+    }
+    s->remainders = (int64_t)sum;
+}
+
+static int same(const struct yerbagunt_session *a, const struct yerbagunt_session *b) { return memcmp(a, b, sizeof *a) == 0; }
+
+/* Every call on a copy of one session with a byte changed; and once more where another horizon or sum goes with that change, so that what else is judged is met too. Answers how many sessions. */
+static unsigned long try_byte(const struct yerbagunt_session *given, size_t at, uint8_t flip)
+{
+    struct yerbagunt_session changed = *given, mended;
+    ((uint8_t *)&changed)[at] ^= flip;
+    try_all(&changed, at);
+    mended = changed;
+    mend(&mended);
+    if (same(&mended, &changed) || same(&mended, given))
+        return 1;
+    try_all(&mended, at);
+    return 2;
 }
 
 /* A turn, and a wait for as long as it says. */
@@ -150,8 +241,19 @@ static void go_on(struct yerbagunt_session *s)
         yerbagunt_clock(s, r.value);
 }
 
-/* Sessions to start from: fresh, with a full queue, with a request at the disk, after closed jobs, and with a job that started with an overrun and lost a slot. */
-#define MADE 5
+/* A request of stream 1 takes 60,000 more than that stream's budget. */
+static void overrun(struct yerbagunt_session *s)
+{
+    yerbagunt_arrival(s, 1, 100);
+    yerbagunt_turn(s);
+    hold(yerbagunt_done(s, 110000).number == YERBAGUNT_OVERLONG, "a request took 60,000 more than its budget of 50,000", 0);
+}
+
+/* Whether the next turn moves. */
+static int moves(struct yerbagunt_session s) { return yerbagunt_turn(&s).number == YERBAGUNT_MOVED; }
+
+/* Sessions to start from: fresh, with a full queue, with a request at the disk, after closed jobs, with a job that started with an overrun and lost a slot, and with a move ahead that carries one. */
+#define MADE 6
 static void sessions(struct yerbagunt_session made[MADE])
 {
     const struct yerbagunt_reservation table[2] = {{25000, 250000}, {175000, 500000}};
@@ -167,13 +269,15 @@ static void sessions(struct yerbagunt_session made[MADE])
         go_on(&made[3]);
     hold(made[3].streams[0].last.deadline != 0, "a job was closed", 0);
     const struct yerbagunt_stream *late = &made[4].streams[0];
-    yerbagunt_arrival(&made[4], 1, 100);
-    yerbagunt_turn(&made[4]);
-    hold(yerbagunt_done(&made[4], 110000).number == YERBAGUNT_OVERLONG, "a request took 60,000 more than its budget of 50,000", 0);
+    overrun(&made[4]);
     for (int i = 0; i < 60 && late->expired == 0; i++)
         go_on(&made[4]);
     hold(late->last.start == 60000 && late->last.charge == 60000, "the job after it started with these, and had nothing else", 0);
     hold(late->start == 10000 && late->expired == 1 && late->charge == 35000, "the next one started with what was left, and lost a slot", 0);
+    overrun(&made[5]);
+    for (int i = 0; i < 60 && !moves(made[5]); i++)
+        go_on(&made[5]);
+    hold(moves(made[5]) && made[5].streams[0].charge == 110000, "the next turn moves, and carries 60,000", 0);
 }
 
 /* A table to open, the first record and the others, and what opening answers. */
@@ -260,9 +364,84 @@ static void files(void)
         hold(yerbagunt_read((struct yerbagunt_bytes){out, length}).number == YERBAGUNT_LAYOUT, "a file cut short is refused", length);
 }
 
+/* A number from a fixed row; and one that may have few bits or many. */
+static uint64_t draw(void)
+{
+    static uint64_t state = 6;
+    state ^= state << 13;
+    state ^= state >> 7;
+    state ^= state << 17;
+    return state;
+}
+
+static uint64_t some_bits(void)
+{
+    uint64_t number = draw();
+    return number >> draw() % 64;
+}
+
+static const uint64_t horizons[] = {0, 1, 2, SESSION_END, INT64_MAX, (uint64_t)INT64_MIN, UINT64_MAX - 1, UINT64_MAX};
+static const int64_t sums[] = {INT64_MIN, INT64_MIN + 1, -1, 0, 1, INT64_MAX - 1, INT64_MAX};
+static const uint64_t spans[] = {0, 1, 2, SPAN_MIN, SPAN_MAX, 4294967296, INT64_MAX, (uint64_t)INT64_MIN, UINT64_MAX - 1, UINT64_MAX};
+#define MANY(list) (sizeof list / sizeof list[0])
+#define ONE_OF(list) list[draw() % MANY(list)]
+
+/* A whole number of spans, of either sign, or one beside it, as far as 63 bits go. */
+static int64_t spans_and_one(uint64_t span)
+{
+    uint64_t most = span == 0 ? 0 : INT64_MAX / span;
+    uint64_t whole = span * (most == 0 ? 0 : some_bits() % most);
+    int64_t beside = (int64_t)(draw() % 3) - 1;
+    return (draw() % 2 == 0 ? (int64_t)whole : -(int64_t)whole) + beside;
+}
+
+/* A sum to ask with: at the ends of its type, of any size, or beside a whole number of spans. */
+static int64_t some_sum(uint64_t span)
+{
+    switch (draw() % 4) {
+    case 0:
+        return ONE_OF(sums);
+    case 1:
+        return (int64_t)(draw() % 2 == 0 ? some_bits() : -some_bits());
+    default:
+        return spans_and_one(span);
+    }
+}
+
+/* A horizon to ask with: at the ends of its type, of any size, or where the answer is close to 0 or to the last that fits. */
+static uint64_t some_horizon(int64_t sum, uint64_t span)
+{
+    uint64_t size = sum < 0 ? -(uint64_t)sum : (uint64_t)sum;
+    uint64_t whole = span == 0 ? size : size / span;
+    uint64_t beside = draw() % 4 - 2;
+    switch (draw() % 4) {
+    case 0:
+        return ONE_OF(horizons);
+    case 1:
+        return some_bits();
+    default:
+        return (sum < 0 ? UINT64_MAX - whole : whole) + beside;
+    }
+}
+
+/* The ask at the ends of the three types, and at many numbers between. */
+#define ASKS 100000
+static void three_numbers(void)
+{
+    for (size_t h = 0; h < MANY(horizons); h++)
+        for (size_t r = 0; r < MANY(sums); r++)
+            for (size_t n = 0; n < MANY(spans); n++)
+                ask(horizons[h], sums[r], spans[n]);
+    for (int i = 0; i < ASKS; i++) {
+        uint64_t span = draw() % 2 == 0 ? ONE_OF(spans) : some_bits();
+        int64_t sum = some_sum(span);
+        ask(some_horizon(sum, span), sum, span);
+    }
+}
+
 int main(void)
 {
-    static struct yerbagunt_session made[MADE], changed;
+    static struct yerbagunt_session made[MADE];
     static const uint8_t flips[] = {0x01, 0x80, 0xff};
     unsigned long tried = 0;
     openings();
@@ -270,21 +449,19 @@ int main(void)
     sessions(made);
     for (int m = 0; m < MADE; m++) {
         try_all(&made[m], 0);
-        tried += try_margins(&made[m]);
-        for (size_t at = 0; at < sizeof changed; at++)
-            for (size_t f = 0; f < sizeof flips; f++) {
-                changed = made[m];
-                ((uint8_t *)&changed)[at] ^= flips[f];
-                try_all(&changed, at);
-                tried++;
-            }
+        tried += try_cells(&made[m]);
+        for (size_t at = 0; at < sizeof made[m]; at++)
+            for (size_t f = 0; f < sizeof flips; f++)
+                tried += try_byte(&made[m], at, flips[f]);
     }
     static struct yerbagunt_session extreme;
     memset(&extreme, 0xff, sizeof extreme);
     try_all(&extreme, 0);
     memset(&extreme, 0, sizeof extreme);
     try_all(&extreme, 0);
+    three_numbers();
     printf("%lu changed sessions, %u calls each\n", tried, (unsigned)TRIALS);
+    printf("%lu asks, %lu of them refused\n", asks, asks_refused);
     for (int n = 8; n < 32; n++)
         if (met[n])
             printf("answer %d: %lu\n", n, met[n]);

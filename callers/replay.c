@@ -1,6 +1,7 @@
-/* Replays a session file from standard input by the lent calls of the library, and prints the listing of document 01, or `refused 7 N` as document 02 has it. */
+/* Replays a session file from standard input by the lent calls of the library, and prints the listing of document 01, or `refused 7 N` as document 02 has it. With the word `latest` it prints the latest safe moment instead, asked for after opening and after each event. */
 #include <stddef.h>
 #include <stdio.h>
+#include <string.h>
 
 #include "yerbagunt.h"
 
@@ -35,7 +36,35 @@ static struct yerbagunt_reply call(struct yerbagunt_session *session, size_t eve
     }
 }
 
-int main(void)
+static void print_listing(struct yerbagunt_session *session, const struct yerbagunt_file *parts)
+{
+    puts("event answer stream value clock");
+    for (size_t i = 0; i < parts->events; i++) {
+        struct yerbagunt_reply r = call(session, parts->start + YERBAGUNT_EVENT_SIZE * i);
+        printf("%llu %llu %llu %llu %llu\n", (unsigned long long)i + 1, (unsigned long long)r.number, (unsigned long long)r.stream,
+               (unsigned long long)r.value, (unsigned long long)session->clock);
+    }
+}
+
+static void print_latest(const struct yerbagunt_session *session)
+{
+    struct yerbagunt_moment latest = yerbagunt_latest_of(session);
+    if (latest.number == YERBAGUNT_OK)
+        printf("%llu\n", (unsigned long long)latest.at);
+    else
+        printf("refused %llu\n", (unsigned long long)latest.number);
+}
+
+static void print_moments(struct yerbagunt_session *session, const struct yerbagunt_file *parts)
+{
+    print_latest(session);
+    for (size_t i = 0; i < parts->events; i++) {
+        call(session, parts->start + YERBAGUNT_EVENT_SIZE * i);
+        print_latest(session);
+    }
+}
+
+int main(int count, char **words)
 {
     size_t length = 0;
     for (long got = 1; got > 0 && length < ROOM; length += got)
@@ -61,11 +90,9 @@ int main(void)
         printf("refused %llu\n", (unsigned long long)opening.number);
         return 0;
     }
-    puts("event answer stream value clock");
-    for (size_t i = 0; i < parts.events; i++) {
-        struct yerbagunt_reply r = call(&opening.session, parts.start + YERBAGUNT_EVENT_SIZE * i);
-        printf("%llu %llu %llu %llu %llu\n", (unsigned long long)i + 1, (unsigned long long)r.number, (unsigned long long)r.stream,
-               (unsigned long long)r.value, (unsigned long long)opening.session.clock);
-    }
+    if (count == 2 && strcmp(words[1], "latest") == 0)
+        print_moments(&opening.session, &parts);
+    else
+        print_listing(&opening.session, &parts);
     return 0;
 }

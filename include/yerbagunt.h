@@ -24,8 +24,8 @@
 /* The version of this header and of its library. Another major number: the layout of a struct changed, or the answer to some input; read what
  * changed, and compile anew. Another minor number: something was added, and programs go on as they are. Another patch: neither.
  * The numbers of replies keep their meaning through all of them. */
-#define YERBAGUNT_VERSION "4.0.0"
-#define YERBAGUNT_VERSION_MAJOR 4
+#define YERBAGUNT_VERSION "5.0.0"
+#define YERBAGUNT_VERSION_MAJOR 5
 #define YERBAGUNT_VERSION_MINOR 0
 #define YERBAGUNT_VERSION_PATCH 0
 
@@ -53,7 +53,7 @@ extern "C" {
 
 /* The numbers of replies. Their meaning does not change. */
 enum yerbagunt_number {
-    YERBAGUNT_OK = 0,          /* opened, shown, read or written */
+    YERBAGUNT_OK = 0,          /* opened, shown, told, read or written */
     YERBAGUNT_COUNT = 1,       /* no stream, or more than 8 */
     YERBAGUNT_WORST = 2,       /* W outside 1 to 1,000,000 */
     YERBAGUNT_SPAN = 3,        /* H outside 1,000 to 600,000,000 */
@@ -80,7 +80,7 @@ enum yerbagunt_number {
     YERBAGUNT_OVERLONG = 26,   /* value: charge after */
     YERBAGUNT_CLOCK = 27,      /* value: time */
     YERBAGUNT_LATE = 28,       /* value: time */
-    YERBAGUNT_UNSOUND = 31     /* the session handed to a call is not sound */
+    YERBAGUNT_UNSOUND = 31     /* the session handed to a call is not sound; of yerbagunt_latest: there is no such moment */
 };
 
 /* A stream's last closed job; all zero before the first. */
@@ -104,7 +104,9 @@ struct yerbagunt_session {
     uint32_t padding; /* k as it was given; 0 stands for 3 */
     uint32_t order;   /* 0, nearest first; any other number is answered 31 */
     uint64_t count;
-    int64_t margin; /* H less the load, 0 or more; it follows from the table and never changes, and any other number is answered 31 */
+    int64_t margin;     /* H less the load, 0 or more; it follows from the table and never changes, and any other number is answered 31 */
+    uint64_t horizon;   /* the smallest deadline; any other number is answered 31 by every call but yerbagunt_latest */
+    int64_t remainders; /* the disk time that all streams are owed up to the horizon, times H; any other number is answered 31 by every call but yerbagunt_latest */
     uint64_t clock, head;
     uint64_t served; /* the stream whose request is at the disk, or 0 */
     uint64_t place;  /* and the place of that request */
@@ -119,15 +121,17 @@ YERBAGUNT_ASSERT(offsetof(struct yerbagunt_stream, start) == 48, "stream.start")
 YERBAGUNT_ASSERT(offsetof(struct yerbagunt_stream, queued) == 56, "stream.queued");
 YERBAGUNT_ASSERT(offsetof(struct yerbagunt_stream, places) == 64, "stream.places");
 YERBAGUNT_ASSERT(offsetof(struct yerbagunt_stream, last) == 192, "stream.last");
-YERBAGUNT_ASSERT(sizeof(struct yerbagunt_session) == 1920, "session");
+YERBAGUNT_ASSERT(sizeof(struct yerbagunt_session) == 1936, "session");
 YERBAGUNT_ASSERT(offsetof(struct yerbagunt_session, order) == 12, "session.order");
 YERBAGUNT_ASSERT(offsetof(struct yerbagunt_session, count) == 16, "session.count");
 YERBAGUNT_ASSERT(offsetof(struct yerbagunt_session, margin) == 24, "session.margin");
-YERBAGUNT_ASSERT(offsetof(struct yerbagunt_session, clock) == 32, "session.clock");
-YERBAGUNT_ASSERT(offsetof(struct yerbagunt_session, head) == 40, "session.head");
-YERBAGUNT_ASSERT(offsetof(struct yerbagunt_session, served) == 48, "session.served");
-YERBAGUNT_ASSERT(offsetof(struct yerbagunt_session, place) == 56, "session.place");
-YERBAGUNT_ASSERT(offsetof(struct yerbagunt_session, streams) == 64, "session.streams");
+YERBAGUNT_ASSERT(offsetof(struct yerbagunt_session, horizon) == 32, "session.horizon");
+YERBAGUNT_ASSERT(offsetof(struct yerbagunt_session, remainders) == 40, "session.remainders");
+YERBAGUNT_ASSERT(offsetof(struct yerbagunt_session, clock) == 48, "session.clock");
+YERBAGUNT_ASSERT(offsetof(struct yerbagunt_session, head) == 56, "session.head");
+YERBAGUNT_ASSERT(offsetof(struct yerbagunt_session, served) == 64, "session.served");
+YERBAGUNT_ASSERT(offsetof(struct yerbagunt_session, place) == 72, "session.place");
+YERBAGUNT_ASSERT(offsetof(struct yerbagunt_session, streams) == 80, "session.streams");
 
 struct yerbagunt_reservation {
     uint32_t reserved, period;
@@ -167,11 +171,18 @@ struct yerbagunt_view {
     int64_t margin; /* the session's */
 };
 
-YERBAGUNT_ASSERT(sizeof(struct yerbagunt_opening) == 1936, "opening");
+/* number 0 and a moment; or 31 and 0. */
+struct yerbagunt_moment {
+    uint64_t number, at;
+};
+
+YERBAGUNT_ASSERT(sizeof(struct yerbagunt_opening) == 1952, "opening");
 YERBAGUNT_ASSERT(offsetof(struct yerbagunt_opening, margin) == 8, "opening.margin");
 YERBAGUNT_ASSERT(offsetof(struct yerbagunt_opening, session) == 16, "opening.session");
 YERBAGUNT_ASSERT(sizeof(struct yerbagunt_view) == 40, "view");
 YERBAGUNT_ASSERT(offsetof(struct yerbagunt_view, margin) == 32, "view.margin");
+YERBAGUNT_ASSERT(sizeof(struct yerbagunt_moment) == 16, "moment");
+YERBAGUNT_ASSERT(offsetof(struct yerbagunt_moment, at) == 8, "moment.at");
 
 struct yerbagunt_state {
     uint64_t number;
@@ -221,6 +232,31 @@ struct yerbagunt_reply yerbagunt_clock(struct yerbagunt_session *session, uint64
 
 /* The clock, the horizon, the latest safe moment and the margin: 31. The session is passed by value: nothing of it can change. */
 struct yerbagunt_view yerbagunt_view(struct yerbagunt_session session);
+
+/* The latest safe moment from three cells of a session: the horizon less remainders / span, rounded down. 31 comes exactly if the span is 0,
+ * or if that number is below 0 or does not fit 64 unsigned bits.
+ * A stream is owed (horizon - release) * granted / period - charge, which an overrun may take below 0; `remainders` is the sum over the streams,
+ * times the span. So of a session that calls have made the answer is the latest of its view. It looks at three numbers only, and does not
+ * judge the session: one that no call has made, to which all other calls answer 31, may get a number here. */
+struct yerbagunt_moment yerbagunt_latest(uint64_t horizon, int64_t remainders, uint64_t span);
+
+/* The same of a session's own cells. It may be asked at any time, while a request is at the disk too; nothing is copied, and nothing changes. */
+static inline struct yerbagunt_moment yerbagunt_latest_of(const struct yerbagunt_session *session)
+{
+    return yerbagunt_latest(session->horizon, session->remainders, session->span);
+}
+
+/* 1 if a request of your own, such as a piece of a background copy, may have the disk now for at most `length`; else 0. It is 1 exactly if
+ * nothing is at the disk, there is a latest safe moment, and the clock and `length` together, which do not wrap, are no later than it.
+ * The clock is the session's: if time has passed since the last report, report it before you ask.
+ * After a 1, run the request, and when it has ended report the time, before the next turn; requests may arrive meanwhile. If the session is one
+ * that calls have made, that report is answered 27 and breaks no promise, whatever is queued. It is not 10, since nothing is at the disk,
+ * and 14 only past 1,000,000,000,000, where nothing changes. If the request took longer than `length`, the report may be answered 28. */
+static inline int yerbagunt_fits(const struct yerbagunt_session *session, uint64_t length)
+{
+    struct yerbagunt_moment latest = yerbagunt_latest_of(session);
+    return session->served == 0 && latest.number == YERBAGUNT_OK && session->clock <= latest.at && length <= latest.at - session->clock;
+}
 
 /* A stream: 31, 8. */
 struct yerbagunt_state yerbagunt_stream(struct yerbagunt_session session, uint64_t stream);

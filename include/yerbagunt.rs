@@ -8,7 +8,7 @@
 use core::mem::offset_of;
 
 /// The version of this wrapper and its library, that of `yerbagunt.h`.
-pub const VERSION: &str = "4.0.0";
+pub const VERSION: &str = "5.0.0";
 
 pub const STREAMS_MAX: usize = 8;
 pub const QUEUE_MAX: usize = 16;
@@ -85,6 +85,10 @@ pub struct Session {
     pub count: u64,
     /// H less the load, 0 or more; it follows from the table and never changes, and any other number is answered 31.
     pub margin: i64,
+    /// The smallest deadline; any other number is answered 31 by every call, but the ask for the latest safe moment judges nothing.
+    pub horizon: u64,
+    /// The disk time that all streams are owed up to the horizon, times H; any other number is answered 31 as well.
+    pub remainders: i64,
     pub clock: u64,
     pub head: u64,
     pub served: u64,
@@ -92,8 +96,9 @@ pub struct Session {
     pub streams: [Stream; STREAMS_MAX],
 }
 
-const _: () = assert!(size_of::<Stream>() == 232 && size_of::<Session>() == 1920);
-const _: () = assert!(offset_of!(Session, margin) == 24 && offset_of!(Session, streams) == 64);
+const _: () = assert!(size_of::<Stream>() == 232 && size_of::<Session>() == 1936);
+const _: () = assert!(offset_of!(Session, margin) == 24 && offset_of!(Session, horizon) == 32 && offset_of!(Session, remainders) == 40);
+const _: () = assert!(offset_of!(Session, clock) == 48 && offset_of!(Session, streams) == 80);
 
 #[repr(C)]
 #[derive(Clone, Copy, Debug, PartialEq, Eq)]
@@ -161,7 +166,15 @@ struct Opening {
     session: Session,
 }
 
-const _: () = assert!(size_of::<Opening>() == 1936 && offset_of!(Opening, margin) == 8);
+const _: () = assert!(size_of::<Opening>() == 1952 && offset_of!(Opening, margin) == 8);
+
+#[repr(C)]
+struct Moment {
+    number: u64,
+    at: u64,
+}
+
+const _: () = assert!(size_of::<Moment>() == 16 && offset_of!(Moment, at) == 8);
 
 #[repr(C)]
 struct State {
@@ -207,6 +220,7 @@ unsafe extern "C" {
     fn yerbagunt_done(session: &mut Session, duration: u64) -> Reply;
     fn yerbagunt_clock(session: &mut Session, time: u64) -> Reply;
     fn yerbagunt_view(session: Session) -> View;
+    fn yerbagunt_latest(horizon: u64, remainders: i64, span: u64) -> Moment;
     fn yerbagunt_stream(session: Session, stream: u64) -> State;
     fn yerbagunt_last_job(session: Session, stream: u64) -> Closing;
     fn yerbagunt_read(file: Lent<u8>) -> File;
@@ -246,6 +260,19 @@ impl Session {
     /// The clock, the horizon, the latest safe moment and the margin; number 31 beside zeros where the session is not sound.
     pub fn view(&self) -> View {
         unsafe { yerbagunt_view(*self) }
+    }
+
+    /// The latest safe moment, at any time and without a copy; or none where `yerbagunt_latest` answers 31. It looks at three cells only, and
+    /// does not judge the session: one that no call has made may get a moment.
+    pub fn latest(&self) -> Option<u64> {
+        let moment = unsafe { yerbagunt_latest(self.horizon, self.remainders, self.span.into()) };
+        if moment.number == number::OK { Some(moment.at) } else { None }
+    }
+
+    /// Whether a request of the caller's own may have the disk now for at most `length`, so that the time, reported when it has ended, is not late.
+    /// `yerbagunt_fits` of `yerbagunt.h` says on what that rests.
+    pub fn fits(&self, length: u64) -> bool {
+        self.served == 0 && self.latest().is_some_and(|latest| self.clock <= latest && length <= latest - self.clock)
     }
 
     /// A stream, counted from 1; or 31 or 8.

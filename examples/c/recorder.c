@@ -1,7 +1,10 @@
-/* A recorder of two channels: opens a table, queues requests, runs turns and reports what the disk took. */
+/* A recorder of two channels: opens a table, queues requests, runs turns and reports what the disk took. While no channel asks, it copies. */
 #include <stdio.h>
 
 #include "yerbagunt.h"
+
+#define WORST 25000
+#define PIECE (2 * WORST) /* the longest that a piece of the copy takes */
 
 static struct yerbagunt_session session;
 
@@ -20,10 +23,17 @@ static uint64_t disk(uint64_t place)
     return taken;
 }
 
+/* A piece of a background copy is read at one place and written at another, for no channel. */
+static uint64_t copy(void)
+{
+    uint64_t read = disk(300);
+    return read + disk(600);
+}
+
 int main(void)
 {
     const struct yerbagunt_reservation channels[2] = {{25000, 250000}, {175000, 500000}};
-    struct yerbagunt_opening opening = yerbagunt_open(25000, 1000000, 1, (struct yerbagunt_reservations){channels, 2});
+    struct yerbagunt_opening opening = yerbagunt_open(WORST, 1000000, 1, (struct yerbagunt_reservations){channels, 2});
     if (opening.number != YERBAGUNT_OK) { /* with 7 the load is -margin above the span; else margin is 0 */
         printf("refused %llu, margin %lld\n", (unsigned long long)opening.number, (long long)opening.margin);
         return 1;
@@ -36,12 +46,14 @@ int main(void)
     show("arrival", yerbagunt_arrival(&session, 2, 900));
     show("arrival", yerbagunt_arrival(&session, 3, 7)); /* there is no channel 3 */
 
-    for (int left = 3; left > 0;) {
+    for (int left = 3; left > 0 || yerbagunt_fits(&session, PIECE);) {
         struct yerbagunt_reply turn = yerbagunt_turn(&session);
         show("turn", turn);
         if (turn.number == YERBAGUNT_SENT) { /* the disk serves the place that the turn names */
             show("done", yerbagunt_done(&session, disk(turn.value)));
             left--;
+        } else if (turn.number == YERBAGUNT_WAIT && yerbagunt_fits(&session, PIECE)) { /* a piece that is copied now breaks no promise */
+            show("copy", yerbagunt_clock(&session, session.clock + copy()));
         } else if (turn.number == YERBAGUNT_WAIT) { /* nothing to do before the latest safe moment */
             show("clock", yerbagunt_clock(&session, turn.value));
         } else if (turn.number < YERBAGUNT_ARRIVED || turn.number == YERBAGUNT_UNSOUND) {

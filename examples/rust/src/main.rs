@@ -1,9 +1,13 @@
-//! A recorder of two channels: opens a table, queues requests, runs turns and reports what the disk took.
+//! A recorder of two channels: opens a table, queues requests, runs turns and reports what the disk took. While no channel asks, it copies.
 // In a product the wrapper is copied beside this file, and the path left out.
 #[path = "../../../include/yerbagunt.rs"]
 mod yerbagunt;
 
 use yerbagunt::{Reply, Reservation, Session, number};
+
+const WORST: u32 = 25000;
+/// The longest that a piece of the copy takes.
+const PIECE: u64 = 2 * WORST as u64;
 
 fn show(call: &str, session: &Session, r: Reply) {
     println!("{call:<8} answer {:2} stream {} value {} clock {}", r.number, r.stream, r.value, session.clock);
@@ -16,12 +20,17 @@ fn disk(at: &mut u64, place: u64) -> u64 {
     taken
 }
 
+/// A piece of a background copy is read at one place and written at another, for no channel.
+fn copy(at: &mut u64) -> u64 {
+    disk(at, 300) + disk(at, 600)
+}
+
 fn main() {
     let channels = [
         Reservation { reserved: 25000, period: 250000 },
         Reservation { reserved: 175000, period: 500000 },
     ];
-    let mut session = match Session::open(25000, 1000000, 1, &channels) {
+    let mut session = match Session::open(WORST, 1000000, 1, &channels) {
         Ok(session) => session,
         // With 7 the load is −margin above the span; else the margin is 0.
         Err(refusal) => return println!("refused {}, margin {}", refusal.number, refusal.margin),
@@ -35,13 +44,17 @@ fn main() {
     }
 
     let (mut at, mut left) = (0, 3);
-    while left > 0 {
+    while left > 0 || session.fits(PIECE) {
         let turn = session.turn();
         show("turn", &session, turn);
         if turn.number == number::SENT {
             let reply = session.done(disk(&mut at, turn.value));
             show("done", &session, reply);
             left -= 1;
+        } else if turn.number == number::WAIT && session.fits(PIECE) {
+            // A piece that is copied now breaks no promise.
+            let reply = session.clock(session.clock + copy(&mut at));
+            show("copy", &session, reply);
         } else if turn.number == number::WAIT {
             let reply = session.clock(turn.value);
             show("clock", &session, reply);

@@ -3,6 +3,7 @@
 #include "engine.h"
 
 typedef unsigned __int128 wide;
+typedef __int128 signed_wide;
 
 // A fraction that is never rounded; two are compared by cross products.
 struct fraction {
@@ -131,17 +132,50 @@ static int64_t scaled_remainder(const struct session *s, uint32_t i, uint64_t ho
     return (int64_t)((horizon - m->release) * m->granted * times) - (int64_t)(m->charge * span);
 }
 
+// "the sum of all remainders", times H as well
+static int64_t sum_of_remainders(const struct session *s, uint64_t horizon)
+{
+    int64_t sum = 0;
+    for (uint32_t i = 0; i < s->table.count; i++)
+        sum += scaled_remainder(s, i, horizon);
+    return sum;
+}
+
 // "Latest safe moment L = h less the sum of all remainders, rounded down once."
 static uint64_t latest_safe(const struct session *s, uint64_t horizon)
 {
-    int64_t sum = 0;
+    int64_t sum = sum_of_remainders(s, horizon);
     uint64_t span = s->table.span;
-    for (uint32_t i = 0; i < s->table.count; i++)
-        sum += scaled_remainder(s, i, horizon);
     // Taking off what is rounded up is rounding down what is left.
     if (sum > 0)
         return horizon - ((uint64_t)sum + span - 1) / span;
     return horizon + (uint64_t)-sum / span;
+}
+
+// Document 02, Req 06: 31 "is given exactly if the span is 0, or if the horizon less the sum divided by the span, rounded
+// down, is below 0 or does not fit 64 unsigned bits; otherwise that number is the answer."
+enum number latest_asked(uint64_t horizon, int64_t remainders, uint64_t span, uint64_t *moment)
+{
+    *moment = 0;
+    if (span == 0)
+        return UNSOUND;
+    // The sum divided by the span and rounded up, so that what it leaves of the horizon is rounded down.
+    uint64_t size = remainders < 0 ? -(uint64_t)remainders : (uint64_t)remainders;
+    signed_wide whole = size / span;
+    bool part = size % span != 0;
+    signed_wide taken = remainders < 0 ? -whole : whole + part;
+    signed_wide left = horizon - taken;
+    if (left < 0 || left > UINT64_MAX)
+        return UNSOUND;
+    *moment = (uint64_t)left;
+    return TOLD;
+}
+
+// Req 06: "every call that changes a charge or the horizon keeps it true". Nothing is adjusted: both are counted anew.
+static void keep_remainders(struct session *s)
+{
+    s->horizon = session_horizon(s);
+    s->remainders = sum_of_remainders(s, s->horizon);
 }
 
 // "r + c × p / g"
@@ -228,6 +262,9 @@ static bool sound(const struct session *s, uint64_t *horizon)
     for (uint32_t i = 0; i < count; i++)
         if (s->streams[i].release > *horizon)
             return false;
+    // Both cells of Req 06 join the rule too. The streams are judged before the sum is taken, so that it fits.
+    if (s->horizon != *horizon || s->remainders != sum_of_remainders(s, *horizon))
+        return false;
     return disk_sound(s, *horizon);
 }
 
@@ -251,6 +288,7 @@ enum number session_open(struct session *s, const struct table *t, int64_t *marg
         s->streams[i].granted = granted_budget(t, &t->reservations[i]);
         s->streams[i].deadline = t->reservations[i].period;
     }
+    keep_remainders(s);
     return ADMITTED;
 }
 
@@ -349,6 +387,7 @@ static struct reply move(struct session *s, uint64_t horizon)
     for (uint32_t i = 0; i < s->table.count; i++)
         if (s->streams[i].deadline == horizon)
             close_job(&s->streams[i], s->clock, s->table.reservations[i].period);
+    keep_remainders(s);
     return answer(MOVED, 0, session_horizon(s));
 }
 
@@ -377,6 +416,7 @@ static struct reply expire(struct session *s, uint32_t i)
     struct stream *m = &s->streams[i];
     m->charge += s->table.worst;
     m->expired++;
+    keep_remainders(s);
     return answer(EXPIRED, i + 1, m->charge);
 }
 
@@ -433,6 +473,7 @@ struct reply session_done(struct session *s, uint64_t duration)
     m->charge += duration;
     s->disk_stream = 0;
     s->disk_place = 0;
+    keep_remainders(s);
     return answer(duration > s->table.worst ? DONE_OVERLONG : DONE, stream, m->charge);
 }
 

@@ -23,6 +23,7 @@
 // "Replies by number"
 enum number {
     ADMITTED = 0,
+    TOLD = 0,
     BAD_COUNT = 1,
     BAD_WORST = 2,
     BAD_SPAN = 3,
@@ -90,10 +91,13 @@ struct stream {
 };
 
 // Streams are numbered from 1; stream 0 at the disk stands for none. The margin is H less the load of the table; document
-// 02, Req 05: "the session keeps it when admitted". No member leaves a gap, so each byte is a cell's.
+// 02, Req 05: "the session keeps it when admitted". The horizon and the remainders are what Req 06 asks by: "The session
+// keeps the sum of remainders, scaled by the span so that it is whole". No member leaves a gap, so each byte is a cell's.
 struct session {
     struct table table;
     int64_t margin;
+    uint64_t horizon;
+    int64_t remainders;
     uint64_t clock;
     uint64_t head;
     uint64_t disk_stream;
@@ -118,7 +122,11 @@ struct reply session_own_turn(struct session *s, uint64_t stream, uint64_t index
 struct reply session_done(struct session *s, uint64_t duration);
 struct reply session_clock(struct session *s, uint64_t time);
 
-// What the calls judge by, for whoever follows a sound session.
+// Document 02, Req 06, the latest safe moment without going round the table: "Asking reads only that sum, the horizon and
+// the span". TOLD, and the moment through the pointer; or UNSOUND, and 0. Any three numbers are answered.
+enum number latest_asked(uint64_t horizon, int64_t remainders, uint64_t span, uint64_t *moment);
+
+// What the calls judge by, for whoever follows a sound session. They go round the table.
 uint64_t session_horizon(const struct session *s);
 uint64_t session_latest_safe(const struct session *s);
 uint64_t session_filled(const struct session *s, uint64_t stream);

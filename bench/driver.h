@@ -2,9 +2,10 @@
  *
  * Standard input has the number of times in eight bytes, and then the file; of a file without events the table is opened.
  * Prints the number of times and the number of the last reply. With the word `restore` nothing is called: what remains is putting
- * the session back before each call, which is not the call's.
+ * the session back before each call, which is not the call's. With the word `ask` the latest safe moment is asked for in place of the last
+ * event, and printed in place of a reply's number.
  *
- * Whoever includes this says what a session is (`image`) and has functions that give a reply's number. */
+ * Whoever includes this says what a session is (`image`) and has functions that give a reply's number, and one that gives the moment. */
 #include <stdio.h>
 #include <string.h>
 
@@ -72,6 +73,13 @@ static uint64_t restore_only(uint64_t times)
     return number;
 }
 
+static uint64_t ask_only(uint64_t times)
+{
+    uint64_t number = 0;
+    REPEAT(latest(&work));
+    return number;
+}
+
 static uint64_t open_only(uint64_t times)
 {
     uint64_t number = 0;
@@ -82,6 +90,7 @@ static uint64_t open_only(uint64_t times)
 
 int main(int words, char **word)
 {
+    const char *instead = words > 1 ? word[1] : "";
     size_t length = fread(input, 1, ROOM, stdin);
     uint64_t times = number_at(0, TIMES_BYTES), number;
     take_table();
@@ -91,8 +100,10 @@ int main(int words, char **word)
         repeat(event, 1);
         prepared = work;
     }
-    if (words > 1 && strcmp(word[1], "restore") == 0)
+    if (strcmp(instead, "restore") == 0)
         number = restore_only(times);
+    else if (strcmp(instead, "ask") == 0)
+        number = ask_only(times);
     else if (event == length)
         number = open_only(times);
     else

@@ -1,4 +1,4 @@
-/* The calls over a lent session, as products in C make them. */
+/* The calls over a lent session and the ask, as products in C make them. */
 #include "yerbagunt.h"
 
 typedef struct yerbagunt_session image;
@@ -60,6 +60,11 @@ static uint64_t done(image *session, uint64_t duration)
 static uint64_t clock(image *session, uint64_t time)
 {
     return yerbagunt_clock(session, time).number;
+}
+
+static uint64_t latest(const image *session)
+{
+    return yerbagunt_latest_of(session).at;
 }
 
 #include "driver.h"

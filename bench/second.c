@@ -55,4 +55,10 @@ static uint64_t clock(image *session, uint64_t time)
     return session_clock(session, time).number;
 }
 
+/* This one goes round the table. */
+static uint64_t latest(const image *session)
+{
+    return session_latest_safe(session);
+}
+
 #include "driver.h"

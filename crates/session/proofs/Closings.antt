@@ -6,12 +6,14 @@ use lib.ListN.{set}
 use lib.Seq.{getD-set-other}
 use Rattle.table.specs.Fold.{listTo}
 use Rattle.table.proofs.Lists.{Filled, filled-more, filled-on, filled-all, mapped}
-use Rattle.time.specs.Time.{session-end}
+use Rattle.time.specs.Time.{session-end, moment}
+use Rattle.time.specs.Latest.{remainders}
 use Rattle.stream.specs.Stream.{moved}
-use Rattle.session.specs.Session.{noStream, streamAt, horizon, withStreams, withStream, lookingAhead}
+use Rattle.session.specs.Session.{noStream, streamAt, horizon, remaindersOf, withStreams, withStream, withAhead}
 use Rattle.session.specs.Calls.{move, apply, replyTo, outcome}
 use Rattle.session.specs.Inner.{Bookkept}
 use Rattle.time.specs.declared.Clock.{Clock}
+use Rattle.time.specs.declared.remainders.Remainders.{Remainders}
 use Rattle.stream.specs.declared.Stream.{Stream}
 use Rattle.session.specs.declared.Session.{Session}
 use Rattle.calls.specs.declared.Reply.{Reply}
@@ -75,6 +77,6 @@ module _ (s : Session) (q : Sound s) where
   pub can-look : Grounds s move → (after : Session) → Moving after (s .count) → Bookkept after
   can-look g after m = let fit = move-kept s q g in subst Bookkept (sym (moving-all after m)) (bookkept (next s q) (fit .admitted) (fit .each))
 
-  pub moves : (after last : Session) → Moving after (s .count) → last ≡ lookingAhead after → record { session = last; reply = Reply.Moved (last .horizon) } ≡ outcome s move
+  pub moves : (after : Session) → Moving after (s .count) → (h : Clock) (sum : Remainders) → h ≡ moment (horizon after) → sum ≡ remainders (remaindersOf after) → record { session = withAhead after h sum; reply = Reply.Moved h } ≡ outcome s move
   unfolding apply replyTo horizon
-  moves after last m e = rw (e, moving-all after m)
+  moves after m h sum h-is sum-is = rw (h-is, sum-is, moving-all after m)

@@ -79,11 +79,13 @@ impl Session {
             self.streams[i] = y;
             i += 1;
         }
-        let next = self.looking_ahead();
-        let later = next.horizon;
-        let reply = Reply::Moved { horizon: later };
+        let next = self.soonest();
+        let owed = self.summed(next);
+        self.horizon = next;
+        self.remainders = owed;
+        let reply = Reply::Moved { horizon: next };
         Answer {
-            session: next,
+            session: self,
             reply: reply,
         }
     }

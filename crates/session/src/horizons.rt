@@ -2,7 +2,7 @@
 ghost use mathlib.Core.Path.{_≡_};
 ghost use Rattle.time.specs.Time.{moment};
 ghost use Rattle.time.specs.Latest.{remainders, latestOf};
-ghost use Rattle.session.specs.Session.{horizon, remaindersOf, lookingAhead};
+ghost use Rattle.session.specs.Session.{horizon, remaindersOf};
 ghost use Rattle.session.specs.Inner.{Bookkept};
 use crate::Session;
 use stream::Sums;
@@ -17,18 +17,6 @@ impl Session {
     {
         self.horizon
             .less_remainders(self.remainders, self.span as u64)
-    }
-
-    // With the horizon and the sum of its streams as they are now.
-    pub(crate) fn looking_ahead(mut self) -> Session
-        requires { ⌜ Bookkept self ⌝ }
-        ensures { λ r. ⌜ r ≡ lookingAhead self ⌝ }
-    {
-        let h = self.soonest();
-        let sum = self.summed(h);
-        self.horizon = h;
-        self.remainders = sum;
-        self
     }
 
     // The smallest deadline of the used streams.
@@ -48,7 +36,7 @@ impl Session {
     }
 
     // The sum of all remainders up to the horizon, times the span.
-    fn summed(self, h: Clock) -> Remainders
+    pub(crate) fn summed(self, h: Clock) -> Remainders
         requires { ⌜ Bookkept self × (h ≡ moment (horizon self)) ⌝ }
         ensures { λ r. ⌜ r ≡ remainders (remaindersOf self) ⌝ }
     {

@@ -3,6 +3,7 @@ use mathlib.Core.Path.{_≡_, refl, subst}
 use Prim.Native.Nat.{_≤_, _<_, _-_}
 use native.Mathlib.Omega.{arith}
 use Rattle.table.proofs.Loops.{none-passed, one-passed}
+use Rattle.session.specs.Inner.{Bookkept}
 use Rattle.session.proofs.Offsets.{offset-fits}
 use Rattle.session.proofs.Sound.{Sound, sound-of}
 use Rattle.session.proofs.Dues.{grounds}
@@ -62,11 +63,18 @@ whole c =
     let m = at .inv .3 .1 in
     (q, subst (Moving s q (at .self)) (passed s q (at .self) (at .i) m (at .inv .0) (c .loop-test .left)) m)
 
-looking-ahead-requires : tie.Need-looking-ahead-requires Inv-loop μ-loop
-looking-ahead-requires c κs = let all = whole c in can-look _ (all .0) (grounds (c .before .before .before .before .pre)) _ (all .1)
+-- and can be gone round
+bookkept : (c : tie.After-loop Inv-loop μ-loop) → Bookkept (c .before .loop .self)
+bookkept c = let all = whole c in can-look _ (all .0) (grounds (c .before .before .before .before .pre)) _ (all .1)
+
+soonest-requires : tie.Need-soonest-requires Inv-loop μ-loop
+soonest-requires c κs = bookkept c
+
+summed-requires : tie.Need-summed-requires Inv-loop μ-loop
+summed-requires c κs = (bookkept (c .before), c .soonest .ensures)
 
 returns : tie.Need-returns Inv-loop μ-loop
-returns c = let all = whole (c .before .before) in moves _ (all .0) _ _ (all .1) (c .before .looking-ahead .ensures)
+returns c = let all = whole (c .before .before) in moves _ (all .0) _ (all .1) _ _ (c .before .soonest .ensures) (c .summed .ensures)
 
 pub move-on-spec : {M : Type 1} → statement M
 move-on-spec =
@@ -83,5 +91,6 @@ move-on-spec =
     add-i
     loop-less
     loop-again
-    looking-ahead-requires
+    soonest-requires
+    summed-requires
     returns)

@@ -17,7 +17,7 @@ use Rattle.session.proofs.Sound.{sound-of}
 use Rattle.session.proofs.Within.{within-never}
 
 pub start-is-in-charge : StartIsInCharge
-start-is-in-charge s ok i l = sound-of s ok .each i l .covered
+start-is-in-charge s ok i l = sound-of s ok .fit .used .each i l .covered
 
 pub charge-is-sum : ChargeIsSum
 unfolding chargeOf

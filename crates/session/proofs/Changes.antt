@@ -24,7 +24,7 @@ use Rattle.time.specs.declared.remainders.Remainders.{Remainders}
 use Rattle.stream.specs.declared.Stream.{Stream}
 use Rattle.session.specs.declared.Session.{Session}
 use Rattle.stream.proofs.Orderly.{Queue, queue-of, of-queue, InOrder, worked-order}
-use Rattle.session.proofs.Sound.{Fit, Sound, fit-ahead, admits}
+use Rattle.session.proofs.Sound.{Fit, Sound, admits}
 use Rattle.session.proofs.Remainders.{remainders-split}
 
 -- the table of a session is as it was, where no stream's reservation changes
@@ -47,19 +47,17 @@ pub streams-kept : (s : Session) → Sound s → (xs : List Stream)
 streams-kept s q xs es ps many each others disk =
     let same = table-kept s xs es ps in
     record {
-      admitted = ap admissionOf same ∙ q .admitted;
-      margin-is = q .margin-is ∙ sym (ap marginOf same);
-      eight = many ∙ q .eight;
-      each = each;
+      used = record { admitted = ap admissionOf same ∙ q .fit .used .admitted; margin-is = q .fit .used .margin-is ∙ sym (ap marginOf same); each = each };
+      eight = many ∙ q .fit .eight;
       others = others;
-      clock-high = q .clock-high;
+      clock-high = q .fit .clock-high;
       disk = disk;
     }
 
 -- the disk stays in order while it is idle, whatever the streams
 pub idle-kept : (s : Session) (xs : List Stream) → Sound s → s .served ≡ 0 → soundDisk (withStreams s xs) ≡ true
 unfolding soundDisk if
-idle-kept s xs q idle = rw (eq-eqb (s .served) 0 idle) (rw (eq-eqb (s .served) 0 idle) at (q .disk))
+idle-kept s xs q idle = rw (eq-eqb (s .served) 0 idle) (rw (eq-eqb (s .served) 0 idle) at (q .fit .disk))
 
 module _ (s : Session) (q : Sound s) (i : ℕ) (l : i < s .count) (charge expired queued : ℕ) (places : List ℕ) where
   abbrev new : Stream
@@ -72,7 +70,7 @@ module _ (s : Session) (q : Sound s) (i : ℕ) (l : i < s .count) (charge expire
       ap (λ (f : ℕ → ℕ). smallestTo f (s .count)) (fun-ext (set-alike (s .streams) i new noStream (λ x. x .deadline .0) refl))
 
   pub here : i < length (s .streams)
-  here = omega (arith, q .eight, admits s q .numbers .count-high)
+  here = omega (arith, q .fit .eight, admits s q .numbers .count-high)
 
   -- the sum over the streams of what each has
   pub summed : (f : Stream → ℕ) → sumTo (λ j. f (streamAt (withStream s i new) j)) (s .count) + f (streamAt s i) ≡ sumTo (λ j. f (streamAt s j)) (s .count) + f new
@@ -109,14 +107,14 @@ module _ (s : Session) (q : Sound s) (i : ℕ) (l : i < s .count) (charge expire
   pub stream-kept : charge ≤ streamAt s i .granted .0 + duration-max → streamAt s i .start .0 + s .worst * expired ≤ charge → Queue new
       → soundDisk (withStream s i new) ≡ true → Fit (withStream s i new)
   stream-kept high low queue disk =
-      let x = q .each i l in
+      let x = q .fit .used .each i l in
       let xs = s .streams in
       let order = worked-order (s .worst) (s .padding) (horizon s) (streamAt s i) x charge expired queued places high low queue in
       streams-kept s q (set xs i new) (map-set-same _ xs i new noStream refl) (map-set-same _ xs i new noStream refl) (length-set xs i new)
       (λ j m.
       subst (λ (h : ℕ). InOrder (s .worst) (s .padding) h (streamAt (withStream s i new) j)) (sym horizon-kept)
-      (set-each xs i new noStream (InOrder (s .worst) (s .padding) (horizon s)) here order j (q .each j m)))
-      (λ j past m. rw (getD-set-other xs i j new noStream (λ e. omega arith)) (q .others j past m))
+      (set-each xs i new noStream (InOrder (s .worst) (s .padding) (horizon s)) here order j (q .fit .used .each j m)))
+      (λ j past m. rw (getD-set-other xs i j new noStream (λ e. omega arith)) (q .fit .others j past m))
       disk
 
   -- where the charge stays, so do the slots of each stream
@@ -131,7 +129,7 @@ module _ (s : Session) (q : Sound s) (i : ℕ) (l : i < s .count) (charge expire
   unfolding soundDisk
   disk-kept e =
       ap (λ (n : ℕ). if (eqb (s .served) 0) (eqb (s .place) 0) (leb (s .served) (s .count) && leb 1 n)) (slots-kept e (s .served - 1))
-      ∙ q .disk
+      ∙ q .fit .disk
 
 module _ (s : Session) (q : Sound s) (i : ℕ) (l : i < s .count) where
   abbrev old : Stream
@@ -141,16 +139,19 @@ module _ (s : Session) (q : Sound s) (i : ℕ) (l : i < s .count) where
   pub queue-kept : (queued : ℕ) (places : List ℕ) → Queue (withQueue old queued places)
       → Sound (withStream s i (withQueue old queued places))
   queue-kept queued places queue =
-      let o = q .each i l in
+      let o = q .fit .used .each i l in
       let c = old .charge .0 in
       let e = old .expired in
       let same : remaindersOf s ≡ remaindersOf (withStream s i (withQueue old queued places)) =
       sym (remainders-charged s q i l c e queued places 0 (omega arith) ∙ ap (λ (n : ℕ). remaindersOf s -ℤ pos n) (let none : 0 * s .span ≡ 0 = omega arith in none) ∙ +ℤ-idr (remaindersOf s)) in
-      fit-ahead _ (stream-kept s q i l c e queued places (o .charge-high) (o .covered) queue (disk-kept s q i l c e queued places refl))
-      (record {
-        horizon-is = q .ahead .horizon-is ∙ ap moment (sym (horizon-kept s q i l c e queued places));
-        remainders-is = q .ahead .remainders-is ∙ ap remainders same;
-      })
+      record {
+        fit = stream-kept s q i l c e queued places (o .charge-high) (o .covered) queue (disk-kept s q i l c e queued places refl);
+        ahead =
+            record {
+              horizon-is = q .ahead .horizon-is ∙ ap moment (sym (horizon-kept s q i l c e queued places));
+              remainders-is = q .ahead .remainders-is ∙ ap remainders same;
+            };
+      }
 
   -- another charge, while the disk is idle, until the session looks ahead anew
   pub charge-kept : (charge expired : ℕ) → charge ≤ old .granted .0 + duration-max → old .start .0 + s .worst * expired ≤ charge → s .served ≡ 0
@@ -158,7 +159,7 @@ module _ (s : Session) (q : Sound s) (i : ℕ) (l : i < s .count) where
   unfolding soundQueue
   charge-kept charge expired high low idle =
       stream-kept s q i l charge expired (old .queued) (old .places) high low
-      (queue-of (withCharge old charge expired) (of-queue old (q .each i l .queue)))
+      (queue-of (withCharge old charge expired) (of-queue old (q .fit .used .each i l .queue)))
       (idle-kept s _ q idle)
 
 -- another clock and another request at the disk
@@ -166,15 +167,17 @@ pub clock-kept : (s : Session) → Sound s → (clock : Clock) (head served plac
     → soundDisk (withDisk s clock head served place) ≡ true → Sound (withDisk s clock head served place)
 unfolding horizon remaindersOf
 clock-kept s q clock head served place high disk =
+    let used = q .fit .used in
     record {
+      fit =
+          record {
+            used = record { admitted = used .admitted; margin-is = used .margin-is; each = used .each };
+            eight = q .fit .eight;
+            others = q .fit .others;
+            clock-high = high;
+            disk = disk;
+          };
       ahead = record { horizon-is = q .ahead .horizon-is; remainders-is = q .ahead .remainders-is };
-      admitted = q .admitted;
-      margin-is = q .margin-is;
-      eight = q .eight;
-      each = q .each;
-      others = q .others;
-      clock-high = high;
-      disk = disk;
     }
 
 -- a stream with a slot may have its request at the disk

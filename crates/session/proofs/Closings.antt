@@ -33,7 +33,7 @@ module _ (s : Session) (q : Sound s) where
 
   pub moving-none : Moving s 0
   unfolding listTo
-  moving-none = record { cells = refl; front = record { cells = q .eight; front = refl }; rest = λ j le. refl }
+  moving-none = record { cells = refl; front = record { cells = q .fit .eight; front = refl }; rest = λ j le. refl }
 
   -- it goes on over used streams, and each can be moved
   module _ (after : Session) (i : ℕ) (m : Moving after i) where
@@ -69,13 +69,13 @@ module _ (s : Session) (q : Sound s) where
   moving-all after m =
       let high = admits s q .numbers .count-high in
       let full = filled-on movedAt (after .streams) noStream (s .count) 8 high
-      (λ j past l. m .rest j past ∙ sym (stays s q (streamAt s j) (unused-deadline (streamAt s j) (q .others j past l)))) (m .front) in
-      let streams = filled-all movedAt (after .streams) 8 full ∙ mapped (moving s q) (s .streams) noStream 8 (q .eight) in
+      (λ j past l. m .rest j past ∙ sym (stays s q (streamAt s j) (unused-deadline (streamAt s j) (q .fit .others j past l)))) (m .front) in
+      let streams = filled-all movedAt (after .streams) 8 full ∙ mapped (moving s q) (s .streams) noStream 8 (q .fit .eight) in
       m .cells ∙ ap (withStreams s) streams
 
   -- and looks ahead
   pub can-look : Grounds s move → (after : Session) → Moving after (s .count) → Bookkept after
-  can-look g after m = let fit = move-kept s q g in subst Bookkept (sym (moving-all after m)) (bookkept (next s q) (fit .admitted) (fit .each))
+  can-look g after m = subst Bookkept (sym (moving-all after m)) (bookkept (next s q) (move-kept s q g .used))
 
   pub moves : (after : Session) → Moving after (s .count) → (h : Clock) (sum : Remainders) → h ≡ moment (horizon after) → sum ≡ remainders (remaindersOf after) → record { session = withAhead after h sum; reply = Reply.Moved h } ≡ outcome s move
   unfolding apply replyTo horizon

@@ -29,7 +29,7 @@ use Rattle.stream.specs.declared.sums.Sums.{Sums}
 use Rattle.stream.specs.declared.census.Census.{Census}
 use Rattle.session.specs.declared.Session.{Session}
 use Rattle.stream.proofs.Orderly.{InOrder, of-order, order-none, order-fits, order-cells, order-share, order-bounded}
-use Rattle.session.proofs.Sound.{Sound, sound-of, Used, bounded}
+use Rattle.session.proofs.Sound.{Ahead, Used, Sound, sound-of, bounded}
 use Rattle.session.proofs.Remainders.{remainders-split, sumsTo, sums-none, sums-more, can-sum}
 
 module _ (s : Session) where
@@ -56,10 +56,10 @@ module _ (s : Session) where
   in-order : Sound s → (i : ℕ) → i < s .count → inOrderAt i ≡ true
   unfolding admissionOf streamsRefusal
   in-order q i l =
-      let streams = or-next-none _ _ (or-next-none _ _ (q .admitted) .1) .0 in
+      let streams = or-next-none _ _ (or-next-none _ _ (q .fit .used .admitted) .1) .0 in
       let none : streamRefusal (s .worst) (s .span) (s .padding) (streamAt s i .reserved) (streamAt s i .period) ≡ 0 =
       rw (reserved-is i, period-is i) at (first-none _ (s .count) streams i l) in
-      rw (q .ahead .horizon-is) (of-order (s .worst) (s .span) (s .padding) (horizon s) (streamAt s i) none (q .each i l) (bounded s q i l .ahead))
+      rw (q .ahead .horizon-is) (of-order (s .worst) (s .span) (s .padding) (horizon s) (streamAt s i) none (q .fit .used .each i l) (bounded s q i l .ahead))
 
   module _ (i : ℕ) (t : inOrderAt i ≡ true) where
     abbrev at-none : streamRefusal (s .worst) (s .span) (s .padding) (streamAt s i .reserved) (streamAt s i .period) ≡ 0
@@ -109,7 +109,7 @@ module _ (s : Session) where
               shares = refl;
               least = refl;
             };
-        failed = λ bad. not-sound (λ q. eqb-false _ _ bad (or-next-none _ _ (q .admitted) .0));
+        failed = λ bad. not-sound (λ q. eqb-false _ _ bad (or-next-none _ _ (q .fit .used .admitted) .0));
       }
 
   pub counted-more : (c : Census) (n : ℕ) → n < s .count → c .sound ≡ true → CountedTo c n → CountedTo (counted c (streamAt s n)) (n + 1)
@@ -208,7 +208,7 @@ module _ (s : Session) where
         }
 
     -- what the census says is what a sound session's used streams are
-    pub says-used : says c (s .margin .0) (s .remainders .0) ≡ true → Used s
+    pub says-used : says c (s .margin .0) (s .remainders .0) ≡ true → Used s × Ahead s
     unfolding says
     says-used t =
         let kept = eqZ (s .margin .0) (lessLoad (c .span) (loadSo c)) in
@@ -217,19 +217,16 @@ module _ (s : Session) where
         let b = both (c .sound && leb (loadSo c) (c .span) && kept) soonest (a .0) in
         let d = both (c .sound && leb (loadSo c) (c .span)) kept (b .0) in
         let e = both (c .sound) (leb (loadSo c) (c .span)) (d .0) in
-        let is : s .horizon ≡ moment (horizon s) = sym (m .horizon) ∙ ap moment (eqb-true _ _ (b .1)) ∙ soonest-is in
-        record {
-          admitted = admitted-of (leb-true _ _ (e .1));
-          margin-is = same-is _ _ (d .1) ∙ sym margin-counted;
-          each = each-of is;
-          ahead = record { horizon-is = is; remainders-is = ap remainders (same-is _ _ (a .1) ∙ sum-counted is) };
-        }
+        let is : s .horizon ≡ moment (horizon s) = sym (m .horizon) ∙ ap moment (eqb-true _ _ (b .1)) ∙ soonest-is in (
+          record { admitted = admitted-of (leb-true _ _ (e .1)); margin-is = same-is _ _ (d .1) ∙ sym margin-counted; each = each-of is },
+          record { horizon-is = is; remainders-is = ap remainders (same-is _ _ (a .1) ∙ sum-counted is) },
+        )
 
-    pub used-says : Used s → says c (s .margin .0) (s .remainders .0) ≡ true
+    pub used-says : Used s → Ahead s → says c (s .margin .0) (s .remainders .0) ≡ true
     unfolding says
-    used-says q =
+    used-says q ahead =
         let fits : loadSo c ≤ c .span = rw (sym load-is, m .span) (admits-of (tableOf s) (q .admitted) .fits) in
-        let is = q .ahead .horizon-is in
+        let is = ahead .horizon-is in
         let soonest : c .horizon .0 ≡ c .soonest .0 = ap (λ (h : Clock). h .0) (m .horizon ∙ is ∙ sym soonest-is) in
-        let summed : s .remainders .0 ≡ remaindersSo (c .sums) (c .span) = ap (λ (r : Remainders). r .0) (q .ahead .remainders-is) ∙ sym (sum-counted is) in
+        let summed : s .remainders .0 ≡ remaindersSo (c .sums) (c .span) = ap (λ (r : Remainders). r .0) (ahead .remainders-is) ∙ sym (sum-counted is) in
         rw (ok, le-leb _ _ fits, is-same _ _ (q .margin-is ∙ margin-counted), eq-eqb _ _ soonest, is-same _ _ summed)

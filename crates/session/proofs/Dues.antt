@@ -43,7 +43,7 @@ pub can-finish : {s : Session} {i a : ℕ} → Due s (finish i a) → (i < 8) ×
 can-finish {s} {i} d =
     let g = grounds d in
     let q = sound-of s (d .ok) in
-    (inside s (d .ok) i (g .exists), charge-within (bounded s q i (g .exists)), q .clock-high, omega (arith, g .short), g .short)
+    (inside s (d .ok) i (g .exists), charge-within (bounded s q i (g .exists)), q .fit .clock-high, omega (arith, g .short), g .short)
 
 -- what is charged more, times the span, can be taken off the sum
 pub can-charge : (s : Session) → sound s ≡ true → (c : Charge) → c .0 ≤ duration-max

@@ -68,7 +68,7 @@ served-of s h at-disk =
     (leb-true _ _ (a .0), leb-true 1 (slotsAt s (s .served - 1)) (a .1))
 
 pub served-in : (s : Session) → Sound s → (s .served ≡ 0 → ⊥) → (1 ≤ s .served) × (s .served - 1 < s .count)
-served-in s q at-disk = let high = served-of s (q .disk) at-disk .0 in (omega arith, omega arith)
+served-in s q at-disk = let high = served-of s (q .fit .disk) at-disk .0 in (omega arith, omega arith)
 
 -- the stream that a turn serves has a filled slot
 pub chosen-grounds : (s : Session) → s .served ≡ 0 → someFilled s ≡ true → Grounds s (send (chosen s) (nearestAt s (chosen s)))
@@ -116,7 +116,7 @@ call-grounds s q (Call.Arrival n place) h =
     let a = or-next-none _ _ h in
     let exists = named s n (given-none _ 7 (a .0)) .1 in
     let more = eqb-false (streamAt s (n - 1) .queued) queue-max (given-none _ 8 (a .1)) in
-    record { exists = exists; space = omega (arith, q .each (n - 1) exists .queue .queued-high) }
+    record { exists = exists; space = omega (arith, q .fit .used .each (n - 1) exists .queue .queued-high) }
 call-grounds s q Call.Turn h =
     let a = or-next-none _ _ h in
     turn-grounds s (idle-of s (given-none _ 9 (a .0))) (given-none _ 13 (a .1))
@@ -132,7 +132,7 @@ call-grounds s q (Call.Done a) h =
     let b = or-next-none _ _ h in
     let d = or-next-none _ _ (b .1) in
     let at-disk = served-at s (given-none _ 10 (b .0)) in
-    let stream = served-of s (q .disk) at-disk in
+    let stream = served-of s (q .fit .disk) at-disk in
     record {
       exists = omega arith;
       slot = stream .1;

@@ -87,7 +87,7 @@ module _ (s : Session) (q : Sound s) where
     pub due-most : x .deadline .0 ≡ horizon s → Room s → x .charge .0 ≤ x .granted .0
     due-most due room =
         charged-most (x .release .0) (x .granted .0) (x .period) (s .span / x .period) (s .span) (x .charge .0) whole span-pos
-        (subst (λ (h : ℕ). usedAt s i ≤ h * rateAt s i) (sym due ∙ q .each i l .due) (room i l))
+        (subst (λ (h : ℕ). usedAt s i ≤ h * rateAt s i) (sym due ∙ q .fit .used .each i l .due) (room i l))
 
     -- and without a slot, more than that less W
     pub due-least : x .deadline .0 ≡ horizon s → slotsAt s i ≡ 0 → x .granted .0 < x .charge .0 + s .worst

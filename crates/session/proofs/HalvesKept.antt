@@ -97,7 +97,7 @@ module _ (s : Session) (q : Sound s) where
       omega (
         arith,
         carry-covers (x .release .0) (x .granted .0) (x .period) (s .span / x .period) (s .span) (x .charge .0) (whole s q i l),
-        ap (λ (z : ℕ). z * rate (s .span) x) (q .each i l .due),
+        ap (λ (z : ℕ). z * rate (s .span) x) (q .fit .used .each i l .due),
       ))
       (λ other. omega arith)
 

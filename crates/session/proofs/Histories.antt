@@ -57,7 +57,7 @@ module _ (s : Session) (q : Sound s) (k : Call) (i : ℕ) where
   x = streamAt s i
 
   cell : (j : ℕ) → j < s .count → j < length (s .streams)
-  cell j l = omega (arith, q .eight, admits s q .numbers .count-high)
+  cell j l = omega (arith, q .fit .eight, admits s q .numbers .count-high)
 
   -- how stream i goes on, by what the call and its reply tell
   abbrev Told : Reply → Stream → Type 0

@@ -22,7 +22,7 @@ use Rattle.stream.specs.Search.{begun, withSound, counted, Countable, loadSo, s
 use Rattle.time.specs.declared.Clock.{Clock}
 use Rattle.stream.specs.declared.census.Census.{Census}
 use Rattle.session.specs.declared.Session.{Session}
-use Rattle.session.proofs.Sound.{Sound, sound-of, of-sound, Used, used as used-of, used-bounded}
+use Rattle.session.proofs.Sound.{Ahead, Used, Sound, sound-of, of-sound, used-bounded}
 use Rattle.session.proofs.Grounds.{served-in}
 use Rattle.session.proofs.Counted.{CountedTo, not-sound, counted-none, counted-more, counted-and, countable, judgeable, says-used, used-says}
 
@@ -87,7 +87,7 @@ module _ (s : Session) where
     -- an unused one is all zeros
     module _ (past : s .count ≤ i) (zero : Bool) (e : zero ≡ unusedStream (streamAt s i)) where
       not-zero : zero ≡ false → sound s ≡ false
-      not-zero bad = not-sound s (λ q. false≢true (sym bad ∙ e ∙ q .others i past below))
+      not-zero bad = not-sound s (λ q. false≢true (sym bad ∙ e ∙ q .fit .others i past below))
 
       pub judging-unused : Judging (withSound c zero) (i + 1)
       judging-unused =
@@ -138,7 +138,7 @@ module _ (s : Session) where
       where
         go : (b : Bool) → c .sound ≡ b → tests ≡ true
         go true fine =
-            rw (used-says s c (counted-all fine) fine (used-of s q), le-leb _ _ (q .clock-high), le-leb _ _ (served-high s q))
+            rw (used-says s c (counted-all fine) fine (q .fit .used) (q .ahead), le-leb _ _ (q .fit .clock-high), le-leb _ _ (served-high s q))
         go false bad = absurd (false≢true (sym (m .failed bad) ∙ of-sound s q))
 
     pub refused : tests ≡ false → sound s ≡ false
@@ -164,24 +164,25 @@ module _ (s : Session) where
         let soonest = eqb (c .horizon .0) (c .soonest .0) in
         both (c .sound) fits (both (c .sound && fits) kept (both (c .sound && fits && kept) soonest (both (c .sound && fits && kept && soonest) _ (b .0) .0) .0) .0) .0
 
-    used : Used s
+    used : Used s × Ahead s
     used = says-used s c (counted-all c i (past .looked) fine) fine (b .0)
 
     disk-decides : soundDisk s ≡ sound s
-    disk-decides = same-test _ _ forth (λ ok. sound-of s ok .disk)
+    disk-decides = same-test _ _ forth (λ ok. sound-of s ok .fit .disk)
       where
         forth : soundDisk s ≡ true → sound s ≡ true
         forth disk =
             of-sound s
             (record {
-              ahead = used .ahead;
-              admitted = used .admitted;
-              margin-is = used .margin-is;
-              eight = past .looked .judging .eight;
-              each = used .each;
-              others = λ j low l. past .looked .judging .zeros fine j low (omega (arith, l, past-all c i (past .looked) fine));
-              clock-high = leb-true _ _ (b .1);
-              disk = disk;
+              fit =
+                  record {
+                    used = used .0;
+                    eight = past .looked .judging .eight;
+                    others = λ j low l. past .looked .judging .zeros fine j low (omega (arith, l, past-all c i (past .looked) fine));
+                    clock-high = leb-true _ _ (b .1);
+                    disk = disk;
+                  };
+              ahead = used .1;
             })
 
     pub idle-decides : s .served ≡ 0 → eqb (s .place) 0 ≡ sound s
@@ -196,8 +197,8 @@ module _ (s : Session) where
       at-disk = omega (arith, inside-count, numbers-of (tableOf s) (counted-all c i (past .looked) fine .passed fine .numbers) .count-high)
 
       pub can-have : Bounded (s .worst) (s .horizon .0) (streamAt s (s .served - 1))
-      can-have = rw (used .ahead .horizon-is) (used-bounded s (used .admitted) (used .each) (s .served - 1) inside-count)
+      can-have = rw (used .1 .horizon-is) (used-bounded s (used .0) (s .served - 1) inside-count)
 
       pub busy-decides : (n : ℕ) → n ≡ slots (s .worst) (s .horizon .0) (streamAt s (s .served - 1)) → leb 1 n ≡ sound s
       unfolding soundDisk if
-      busy-decides n e = rw (e ∙ ap (λ (h : Clock). slots (s .worst) (h .0) (streamAt s (s .served - 1))) (used .ahead .horizon-is)) (rw (ne-eqb _ _ some, a .1) at disk-decides)
+      busy-decides n e = rw (e ∙ ap (λ (h : Clock). slots (s .worst) (h .0) (streamAt s (s .served - 1))) (used .1 .horizon-is)) (rw (ne-eqb _ _ some, a .1) at disk-decides)

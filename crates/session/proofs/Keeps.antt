@@ -21,7 +21,7 @@ use Rattle.session.proofs.MoveKept.{move-kept}
 append-kept : (s : Session) → Sound s → (i place : ℕ) → Grounds s (append i place) → Sound (apply s (append i place))
 unfolding apply arrived
 append-kept s q i place g =
-    queue-kept s q i (g .exists) _ _ (arrived-queue place (streamAt s i) (q .each i (g .exists) .queue) (g .space))
+    queue-kept s q i (g .exists) _ _ (arrived-queue place (streamAt s i) (q .fit .used .each i (g .exists) .queue) (g .space))
 
 -- a request sent: its stream keeps its slots, and so has one while it is at the disk
 send-kept : (s : Session) → Sound s → (i j : ℕ) → Grounds s (send i j) → Sound (apply s (send i j))
@@ -31,10 +31,10 @@ send-kept s q i j g =
     let x = streamAt s i in
     let y = without j x in
     let place = getD (x .places) j 0 in
-    let left = queue-kept s q i l _ _ (without-queue j x (q .each i l .queue) (omega (arith, g .inSet))) in
+    let left = queue-kept s q i l _ _ (without-queue j x (q .fit .used .each i l .queue) (omega (arith, g .inSet))) in
     let slot : 1 ≤ slotsAt (withStream s i y) i =
     subst (λ (n : ℕ). 1 ≤ n) (sym (slots-kept s q i l (x .charge .0) (x .expired) (y .queued) (y .places) refl i)) (omega (arith, g .inSet)) in
-    clock-kept (withStream s i y) left (s .clock) place (i + 1) place (q .clock-high)
+    clock-kept (withStream s i y) left (s .clock) place (i + 1) place (q .fit .clock-high)
     (disk-served (withStream s i y) (s .clock) place i place l slot)
 
 -- a stream with a slot has room for W
@@ -46,7 +46,7 @@ expire-kept : (s : Session) → Sound s → (i : ℕ) → Grounds s (expire i) �
 unfolding apply lapsed
 expire-kept s q i g =
     let l = g .exists in
-    looking-ahead _ (charge-kept s q i l _ _ (omega (arith, room s q i l (g .slot))) (omega (arith, q .each i l .covered)) (g .idle))
+    looking-ahead _ (charge-kept s q i l _ _ (omega (arith, room s q i l (g .slot))) (omega (arith, q .fit .used .each i l .covered)) (g .idle))
 
 -- a completion: nothing is at the disk any more, so the charge may pass what the slot covers
 finish-kept : (s : Session) → Sound s → (i a : ℕ) → Grounds s (finish i a) → Sound (apply s (finish i a))
@@ -56,12 +56,12 @@ finish-kept s q i a g =
     let clock = moment (s .clock .0 + a) in
     looking-ahead _
     (charge-kept (withDisk s clock (s .head) 0 0) (clock-kept s q clock (s .head) 0 0 (g .inTime) refl) i l _ _
-    (omega (arith, g .short, room s q i l (g .slot))) (omega (arith, q .each i l .covered)) refl)
+    (omega (arith, g .short, room s q i l (g .slot))) (omega (arith, q .fit .used .each i l .covered)) refl)
 
 -- a clock report
 set-clock-kept : (s : Session) → Sound s → (t : ℕ) → Grounds s (set-clock t) → Sound (apply s (set-clock t))
 unfolding apply soundDisk horizon
-set-clock-kept s q t inTime = clock-kept s q (moment t) (s .head) (s .served) (s .place) inTime (q .disk)
+set-clock-kept s q t inTime = clock-kept s q (moment t) (s .head) (s .served) (s .place) inTime (q .fit .disk)
 
 -- whatever a call comes to
 pub effect-kept : (s : Session) → Sound s → (v : Verdict) → Grounds s v → Sound (apply s v)

@@ -89,8 +89,8 @@ module _ (s : Session) (q : Sound s) where
       streams-kept s q (map moving xs) (kept (λ x. x .reserved) (λ x. refl)) (kept (λ x. x .period) (λ x. refl)) (length-map xs moving)
       (λ i l.
       rw (moved-at i)
-      (moved-order (s .clock) (horizon s) (s .worst) (s .padding) (horizon next) (streamAt s i) horizon-later (q .each i l) (g .inTime i l)))
+      (moved-order (s .clock) (horizon s) (s .worst) (s .padding) (horizon next) (streamAt s i) horizon-later (q .fit .used .each i l) (g .inTime i l)))
       (λ i past l.
-      let unused = q .others i past l in
+      let unused = q .fit .others i past l in
       rw (moved-at i, stays (streamAt s i) (unused-deadline (streamAt s i) unused)) unused)
       (idle-kept s (map moving xs) q (g .idle))

@@ -94,10 +94,8 @@ module _ (t : Table) (admitted : admissionOf t ≡ 0) where
   unfolding soundDisk if
   opened-fit =
       record {
-        admitted = fresh-admitted;
-        margin-is = fresh-margin;
+        used = record { admitted = fresh-admitted; margin-is = fresh-margin; each = order-at (horizon (openedSession t)) };
         eight = length-listTo (openedStream t) streams-max;
-        each = order-at (horizon (openedSession t));
         others = fresh-others;
         clock-high = omega arith;
         disk = refl;
@@ -226,7 +224,7 @@ pub margin-is-kept : MarginIsKept
 margin-is-kept = (
   λ t calls admitted. ap (λ (m : Margin). m .0) (margin-after (openingOf t .session) calls) ∙ opened-margin t admitted,
   call-keeps-margin,
-  λ s t. sound-of s t .margin-is,
+  λ s t. sound-of s t .fit .used .margin-is,
 )
 
 -- a reply has the number of its refusal, or one from 20 to 28

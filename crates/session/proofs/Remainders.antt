@@ -67,7 +67,7 @@ module _ (s : Session) (q : Sound s) where
       rw (
         List·getD-map (λ (x : Stream). x .reserved) (s .streams) i noStream,
         List·getD-map (λ (x : Stream). x .period) (s .streams) i noStream,
-        q .each i l .budget,
+        q .fit .used .each i l .budget,
       )
 
   pub parts-low : sumTo (scaledPart s) (s .count) ≤ horizon s * s .span

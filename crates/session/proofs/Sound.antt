@@ -31,53 +31,39 @@ pub record Ahead (s : Session) : Type 0 where
   pub horizon-is : s .horizon ≡ moment (horizon s)
   pub remainders-is : s .remainders ≡ remainders (remaindersOf s)
 
--- all else
+-- its table, and its used streams
+pub record Used (s : Session) : Type 0 where
+  pub admitted : admissionOf (tableOf s) ≡ 0
+  pub margin-is : s .margin .0 ≡ marginOf (tableOf s)
+  pub each : (i : ℕ) → i < s .count → InOrder (s .worst) (s .padding) (horizon s) (streamAt s i)
+
+-- all but the horizon and the sum
 pub record Fit (s : Session) : Type 0 where
-  pub admitted : admissionOf (tableOf s) ≡ 0
-  pub margin-is : s .margin .0 ≡ marginOf (tableOf s)
+  pub used : Used s
   pub eight : length (s .streams) ≡ 8
-  pub each : (i : ℕ) → i < s .count → InOrder (s .worst) (s .padding) (horizon s) (streamAt s i)
   pub others : (i : ℕ) → s .count ≤ i → i < 8 → unusedStream (streamAt s i) ≡ true
   pub clock-high : s .clock .0 ≤ session-end
   pub disk : soundDisk s ≡ true
 
--- and both
 pub record Sound (s : Session) : Type 0 where
+  pub fit : Fit s
   pub ahead : Ahead s
-  pub admitted : admissionOf (tableOf s) ≡ 0
-  pub margin-is : s .margin .0 ≡ marginOf (tableOf s)
-  pub eight : length (s .streams) ≡ 8
-  pub each : (i : ℕ) → i < s .count → InOrder (s .worst) (s .padding) (horizon s) (streamAt s i)
-  pub others : (i : ℕ) → s .count ≤ i → i < 8 → unusedStream (streamAt s i) ≡ true
-  pub clock-high : s .clock .0 ≤ session-end
-  pub disk : soundDisk s ≡ true
-
-pub fit-ahead : (s : Session) → Fit s → Ahead s → Sound s
-fit-ahead s q ahead =
-    record {
-      ahead = ahead;
-      admitted = q .admitted;
-      margin-is = q .margin-is;
-      eight = q .eight;
-      each = q .each;
-      others = q .others;
-      clock-high = q .clock-high;
-      disk = q .disk;
-    }
 
 -- a session that looks ahead anew
 pub looking-ahead : (s : Session) → Fit s → Sound (lookingAhead s)
 unfolding horizon remaindersOf soundDisk
 looking-ahead s q =
+    let used = q .used in
     record {
+      fit =
+          record {
+            used = record { admitted = used .admitted; margin-is = used .margin-is; each = used .each };
+            eight = q .eight;
+            others = q .others;
+            clock-high = q .clock-high;
+            disk = q .disk;
+          };
       ahead = record { horizon-is = refl; remainders-is = refl };
-      admitted = q .admitted;
-      margin-is = q .margin-is;
-      eight = q .eight;
-      each = q .each;
-      others = q .others;
-      clock-high = q .clock-high;
-      disk = q .disk;
     }
 
 -- the streams past the count, of a session that has eight
@@ -100,58 +86,54 @@ sound-of s t =
     let e = both _ _ (g .0) in
     let f = both _ _ (e .0) in
     record {
+      fit =
+          record {
+            used =
+                record {
+                  admitted = eqb-true _ _ (f .0);
+                  margin-is = same-is _ _ (f .1);
+                  each = λ i l. stream-of (s .worst) (s .padding) (horizon s) (streamAt s i) (all-at _ (s .count) (e .1) i l);
+                };
+            eight = rest .0;
+            others = rest .1;
+            clock-high = leb-true _ _ (b .1);
+            disk = a .1;
+          };
       ahead = record { horizon-is = ap moment (eqb-true _ _ (kept .0)); remainders-is = ap remainders (same-is _ _ (kept .1)) };
-      admitted = eqb-true _ _ (f .0);
-      margin-is = same-is _ _ (f .1);
-      eight = rest .0;
-      each = λ i l. stream-of (s .worst) (s .padding) (horizon s) (streamAt s i) (all-at _ (s .count) (e .1) i l);
-      others = rest .1;
-      clock-high = leb-true _ _ (b .1);
-      disk = a .1;
     }
 
 pub of-sound : (s : Session) → Sound s → sound s ≡ true
 unfolding sound usedStreams soundAhead soundRest
 of-sound s q =
     rw (
-      eq-eqb _ _ (q .admitted),
-      is-same _ _ (q .margin-is),
+      eq-eqb _ _ (q .fit .used .admitted),
+      is-same _ _ (q .fit .used .margin-is),
       all-of (λ i. soundStream (s .worst) (s .padding) (horizon s) (streamAt s i)) (s .count)
-          (λ i l. of-stream (s .worst) (s .padding) (horizon s) (streamAt s i) (q .each i l)),
+          (λ i l. of-stream (s .worst) (s .padding) (horizon s) (streamAt s i) (q .fit .used .each i l)),
       eq-eqb _ _ (ap (λ (h : Clock). h .0) (q .ahead .horizon-is)),
       is-same _ _ (ap (λ (r : Remainders). r .0) (q .ahead .remainders-is)),
-      eq-eqb _ _ (q .eight),
+      eq-eqb _ _ (q .fit .eight),
       all-of (λ i. ltb i (s .count) || unusedStream (streamAt s i)) 8
           (λ i l.
           ⊎-elim
-          (λ (past : s .count ≤ i). or-right (ltb i (s .count)) _ (q .others i past l))
+          (λ (past : s .count ≤ i). or-right (ltb i (s .count)) _ (q .fit .others i past l))
           (λ (here : i < s .count). rw (lt-ltb i (s .count) here))
           (le-or-lt (s .count) i)),
-      le-leb _ _ (q .clock-high),
-      q .disk,
+      le-leb _ _ (q .fit .clock-high),
+      q .fit .disk,
     )
-
--- the part of a sound session that says what its streams' numbers are
-pub record Used (s : Session) : Type 0 where
-  pub admitted : admissionOf (tableOf s) ≡ 0
-  pub margin-is : s .margin .0 ≡ marginOf (tableOf s)
-  pub each : (i : ℕ) → i < s .count → InOrder (s .worst) (s .padding) (horizon s) (streamAt s i)
-  pub ahead : Ahead s
-
-abbrev pub used : (s : Session) → Sound s → Used s
-used s q = record { admitted = q .admitted; margin-is = q .margin-is; each = q .each; ahead = q .ahead }
 
 -- the table's facts, read off the session
 pub admits : (s : Session) → Sound s → Admits (tableOf s)
-admits s q = admits-of (tableOf s) (q .admitted)
+admits s q = admits-of (tableOf s) (q .fit .used .admitted)
 
 pub count-high : (s : Session) → sound s ≡ true → s .count ≤ 8
 count-high s t = admits s (sound-of s t) .numbers .count-high
 
 -- the numbers of the used streams, of any session that is fit
-module _ (s : Session) (admitted : admissionOf (tableOf s) ≡ 0) (each : (i : ℕ) → i < s .count → InOrder (s .worst) (s .padding) (horizon s) (streamAt s i)) where
+module _ (s : Session) (used : Used s) where
   abbrev booked : Admits (tableOf s)
-  booked = admits-of (tableOf s) admitted
+  booked = admits-of (tableOf s) (used .admitted)
 
   pub used-reservation : (i : ℕ) → i < s .count → Fits-in (s .worst) (s .span) (s .padding) (streamAt s i .reserved) (streamAt s i .period)
   used-reservation i l =
@@ -162,7 +144,7 @@ module _ (s : Session) (admitted : admissionOf (tableOf s) ≡ 0) (each : (i : �
   unfolding horizon
   used-bounded i l =
       let n = booked .numbers in
-      bounded-of (s .worst) (s .span) (s .padding) (horizon s) (streamAt s i) (n .worst-low) (n .worst-high) (used-reservation i l) (each i l)
+      bounded-of (s .worst) (s .span) (s .padding) (horizon s) (streamAt s i) (n .worst-low) (n .worst-high) (used-reservation i l) (used .each i l)
       (smallest-le (λ j. streamAt s j .deadline .0) (s .count) i l)
 
   pub bookkept : Bookkept s
@@ -172,10 +154,10 @@ module _ (s : Session) (admitted : admissionOf (tableOf s) ≡ 0) (each : (i : �
 
 pub reservation : (s : Session) → Sound s → (i : ℕ) → i < s .count
     → Fits-in (s .worst) (s .span) (s .padding) (streamAt s i .reserved) (streamAt s i .period)
-reservation s q = used-reservation s (q .admitted) (q .each)
+reservation s q = used-reservation s (q .fit .used)
 
 pub bounded : (s : Session) → Sound s → (i : ℕ) → i < s .count → Bounded (s .worst) (horizon s) (streamAt s i)
-bounded s q = used-bounded s (q .admitted) (q .each)
+bounded s q = used-bounded s (q .fit .used)
 
 -- by the horizon that is kept
 pub bounded-by : (s : Session) → Sound s → (h : Clock) → h ≡ s .horizon → (i : ℕ) → i < s .count → Bounded (s .worst) (h .0) (streamAt s i)
@@ -190,6 +172,6 @@ unused-deadline x t = ap (λ (y : Stream). y .deadline .0) (unused-is-zero x .0 
 pub deadline-high : (s : Session) → Sound s → (i : ℕ) → i < 8 → streamAt s i .deadline .0 ≤ session-end
 deadline-high s q i l =
     ⊎-elim
-    (λ (past : s .count ≤ i). let z = unused-deadline (streamAt s i) (q .others i past l) in omega arith)
-    (λ (here : i < s .count). q .each i here .deadline-high)
+    (λ (past : s .count ≤ i). let z = unused-deadline (streamAt s i) (q .fit .others i past l) in omega arith)
+    (λ (here : i < s .count). q .fit .used .each i here .deadline-high)
     (le-or-lt (s .count) i)

@@ -32,7 +32,7 @@ soonest-requires c κs =
     let pre = c .before .before .before .pre in
     let fit = opened-fit t (pre .0) in
     rw (c .none .ensures, c .before .at .ensures, c .before .before .opened-streams .ensures, ap margin (pre .1))
-    (bookkept (openedSession t) (fit .admitted) (fit .each))
+    (bookkept (openedSession t) (fit .used))
 
 -- the horizon is that of the streams
 soonest-is : (c : tie.After-soonest) → c .soonest .result ≡ moment (horizon (openedSession (c .before .before .before .before .args .t)))

@@ -51,7 +51,7 @@ of-requires : tie.Need-of-requires
 of-requires c κs = tt
 
 after-requires : tie.Need-after-requires
-after-requires c κs = (sound-of _ (ok (c .before .before .before .before)) .clock-high, duration-within _ _ (in-range (c .before)) (c .of .ensures))
+after-requires c κs = (sound-of _ (ok (c .before .before .before .before)) .fit .clock-high, duration-within _ _ (in-range (c .before)) (c .of .ensures))
 
 is-past-end-requires : tie.Need-is-past-end-requires
 is-past-end-requires c κs = tt

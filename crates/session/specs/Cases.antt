@@ -9,9 +9,8 @@ use Rattle.table.specs.Admission.{admissionOf}
 use Rattle.table.specs.Margin.{leftOf, overOf, numberIn, marginIn}
 use Rattle.table.specs.declared.Table.{Table}
 use Rattle.time.specs.Exact.{Fraction}
-use Rattle.time.specs.Latest.{latestOf}
+use Rattle.time.specs.Latest.{latestOf, askedNumber, askedMoment}
 use Rattle.time.specs.declared.remainders.Latest.{Latest}
-use Rattle.time.specs.declared.remainders.Latest.the-variants.{At, Refused}
 use Rattle.stream.specs.Stream.{slots, microDeadline, charged, freshStream}
 use Rattle.session.specs.Session.{streamAt}
 use Rattle.session.specs.Calls.{Line, after, linesFrom}
@@ -62,8 +61,7 @@ opens t number left over =
 
 -- what is asked with three numbers, and of a session after some calls: 0 and the latest safe moment, or 31 and 0
 abbrev pub told : Latest → List ℕ
-told (At until) = 0 ∷ until .0 ∷ []
-told (Refused n) = n ∷ 0 ∷ []
+told latest = askedNumber latest ∷ askedMoment latest ∷ []
 
 abbrev pub asks : ℕ → ℤ → ℕ → ℕ → ℕ → Case
 asks horizon sum span number at = record { rules = told (latestOf horizon sum span) ∷ []; document = (number ∷ at ∷ []) ∷ [] }

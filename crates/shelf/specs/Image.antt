@@ -5,9 +5,8 @@ use lib.IntN.{ℤ}
 use Rattle.table.specs.Fold.{if}
 use Rattle.table.specs.Margin.{numberIn, marginIn}
 use Rattle.table.specs.declared.Table.{Table}
-use Rattle.time.specs.Latest.{latestOf}
+use Rattle.time.specs.Latest.{latestOf, askedNumber, askedMoment}
 use Rattle.time.specs.declared.remainders.Latest.{Latest}
-use Rattle.time.specs.declared.remainders.Latest.the-variants.{At, Refused}
 use Rattle.session.specs.Opening.{zeroSession, openingOf}
 use Rattle.calls.specs.Replies.{numberOf, valueOf, streamOf}
 use Rattle.session.specs.Calls.{answerTo}
@@ -99,8 +98,7 @@ closingAs i n = closingOf (shownOf i) n
 
 -- the latest safe moment as two numbers: 0 and the moment, or the refusal and 0
 abbrev pub momentAs : Latest → Moment
-momentAs (At until) = record { number = 0; at = until .0 }
-momentAs (Refused n) = record { number = n; at = 0 }
+momentAs latest = record { number = askedNumber latest; at = askedMoment latest }
 
 -- what asking with three numbers is answered
 abbrev pub latestAs : ℕ → ℤ → ℕ → Moment

@@ -20,3 +20,12 @@ roundedDown (negsuc n) span = Refused 31
 -- "the horizon less the sum divided by the span" is (h × H − S) / H, which is rounded once
 unfoldable pub latestOf : ℕ → ℤ → ℕ → Latest
 latestOf h sum span = if (eqb span 0) (Refused 31) (roundedDown (pos (h * span) -ℤ sum) span)
+
+-- what the ask answers, in numbers: 0 and the moment, or 31 and 0
+abbrev pub askedNumber : Latest → ℕ
+askedNumber (At until) = 0
+askedNumber (Refused n) = n
+
+abbrev pub askedMoment : Latest → ℕ
+askedMoment (At until) = until .0
+askedMoment (Refused n) = 0

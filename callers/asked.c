@@ -177,13 +177,11 @@ static void threads(void)
     hold(alone[0].sum != alone[1].sum, "two seeds make other calls", 0);
 }
 
-/* Asking copies and changes nothing, and looks at three cells: a session that no call has made may get a moment. */
+/* Asking looks at three cells: a session that no call has made may get a moment. */
 static void not_judged(void)
 {
-    struct yerbagunt_session session = opened(), before = session, none = {0};
+    struct yerbagunt_session session = opened(), none = {0};
     struct yerbagunt_moment latest = yerbagunt_latest_of(&session), no_moment = yerbagunt_latest_of(&none);
-    yerbagunt_fits(&session, 1);
-    hold(memcmp(&session, &before, sizeof before) == 0, "asking changes nothing", 0);
     hold(no_moment.number == YERBAGUNT_UNSOUND && no_moment.at == 0 && !yerbagunt_fits(&none, 0), "the all-zero session has no moment, and nothing fits", 0);
     session.horizon++;
     hold(yerbagunt_view(session).number == YERBAGUNT_UNSOUND && yerbagunt_latest_of(&session).at == latest.at + 1, "a session with another horizon is not sound, and has another moment", 0);

@@ -3,7 +3,7 @@
  * Standard input has the number of times in eight bytes, and then the file; of a file without events the table is opened.
  * Prints the number of times and the number of the last reply. With the word `restore` nothing is called: what remains is putting
  * the session back before each call, which is not the call's. With the word `ask` the latest safe moment is asked for in place of the last
- * event, and printed in place of a reply's number.
+ * event, and printed in place of a reply's number; an ask changes nothing, and nothing is put back.
  *
  * Whoever includes this says what a session is (`image`) and has functions that give a reply's number, and one that gives the moment. */
 #include <stdio.h>
@@ -76,7 +76,11 @@ static uint64_t restore_only(uint64_t times)
 static uint64_t ask_only(uint64_t times)
 {
     uint64_t number = 0;
-    REPEAT(latest(&work));
+    work = prepared;
+    for (uint64_t i = 0; i < times; i++) {
+        KEEP(&work);
+        number = latest(&work);
+    }
     return number;
 }
 

@@ -17,7 +17,7 @@ use Rattle.table.proofs.Lists.{set-each, set-alike}
 use Rattle.table.proofs.Whole.{less-more}
 use Rattle.time.specs.Time.{session-end, duration-max, moment}
 use Rattle.time.specs.Latest.{remainders}
-use Rattle.stream.specs.Stream.{slots, worked, withQueue, withCharge, soundQueue, unusedStream}
+use Rattle.stream.specs.Stream.{slots, partOf, worked, withQueue, withCharge, soundQueue, unusedStream}
 use Rattle.session.specs.Session.{noStream, streamAt, horizon, slotsAt, scaledPart, remaindersOf, tableOf, soundDisk, withStreams, withStream, withDisk, withAhead, lookingAhead}
 use Rattle.time.specs.declared.Clock.{Clock}
 use Rattle.time.specs.declared.remainders.Remainders.{Remainders}
@@ -85,9 +85,9 @@ module _ (s : Session) (q : Sound s) (i : ℕ) (l : i < s .count) (charge expire
       let n = s .count in
       let next = withStream s i new in
       let charges : Session → ℕ = λ z. sumTo (λ j. streamAt z j .charge .0) n in
-      let part : Stream → ℕ = λ x. (horizon s - x .release .0) * x .granted .0 * (s .span / x .period) in
+      let part : Stream → ℕ = partOf (s .span) (horizon s) in
       let parts : sumTo (scaledPart next) n ≡ sumTo (scaledPart s) n =
-      ap (λ (h : ℕ). sumTo (λ j. let x = streamAt next j in (h - x .release .0) * x .granted .0 * (s .span / x .period)) n) horizon-kept
+      ap (λ (h : ℕ). sumTo (λ j. partOf (s .span) h (streamAt next j)) n) horizon-kept
       ∙ sum-agree (λ j. part (streamAt next j)) (λ j. part (streamAt s j)) n (λ j _. set-alike (s .streams) i new noStream part refl j) in
       let grown : charges next * s .span ≡ charges s * s .span + a * s .span =
       let sum : charges next ≡ charges s + a = omega (arith, summed (λ x. x .charge .0), more) in omega (arith, ap (λ (c : ℕ). c * s .span) sum) in

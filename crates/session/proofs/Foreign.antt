@@ -11,9 +11,9 @@ use Rattle.time.specs.declared.Clock.{Clock}
 use Rattle.time.specs.declared.remainders.Latest.the-variants.{At}
 use Rattle.calls.specs.declared.Call.{Call}
 use Rattle.calls.specs.declared.Reply.{Reply}
-use Rattle.session.specs.Session.{latest, sound}
+use Rattle.session.specs.Session.{latest, asked, sound}
 use Rattle.session.specs.Calls.{append, refusal, effect, verdict, apply, late, replyTo, answerTo, after}
-use Rattle.session.specs.Laws.{asked, Request, arriving, ForeignRequestFits}
+use Rattle.session.specs.Laws.{Request, arriving, ForeignRequestFits}
 use Rattle.session.specs.declared.Session.{Session}
 use Rattle.session.proofs.Latest.{told-is}
 use Rattle.session.proofs.Answers.{clock-sets}

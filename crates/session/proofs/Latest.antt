@@ -13,8 +13,8 @@ use Rattle.time.specs.declared.remainders.Latest.{Latest}
 use Rattle.time.specs.declared.remainders.Latest.the-variants.{At, Refused}
 use Rattle.time.proofs.Asking.{of-sums}
 use Rattle.session.specs.declared.Session.{Session}
-use Rattle.session.specs.Session.{streamAt, horizon, scaledPart, latest, sound}
-use Rattle.session.specs.Laws.{LatestRoundsOnce, asked, AskReadsThree, RemaindersAreBounded, PartsAreExact, HorizonBetween}
+use Rattle.session.specs.Session.{streamAt, horizon, scaledPart, latest, asked, sound}
+use Rattle.session.specs.Laws.{LatestRoundsOnce, AskReadsThree, RemaindersAreBounded, PartsAreExact, HorizonBetween}
 use Rattle.session.proofs.Sound.{Sound, sound-of, admits, bounded, reservation}
 use Rattle.session.proofs.Remainders.{remainders-split, charges-high, parts-low, horizon-high, remainders-high}
 

@@ -1,4 +1,4 @@
--- Opening makes a sound session with the margin of its table, which no call changes; and so 31 is never answered after it.
+-- Opening makes a sound session with the margin of its table, which no call changes, and with a sum of remainders that comes from the load; and so after it 31 is never answered, and the ask gives the latest safe moment.
 use mathlib.Core.Bool.{true}
 use mathlib.Core.List.{List, [], _∷_, map}
 use mathlib.Core.Path.{_≡_, refl, sym, _∙_, ap, ap₂}
@@ -22,7 +22,7 @@ use Rattle.table.proofs.Whole.{less-left}
 use Rattle.table.proofs.Lists.{length-listTo, getD-listTo}
 use Rattle.table.proofs.Judged.{Admits, admits-of, load-alike, admits-alike}
 use Rattle.time.specs.Time.{parts-max}
-use Rattle.stream.specs.Stream.{soundQueue, unusedStream, zeroJob, freshStream}
+use Rattle.stream.specs.Stream.{partOf, soundQueue, unusedStream, zeroJob, freshStream}
 use Rattle.session.specs.Session.{noStream, streamAt, horizon, scaledPart, remaindersOf, tableOf, soundDisk, sound}
 use Rattle.calls.specs.Replies.{numberOf}
 use Rattle.session.specs.Calls.{Verdict, refuse, append, send, move, wait, expire, finish, set-clock, verdict, apply, replyTo, answerTo, after}
@@ -127,7 +127,7 @@ module _ (t : Table) (admitted : admissionOf t ≡ 0) where
   parts-are =
       sum-agree (scaledPart (openedSession t)) (λ i. first * shareAt t i) (t .count)
       (λ i l.
-      ap (λ (x : Stream). (first - x .release .0) * x .granted .0 * (t .span / x .period)) (held-at i l)
+      ap (partOf (t .span) first) (held-at i l)
       ∙ mul-assoc (first - 0) (grantedOf (t .worst) (t .padding) (reservedAt t i)) (t .span / periodAt t i)
       ∙ ap (λ (n : ℕ). n * shareAt t i) (let none : first - 0 ≡ first = omega arith in none))
       ∙ sum-scaled first (shareAt t) (t .count)

@@ -15,6 +15,7 @@ use Rattle.table.proofs.Whole.{sum-less, less-above, less-below}
 use Rattle.table.specs.Whole.{aboveZero, belowZero}
 use Rattle.session.specs.Session.{noStream, streamAt, horizon, scaledPart, remaindersOf, tableOf}
 use Rattle.session.specs.Laws.{remainders-max}
+use Rattle.stream.specs.Stream.{partOf}
 use Rattle.stream.specs.Bounds.{Bounded}
 use Rattle.stream.specs.Search.{nothingSummed, summed, Summable}
 use Rattle.stream.specs.declared.sums.Sums.{Sums}
@@ -39,7 +40,7 @@ abbrev pub sumsTo : Session → ℕ → ℕ → Sums
 sumsTo s h n =
     record {
       charges = diskTime (sumTo (λ i. streamAt s i .charge .0) n);
-      parts = sumTo (λ i. let x = streamAt s i in (h - x .release .0) * x .granted .0 * (s .span / x .period)) n;
+      parts = sumTo (λ i. partOf (s .span) h (streamAt s i)) n;
     }
 
 pub sums-none : (s : Session) (h : ℕ) → nothingSummed ≡ sumsTo s h 0

@@ -12,7 +12,7 @@ use Rattle.time.specs.Exact.{Fraction}
 use Rattle.time.specs.Latest.{latestOf, askedNumber, askedMoment}
 use Rattle.time.specs.declared.remainders.Latest.{Latest}
 use Rattle.stream.specs.Stream.{slots, microDeadline, charged, freshStream}
-use Rattle.session.specs.Session.{streamAt}
+use Rattle.session.specs.Session.{streamAt, asked}
 use Rattle.session.specs.Calls.{Line, after, linesFrom}
 use Rattle.session.specs.Opening.{openingOf}
 use Rattle.stream.specs.declared.Job.{Job}
@@ -68,8 +68,7 @@ asks horizon sum span number at = record { rules = told (latestOf horizon sum sp
 
 abbrev pub asksAfter : Table → List Call → ℕ → Case
 asksAfter t calls at =
-    let s = after (openingOf t .session) calls in
-    record { rules = told (latestOf (s .horizon .0) (s .remainders .0) (s .span)) ∷ []; document = (0 ∷ at ∷ []) ∷ [] }
+    record { rules = told (asked (after (openingOf t .session) calls)) ∷ []; document = (0 ∷ at ∷ []) ∷ [] }
 
 -- a stream with a short period beside seven with a long one
 abbrev pub crowded : ℕ → Table
@@ -216,7 +215,7 @@ markedCases =
     ∷ answers listed (replicate 17 (Arrival 1 5)) (replicate 16 20 ++ (9 ∷ []))
     ∷ []
 
--- the lines of the document that are not marked, and what else a reader may ask: a duration of W, W + 1, 0, 10,000,000 and 10,000,001; a clock at L = 200,000, at L + 1, and at the present time past L; two streams that share a deadline both close; stream 1's 6 comes before stream 2's 5; document 02, Req 02, "A padding of 0 in a table now stands for 3": the lines of k 3 are those of k 0, and two tables that opened with 0 while it stood for 1 give 7 and 6 now; Req 03, "the new job starts with the old charge less the granted budget, or zero if that is negative": two due streams of which one has overrun, a charge above three budgets over three closings and one above four over five, one that just reaches the budget, one above it by 1, one below it, and a completion after a carry; Req 05, "the exact margin, span less load": of the listing's table, of one whose load is the span and of the same with a reserved time raised by 1, of the stream alone that is over by 1, and of one that 6 refuses; Req 06, "the horizon less the sum divided by the span, rounded down, is below 0 or does not fit 64 unsigned bits": a span of 0, numbers of no sound session that are told a moment, rounded once, at 0 and just below it, at the last moment of 64 bits and just past it, with the least sum of 64 bits, of the listing after its third call, and after an overrun and the move that carries it
+-- the lines of the document that are not marked, and what else a reader may ask: a duration of W, W + 1, 0, 10,000,000 and 10,000,001; a clock at L = 200,000, at L + 1, and at the present time past L; two streams that share a deadline both close; stream 1's 6 comes before stream 2's 5; document 02, Req 02, "A padding of 0 in a table now stands for 3": the lines of k 3 are those of k 0, and two tables that opened with 0 while it stood for 1 give 7 and 6 now; Req 03, "the new job starts with the old charge less the granted budget, or zero if that is negative": two due streams of which one has overrun, a charge above three budgets over three closings and one above four over five, one that just reaches the budget, one above it by 1, one below it, and a completion after a carry; Req 05, "the exact margin, span less load": of the listing's table, of one whose load is the span and of the same with a reserved time raised by 1, of the stream alone that is over by 1, and of one that 6 refuses; Req 06, "the horizon less the sum divided by the span, rounded down, is below 0 or does not fit 64 unsigned bits": numbers of no sound session that are told a moment, a span of 0, rounded once, at 0 and just below it, at the last moment of 64 bits and just past it, with the least sum of 64 bits, of the listing after its third call, and after an overrun and the move that carries it
 unfoldable pub otherCases : List Case
 otherCases =
     answers single (oneRequest 25_000) (20 ∷ 21 ∷ 25 ∷ [])

@@ -11,12 +11,10 @@ use Rattle.table.specs.Whole.{aboveZero, belowZero}
 use Rattle.table.specs.Margin.{marginOf}
 use Rattle.table.specs.declared.Table.{Table}
 use Rattle.time.specs.Time.{session-end, moment}
-use Rattle.time.specs.Latest.{latestOf}
 use Rattle.time.specs.declared.Clock.{Clock}
-use Rattle.time.specs.declared.remainders.Latest.{Latest}
 use Rattle.time.specs.declared.remainders.Latest.the-variants.{At}
 use Rattle.stream.specs.Laws.{CarriedOn, GoesFirst}
-use Rattle.session.specs.Session.{streamAt, horizon, slotsAt, filledAt, inSet, someFilled, noSlot, scaledPart, latest, tableOf, sound}
+use Rattle.session.specs.Session.{streamAt, horizon, slotsAt, filledAt, inSet, someFilled, noSlot, scaledPart, latest, asked, tableOf, sound}
 use Rattle.stream.specs.Choice.{distance}
 use Rattle.session.specs.Choice.{nearestAt, sentBefore, chosen, expiresBefore, expiring}
 use Rattle.calls.specs.Replies.{numberOf}
@@ -127,9 +125,6 @@ PartsAreExact =
     × (scaledPart s i * streamAt s i .period ≡ (horizon s - streamAt s i .release .0) * streamAt s i .granted .0 * s .span)
 
 -- Document 02, Req 06: "Asking reads only that sum, the horizon and the span, and gives the L of the full sum for every session that calls can reach, overruns included." So of every sound session, and so after any calls.
-abbrev pub asked : Session → Latest
-asked s = latestOf (s .horizon .0) (s .remainders .0) (s .span)
-
 abbrev pub AskIsLatest : Type 0
 AskIsLatest =
     ((s : Session) → sound s ≡ true → asked s ≡ At (moment (latest s)))

@@ -23,7 +23,7 @@ openedStream t i =
     (freshStream (reservedAt t i) (periodAt t i) (grantedOf (t .worst) (t .padding) (reservedAt t i)))
     (freshStream 0 0 0)
 
--- "Clock t, starting at 0. Head place, starting at 0. The stream and place of the request at the disk, none at first." Of the margin, document 02, Req 05: "the session keeps it when admitted"
+-- "Clock t, starting at 0. Head place, starting at 0. The stream and place of the request at the disk, none at first." Of the margin, document 02, Req 05: "the session keeps it when admitted". This is the session before it looks ahead, with 0 for the horizon and the sum that it will keep.
 abbrev pub openedSession : Table → Session
 openedSession t =
     record {
@@ -41,6 +41,7 @@ openedSession t =
       streams = listTo (openedStream t) streams-max;
     }
 
+-- "Horizon h = smallest deadline", and document 02, Req 06: "The session keeps the sum of remainders"
 unfoldable pub freshSession : Table → Session
 freshSession t = lookingAhead (openedSession t)
 

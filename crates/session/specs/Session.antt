@@ -12,10 +12,11 @@ use Rattle.table.specs.Whole.{eqZ, signedSumTo}
 use Rattle.table.specs.Margin.{marginOf}
 use Rattle.table.specs.declared.Table.{Table}
 use Rattle.time.specs.Time.{session-end, moment, diskTime}
-use Rattle.time.specs.Latest.{remainders}
-use Rattle.stream.specs.Stream.{slots, filled, soundStream, unusedStream}
+use Rattle.time.specs.Latest.{remainders, latestOf}
+use Rattle.stream.specs.Stream.{slots, filled, partOf, soundStream, unusedStream}
 use Rattle.time.specs.declared.Clock.{Clock}
 use Rattle.time.specs.declared.remainders.Remainders.{Remainders}
+use Rattle.time.specs.declared.remainders.Latest.{Latest}
 use Rattle.stream.specs.declared.Stream.{Stream}
 use Rattle.session.specs.declared.Session.{Session}
 
@@ -62,21 +63,25 @@ someFilled s = someTo (λ i. leb 1 (filledAt s i)) (s .count)
 unfoldable pub noSlot : Session → Bool
 noSlot s = allTo (λ i. eqb (slotsAt s i) 0) (s .count)
 
--- the first part of "the remainder of a stream is (h − r) × g / p − c", times H: a whole number, since p divides H
+-- the first part of a stream's remainder, times H
 abbrev pub scaledPart : Session → ℕ → ℕ
-scaledPart s i = (horizon s - streamAt s i .release .0) * streamAt s i .granted .0 * (s .span / streamAt s i .period)
+scaledPart s i = partOf (s .span) (horizon s) (streamAt s i)
 
 -- "Latest safe moment L = h less the sum of all remainders, rounded down once." All is scaled by H, and the one division rounds down.
 unfoldable pub latest : Session → ℕ
 latest s =
     ((horizon s + sumTo (λ i. streamAt s i .charge .0) (s .count)) * s .span - sumTo (scaledPart s) (s .count)) / s .span
 
--- document 02, Req 06: "the sum of remainders, scaled by the span so that it is whole"; each is a whole number of either sign
+-- document 02, Req 06: "the sum of remainders, scaled by the span so that it is whole"; each is a whole number of either sign. That the latest safe moment is the horizon less this sum is `AskIsLatest` of `Laws`.
 abbrev pub scaledRemainder : Session → ℕ → ℤ
 scaledRemainder s i = pos (scaledPart s i) -ℤ pos (streamAt s i .charge .0 * s .span)
 
 unfoldable pub remaindersOf : Session → ℤ
 remaindersOf s = signedSumTo (scaledRemainder s) (s .count)
+
+-- "Asking reads only that sum, the horizon and the span": what is told by the cells of any session, sound or not
+abbrev pub asked : Session → Latest
+asked s = latestOf (s .horizon .0) (s .remainders .0) (s .span)
 
 -- the table that a session was opened with
 abbrev pub tableOf : Session → Table

@@ -1,8 +1,9 @@
 // The horizon, the sum of all remainders, and the latest safe moment that follows from them.
 ghost use mathlib.Core.Path.{_≡_};
+ghost use mathlib.Core.Bool.{true};
 ghost use Rattle.time.specs.Time.{moment};
-ghost use Rattle.time.specs.Latest.{remainders, latestOf};
-ghost use Rattle.session.specs.Session.{horizon, remaindersOf};
+ghost use Rattle.time.specs.Latest.{remainders};
+ghost use Rattle.session.specs.Session.{horizon, latest, remaindersOf, sound, asked};
 ghost use Rattle.session.specs.Inner.{Bookkept};
 use crate::Session;
 use stream::Sums;
@@ -12,11 +13,22 @@ use time::Remainders;
 
 impl Session {
     // The latest safe moment, or 31. It is asked of three cells, and nothing else is judged: any session is answered.
-    pub fn latest(self) -> Latest
-        ensures { λ r. ⌜ r ≡ latestOf (self .horizon .0) (self .remainders .0) (self .span) ⌝ }
+    pub fn asked(self) -> Latest
+        ensures { λ r. ⌜ r ≡ asked self ⌝ }
     {
         self.horizon
             .less_remainders(self.remainders, self.span as u64)
+    }
+
+    // The latest safe moment of a sound session. It always has one, so that the other way out is never taken.
+    pub(crate) fn latest(self) -> Clock
+        requires { ⌜ sound self ≡ true ⌝ }
+        ensures { λ r. ⌜ r ≡ moment (latest self) ⌝ }
+    {
+        let Latest::At(until) = self.asked() else {
+            return self.horizon;
+        };
+        until
     }
 
     // The smallest deadline of the used streams.

@@ -5,7 +5,6 @@ use crate::Answer;
 use crate::Session;
 use calls::Call;
 use time::Clock;
-use time::Latest;
 
 impl Session {
     // The time is reported: 10, 13, 14.
@@ -25,9 +24,7 @@ impl Session {
         if now.is_past_end() {
             return self.refuse(14);
         }
-        let Latest::At(until) = self.latest() else {
-            return self.refuse(31);
-        };
+        let until = self.latest();
         self.set_clock(now, until)
     }
 }

@@ -10,7 +10,6 @@ use stream::Pick;
 use stream::better;
 use stream::consider;
 use time::Clock;
-use time::Latest;
 
 // Whether a session is sound, its horizon and its latest safe moment, or zeros where it is not.
 pub struct Outlook {
@@ -81,19 +80,16 @@ impl Session {
     pub fn outlook(self) -> Outlook
         ensures { λ r. ⌜ r ≡ outlookOf self ⌝ }
     {
-        let start = Clock::at(0);
-        let none = Outlook {
-            sound: false,
-            horizon: start,
-            latest: start,
-        };
         if !self.is_sound() {
-            return none;
+            let start = Clock::at(0);
+            return Outlook {
+                sound: false,
+                horizon: start,
+                latest: start,
+            };
         }
-        let Latest::At(until) = self.latest() else {
-            return none;
-        };
         let h = self.horizon;
+        let until = self.latest();
         Outlook {
             sound: true,
             horizon: h,

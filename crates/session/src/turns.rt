@@ -4,7 +4,6 @@ ghost use Rattle.session.specs.Calls.{answerTo};
 use crate::Answer;
 use crate::Session;
 use calls::Call;
-use time::Latest;
 
 impl Session {
     // What the house does next, the first that applies: 10, 14.
@@ -31,10 +30,8 @@ impl Session {
             }
             return self.move_on();
         }
-        // c. only empty slots and t < L: wait until L, which a sound session always has
-        let Latest::At(until) = self.latest() else {
-            return self.refuse(31);
-        };
+        // c. only empty slots and t < L: wait until L
+        let until = self.latest();
         if until.is_after(self.clock) {
             return self.wait(until);
         }

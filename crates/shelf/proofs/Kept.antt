@@ -6,9 +6,8 @@ use native.Mathlib.Omega.{arith}
 use lib.Dec.{eqb}
 use borrow.Author.Tests.{eqb-true}
 use Rattle.table.proofs.Tests.{by-if}
-use Rattle.session.specs.Session.{sound}
+use Rattle.session.specs.Session.{asked, sound}
 use Rattle.session.specs.Opening.{zeroSession}
-use Rattle.session.specs.Laws.{asked}
 use Rattle.session.proofs.Openings.{opening-is-sound, ask-is-latest}
 use Rattle.view.specs.View.{viewOf}
 use Rattle.view.specs.declared.View.{View}

@@ -12,6 +12,7 @@ use Rattle.time.specs.Exact.{paced, fractionOf, Proper}
 use Rattle.table.specs.Ranges.{worst-max, span-max, period-max}
 use Rattle.table.specs.Refusal.{outside}
 use Rattle.table.proofs.Tests.{within}
+use Rattle.stream.specs.Stream.{partOf}
 use Rattle.stream.specs.Bounds.{Bounded}
 use Rattle.stream.specs.Choice.{expiryOf}
 use Rattle.time.specs.declared.Charge.{Charge}
@@ -81,6 +82,6 @@ part-most a g p span most budget whole =
 
 -- the horizon is within a stream's period, so its part is at most its budget times the span
 pub part-high : {worst h : ℕ} {x : Stream} → Bounded worst h x → (span : ℕ) → span ≤ span-max
-    → (h - x .release .0) * x .granted .0 * (span / x .period) ≤ span-max * period-max
+    → partOf span h x ≤ span-max * period-max
 part-high {x} b span whole =
     part-most _ _ (x .period) span (omega (arith, b .ahead, b .due)) (omega (arith, b .budget-high, b .period-high)) whole

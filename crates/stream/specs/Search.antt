@@ -1,7 +1,7 @@
 -- What the code's searches keep of the streams passed so far. No rule stands here: a reader of the rules may pass this file over.
 use mathlib.Core.Bool.{Bool, true, false, not, _&&_, _||_}
 use mathlib.Core.List.{List}
-use Prim.Native.Nat.{ℕ, _+_, _-_, _*_, _/_, _≤_, _<_, min}
+use Prim.Native.Nat.{ℕ, _+_, _*_, _/_, _≤_, _<_, min}
 use lib.ListN.{getD, replicate}
 use lib.Dec.{leb, ltb, eqb}
 use lib.IntN.{ℤ, pos, _-ℤ_}
@@ -12,7 +12,7 @@ use Rattle.table.specs.Whole.{eqZ}
 use Rattle.table.specs.Margin.{lessLoad}
 use Rattle.time.specs.Time.{moment, diskTime, parts-max}
 use Rattle.time.specs.declared.Clock.{Clock}
-use Rattle.stream.specs.Stream.{filled, soundStream}
+use Rattle.stream.specs.Stream.{filled, partOf, soundStream}
 use Rattle.stream.specs.Choice.{distance, nearest}
 use Rattle.stream.specs.declared.census.Census.{Census}
 use Rattle.stream.specs.declared.sums.Sums.{Sums}
@@ -33,7 +33,7 @@ abbrev pub summed : Sums → Stream → ℕ → ℕ → Sums
 summed sums x span h =
     record {
       charges = diskTime (sums .charges .0 + x .charge .0);
-      parts = sums .parts + (h - x .release .0) * x .granted .0 * (span / x .period);
+      parts = sums .parts + partOf span h x;
     }
 
 abbrev pub remaindersSo : Sums → ℕ → ℤ

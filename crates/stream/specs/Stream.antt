@@ -51,6 +51,10 @@ microDeadline worst x n =
 unfoldable pub shifted : ℕ → ℕ → Stream → Fraction → Fraction
 shifted worst a x m = record { above = m .above - (worst - a) * x .period; below = m .below }
 
+-- the first part of "the remainder of a stream is (h − r) × g / p − c", times H: a whole number, since p divides H
+abbrev pub partOf : ℕ → ℕ → Stream → ℕ
+partOf span h x = (h - x .release .0) * x .granted .0 * (span / x .period)
+
 -- a stream with another charge, expired count and queue
 abbrev pub worked : Stream → ℕ → ℕ → ℕ → List ℕ → Stream
 worked x charge expired queued places =

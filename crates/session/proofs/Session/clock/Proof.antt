@@ -8,8 +8,6 @@ use Rattle.session.specs.Calls.{set-clock, verdict}
 use Rattle.calls.specs.declared.Call.{Call}
 use Rattle.session.proofs.Dues.{by-31, past-31}
 use Rattle.session.proofs.Answers.{answers, unsound-verdict, clock-busy, clock-back, clock-ends, clock-sets}
-use borrow.Author.Needs.{needs}
-use Rattle.session.proofs.Latest.{always-told, told-is}
 use Rattle.session.proofs.Session.clock.Statement.{statement}
 use Rattle.session.proofs.Session.clock.Tie as tie
 
@@ -64,30 +62,17 @@ returns-4 : tie.Need-returns-4
 returns-4 c = answers _ _ (c .refuse4 .ensures) (clock-ends _ _ (ok (c .before .before .before .before .before .before .before .before)) (c .before .before .before .before .before .before .if2 .left) (onward (c .before .before .before)) (sym (past (c .before .before)) ∙ c .before .if4 .taken))
 
 latest-requires : tie.Need-latest-requires
-latest-requires c κs = tt
-
-enum-known-until : tie.Need-enum-known-until
-enum-known-until c = search needs
-
-enum-told : tie.Need-enum-told
-enum-told c = search needs
-
-refuse-requires-5 : tie.Need-refuse-requires-5
-refuse-requires-5 c κs = tt
-
--- a sound session is told its latest safe moment
-returns-5 : tie.Need-returns-5
-returns-5 c = absurd (always-told _ (ok (c .before .before .before .before .before .before .before .before .before .before .before)) _ (sym (c .before .before .before .latest .ensures) ∙ c .before .enum-told .given .1))
+latest-requires c κs = ok (c .before .before .before .before .before .before .before)
 
 set-clock-requires : tie.Need-set-clock-requires
-set-clock-requires c κs = told-is _ (ok (c .before .before .before .before .before .before .before .before .before .before .before)) _ (sym (c .before .before .before .latest .ensures) ∙ c .before .until .given .1)
+set-clock-requires c κs = c .latest .ensures
 
 -- past 14 the clock is set
 sets : (c : tie.Else4) → let a = c .before .before .before .before .before .before .before .before .before .args in verdict (a .self) (Call.Clock (a .time)) ≡ set-clock (c .before .before .before .before .at .result .0)
 sets c = rw (c .before .before .before .before .at .ensures) (clock-sets _ _ (ok (c .before .before .before .before .before .before .before)) (c .before .before .before .before .before .if2 .left) (onward (c .before .before)) (sym (past (c .before)) ∙ c .if4 .left))
 
-returns-6 : tie.Need-returns-6
-returns-6 c = answers _ _ (c .set-clock .ensures) (sets (c .before .before .before .before .before))
+returns-5 : tie.Need-returns-5
+returns-5 c = answers _ _ (c .set-clock .ensures) (sets (c .before .before))
 
 pub clock-spec : {M : Type 1} → statement M
 clock-spec =
@@ -106,9 +91,5 @@ clock-spec =
     refuse-requires-4
     returns-4
     latest-requires
-    enum-known-until
-    enum-told
-    refuse-requires-5
-    returns-5
     set-clock-requires
-    returns-6)
+    returns-5)

@@ -1,15 +1,12 @@
 -- `Session::turn` refuses by 31 and 10, and then takes the first of a, b, c and d that applies: each way out cites its verdict.
 use mathlib.Core.Bool.{true}
 use mathlib.Core.Path.{_≡_, sym, _∙_}
-use borrow.Author.Needs.{needs}
-use Rattle.time.specs.Time.{moment}
-use Rattle.session.specs.Session.{latest, sound}
+use Rattle.session.specs.Session.{sound}
 use Rattle.session.specs.Calls.{send, move, expire, verdict}
 use Rattle.session.specs.declared.Session.{Session}
 use Rattle.calls.specs.declared.Call.{Call}
 use Rattle.session.proofs.Dues.{by-31, past-31}
 use Rattle.session.proofs.Answers.{Idle, Unfilled, answers, unsound-verdict, turn-busy, turn-sends, turn-ends, turn-moves, turn-waits, turn-expires}
-use Rattle.session.proofs.Latest.{always-told, told-is}
 use Rattle.session.proofs.Session.turn.Statement.{statement}
 use Rattle.session.proofs.Session.turn.Tie as tie
 
@@ -76,42 +73,27 @@ move-on-requires c κs = record { ok = unfilled (c .before .before .before) .idl
 returns-5 : tie.Need-returns-5
 returns-5 c = answers _ _ (c .move-on .ensures) (moves (c .before))
 
+-- c. and d. only empty slots
 latest-requires : tie.Need-latest-requires
-latest-requires c κs = tt
-
-enum-known-until : tie.Need-enum-known-until
-enum-known-until c = search needs
-
-enum-told : tie.Need-enum-told
-enum-told c = search needs
-
-refuse-requires-4 : tie.Need-refuse-requires-4
-refuse-requires-4 c κs = tt
-
--- c. and d. only empty slots, and a sound session is told its latest safe moment
-returns-6 : tie.Need-returns-6
-returns-6 c = absurd (always-told _ (unfilled (c .before .before .before .before .before .before) .idle .ok) _ (sym (c .before .before .before .latest .ensures) ∙ c .before .enum-told .given .1))
-
-until-is : (c : tie.After-is-after) → c .before .before .until .given .0 .0 ≡ moment (latest (session (c .before .before .before .before .before .before .before .before .before .before)))
-until-is c = told-is _ (unfilled (c .before .before .before .before .before .before .before) .idle .ok) _ (sym (c .before .before .before .before .latest .ensures) ∙ c .before .before .until .given .1)
+latest-requires c κs = unfilled (c .before .before) .idle .ok
 
 is-after-requires : tie.Need-is-after-requires
 is-after-requires c κs = tt
 
 wait-requires : tie.Need-wait-requires
-wait-requires c κs = until-is (c .before)
+wait-requires c κs = c .before .before .latest .ensures
 
-returns-7 : tie.Need-returns-7
-returns-7 c = answers _ _ (c .wait .ensures) (turn-waits (unfilled (c .before .before .before .before .before .before .before .before .before)) (c .before .before .before .before .before .before .before .if4 .left) _ (until-is (c .before .before)) (c .before .before .is-after .ensures) (c .before .if6 .taken))
+returns-6 : tie.Need-returns-6
+returns-6 c = answers _ _ (c .wait .ensures) (turn-waits (unfilled (c .before .before .before .before .before .before)) (c .before .before .before .before .if4 .left) _ (c .before .before .before .latest .ensures) (c .before .before .is-after .ensures) (c .before .if6 .taken))
 
-lapses : (c : tie.Else6) → let v = c .before .before .before .before .before .before .before .before in verdict (session (v .before .before .before)) Call.Turn ≡ expire (v .survey .result .expiring)
-lapses c = turn-expires (unfilled (c .before .before .before .before .before .before .before .before)) (c .before .before .before .before .before .before .if4 .left) _ (until-is (c .before)) (c .before .is-after .ensures) (c .if6 .left)
+lapses : (c : tie.Else6) → let v = c .before .before .before .before .before in verdict (session (v .before .before .before)) Call.Turn ≡ expire (v .survey .result .expiring)
+lapses c = turn-expires (unfilled (c .before .before .before .before .before)) (c .before .before .before .if4 .left) _ (c .before .before .latest .ensures) (c .before .is-after .ensures) (c .if6 .left)
 
 expire-requires : tie.Need-expire-requires
-expire-requires c κs = record { ok = unfilled (c .before .before .before .before .before .before .before .before) .idle .ok; call = _; is = lapses c }
+expire-requires c κs = record { ok = unfilled (c .before .before .before .before .before) .idle .ok; call = _; is = lapses c }
 
-returns-8 : tie.Need-returns-8
-returns-8 c = answers _ _ (c .expire .ensures) (lapses (c .before))
+returns-7 : tie.Need-returns-7
+returns-7 c = answers _ _ (c .expire .ensures) (lapses (c .before))
 
 pub turn-spec : {M : Type 1} → statement M
 turn-spec =
@@ -131,12 +113,8 @@ turn-spec =
     move-on-requires
     returns-5
     latest-requires
-    enum-known-until
-    enum-told
-    refuse-requires-4
-    returns-6
     is-after-requires
     wait-requires
-    returns-7
+    returns-6
     expire-requires
-    returns-8)
+    returns-7)

@@ -17,4 +17,10 @@ fn main() {
     let without_span = Session { span: 0, ..session };
     println!("latest {:?} and {:?}", session.latest(), without_span.latest());
     println!("fits {:?}", [15000, 15001, u64::MAX].map(|length| session.fits(length)));
+
+    let mut late = session;
+    late.clock(25001);
+    session.arrival(1, 100);
+    session.turn();
+    println!("nothing fits {:?}", [late, session, without_span].map(|unfit| unfit.fits(0)));
 }

@@ -115,6 +115,33 @@ static void ask_session(const struct yerbagunt_session *s, int sound, unsigned l
     }
 }
 
+/* What is shown of one session, and told of its latest safe moment. */
+static void try_shown(const struct yerbagunt_session *given, unsigned long at)
+{
+    struct yerbagunt_session probe = *given;
+    int sound = yerbagunt_arrival(&probe, 0, 0).number != YERBAGUNT_UNSOUND;
+    struct yerbagunt_view v = yerbagunt_view(*given);
+    hold(v.number == (sound ? YERBAGUNT_OK : YERBAGUNT_UNSOUND), "a session is shown exactly if it is sound", at);
+    hold(sound ? v.clock == given->clock && v.margin == given->margin : (v.clock | v.horizon | v.latest | (uint64_t)v.margin) == 0, "what is shown of an unsound session is 0", at);
+    ask_session(given, sound, at);
+    struct session seen;
+    if (sound && to_second(given, &seen)) {
+        hold(v.horizon == session_horizon(&seen) && v.latest == session_latest_safe(&seen), "horizon and latest safe moment are the second engine's", at);
+        hold(yerbagunt_latest_of(given).number == YERBAGUNT_OK && yerbagunt_latest_of(given).at == v.latest, "a sound session is asked for the moment that is shown", at);
+    }
+    for (uint64_t n = 0; n < 10; n++) {
+        uint64_t stream = n == 9 ? 255 : n;
+        uint64_t number = !sound ? YERBAGUNT_UNSOUND : stream == 0 || stream > given->count ? YERBAGUNT_NO_STREAM : YERBAGUNT_OK;
+        struct yerbagunt_state x = yerbagunt_stream(*given, stream);
+        struct yerbagunt_closing j = yerbagunt_last_job(*given, stream);
+        struct yerbagunt_stream none;
+        memset(&none, 0, sizeof none);
+        const struct yerbagunt_stream *want = number == YERBAGUNT_OK ? &given->streams[stream - 1] : &none;
+        hold(x.number == number && memcmp(&x.stream, want, sizeof none) == 0, "a stream is shown as it is", at);
+        hold(j.number == number && memcmp(&j.job, &want->last, sizeof j.job) == 0, "a last job is shown as it is", at);
+    }
+}
+
 /* Every call on a copy of one session. */
 static void try_all(const struct yerbagunt_session *given, unsigned long at)
 {
@@ -138,28 +165,7 @@ static void try_all(const struct yerbagunt_session *given, unsigned long at)
             hold(r.number == YERBAGUNT_UNSOUND, "numbers that stand for no session are refused 31", at);
         }
     }
-    struct yerbagunt_session probe = *given;
-    int sound = yerbagunt_arrival(&probe, 0, 0).number != YERBAGUNT_UNSOUND;
-    struct yerbagunt_view v = yerbagunt_view(*given);
-    hold(v.number == (sound ? YERBAGUNT_OK : YERBAGUNT_UNSOUND), "a session is shown exactly if it is sound", at);
-    hold(sound ? v.clock == given->clock && v.margin == given->margin : (v.clock | v.horizon | v.latest | (uint64_t)v.margin) == 0, "what is shown of an unsound session is 0", at);
-    ask_session(given, sound, at);
-    struct session seen;
-    if (sound && to_second(given, &seen)) {
-        hold(v.horizon == session_horizon(&seen) && v.latest == session_latest_safe(&seen), "horizon and latest safe moment are the second engine's", at);
-        hold(yerbagunt_latest_of(given).number == YERBAGUNT_OK && yerbagunt_latest_of(given).at == v.latest, "a sound session is asked for the moment that is shown", at);
-    }
-    for (uint64_t n = 0; n < 10; n++) {
-        uint64_t stream = n == 9 ? 255 : n;
-        uint64_t number = !sound ? YERBAGUNT_UNSOUND : stream == 0 || stream > given->count ? YERBAGUNT_NO_STREAM : YERBAGUNT_OK;
-        struct yerbagunt_state x = yerbagunt_stream(*given, stream);
-        struct yerbagunt_closing j = yerbagunt_last_job(*given, stream);
-        struct yerbagunt_stream none;
-        memset(&none, 0, sizeof none);
-        const struct yerbagunt_stream *want = number == YERBAGUNT_OK ? &given->streams[stream - 1] : &none;
-        hold(x.number == number && memcmp(&x.stream, want, sizeof none) == 0, "a stream is shown as it is", at);
-        hold(j.number == number && memcmp(&j.job, &want->last, sizeof j.job) == 0, "a last job is shown as it is", at);
-    }
+    try_shown(given, at);
 }
 
 /* Every call on a session with a wrong number in a cell. */

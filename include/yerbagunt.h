@@ -98,15 +98,16 @@ struct yerbagunt_stream {
     struct yerbagunt_job last;
 };
 
-/* A session. Read its cells as you like; a call answers 31 to one whose cells were changed into what no session is. */
+/* A session. Read its cells as you like; a call answers 31 to one whose cells were changed into what no session is. Only yerbagunt_latest, and
+ * what is made of it below, looks at a few cells and judges no other. */
 struct yerbagunt_session {
     uint32_t worst, span;
     uint32_t padding; /* k as it was given; 0 stands for 3 */
     uint32_t order;   /* 0, nearest first; any other number is answered 31 */
     uint64_t count;
     int64_t margin;     /* H less the load, 0 or more; it follows from the table and never changes, and any other number is answered 31 */
-    uint64_t horizon;   /* the smallest deadline; any other number is answered 31 by every call but yerbagunt_latest */
-    int64_t remainders; /* the disk time that all streams are owed up to the horizon, times H; any other number is answered 31 by every call but yerbagunt_latest */
+    uint64_t horizon;   /* the smallest deadline; any other number is answered 31 */
+    int64_t remainders; /* the disk time that all streams are owed up to the horizon, times H; any other number is answered 31 */
     uint64_t clock, head;
     uint64_t served; /* the stream whose request is at the disk, or 0 */
     uint64_t place;  /* and the place of that request */

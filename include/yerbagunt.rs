@@ -74,6 +74,7 @@ pub struct Stream {
     pub last: Job,
 }
 
+/// A call answers 31 to a session whose cells were changed into what no session is. Only `latest` and `fits` look at a few cells and judge no other.
 #[repr(C)]
 #[derive(Clone, Copy, Debug, PartialEq, Eq)]
 pub struct Session {
@@ -85,9 +86,9 @@ pub struct Session {
     pub count: u64,
     /// H less the load, 0 or more; it follows from the table and never changes, and any other number is answered 31.
     pub margin: i64,
-    /// The smallest deadline; any other number is answered 31 by every call, but the ask for the latest safe moment judges nothing.
+    /// The smallest deadline; any other number is answered 31.
     pub horizon: u64,
-    /// The disk time that all streams are owed up to the horizon, times H; any other number is answered 31 as well.
+    /// The disk time that all streams are owed up to the horizon, times H; any other number is answered 31.
     pub remainders: i64,
     pub clock: u64,
     pub head: u64,

@@ -121,19 +121,19 @@ module _ {s : Session} {v : Survey} (u : Unfilled s v) where
       turn-expires due = unrefused (u .idle) (rw some-has) ∙ rw (u .none, some-has, rw (early-is, until-is) at due, u .seen)
 
 -- what an arrival is answered, case by case
-module _ (s : Session) (n place : ℕ) (ok : sound s ≡ true) where
-  pub arrival-nowhere : noSuchStream s n ≡ true → verdict s (Call.Arrival n place) ≡ refuse 8
+module _ (s : Session) (n place tag : ℕ) (ok : sound s ≡ true) where
+  pub arrival-nowhere : noSuchStream s n ≡ true → verdict s (Call.Arrival n place tag) ≡ refuse 8
   unfolding callRefusal given _or-next_
-  arrival-nowhere none = refused s (Call.Arrival n place) ok 7 (rw none)
+  arrival-nowhere none = refused s (Call.Arrival n place tag) ok 7 (rw none)
 
   module _ (own : noSuchStream s n ≡ false) where
-    pub arrival-full : streamAt s (n - 1) .queued ≡ queue-max → verdict s (Call.Arrival n place) ≡ refuse 9
+    pub arrival-full : streamAt s (n - 1) .queued ≡ queue-max → verdict s (Call.Arrival n place tag) ≡ refuse 9
     unfolding callRefusal given _or-next_
-    arrival-full full = refused s (Call.Arrival n place) ok 8 (rw (own, eq-eqb _ _ full))
+    arrival-full full = refused s (Call.Arrival n place tag) ok 8 (rw (own, eq-eqb _ _ full))
 
-    pub arrival-joins : (streamAt s (n - 1) .queued ≡ queue-max → ⊥) → verdict s (Call.Arrival n place) ≡ append (n - 1) place
+    pub arrival-joins : (streamAt s (n - 1) .queued ≡ queue-max → ⊥) → verdict s (Call.Arrival n place tag) ≡ append (n - 1) place tag
     unfolding callRefusal given _or-next_ effect
-    arrival-joins space = accepted s (Call.Arrival n place) ok (rw (own, ne-eqb _ _ space))
+    arrival-joins space = accepted s (Call.Arrival n place tag) ok (rw (own, ne-eqb _ _ space))
 
 -- what an own turn is answered, case by case
 module _ (s : Session) (n j : ℕ) (ok : sound s ≡ true) where

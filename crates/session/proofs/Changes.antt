@@ -17,13 +17,13 @@ use Rattle.table.proofs.Lists.{set-each, set-alike}
 use Rattle.table.proofs.Whole.{less-more}
 use Rattle.time.specs.Time.{session-end, duration-max, moment}
 use Rattle.time.specs.Latest.{remainders}
-use Rattle.stream.specs.Stream.{slots, partOf, worked, withQueue, withCharge, soundQueue, unusedStream}
+use Rattle.stream.specs.Stream.{slots, partOf, worked, withQueue, withCharge, unusedStream}
 use Rattle.session.specs.Session.{noStream, streamAt, horizon, slotsAt, scaledPart, remaindersOf, tableOf, soundDisk, withStreams, withStream, withDisk, withAhead, lookingAhead}
 use Rattle.time.specs.declared.Clock.{Clock}
 use Rattle.time.specs.declared.remainders.Remainders.{Remainders}
 use Rattle.stream.specs.declared.Stream.{Stream}
 use Rattle.session.specs.declared.Session.{Session}
-use Rattle.stream.proofs.Orderly.{Queue, queue-of, of-queue, InOrder, worked-order}
+use Rattle.stream.proofs.Orderly.{Queue, InOrder, worked-order}
 use Rattle.session.proofs.Sound.{Fit, Sound, admits}
 use Rattle.session.proofs.Remainders.{remainders-split}
 
@@ -59,9 +59,9 @@ pub idle-kept : (s : Session) (xs : List Stream) → Sound s → s .served ≡ 0
 unfolding soundDisk if
 idle-kept s xs q idle = rw (eq-eqb (s .served) 0 idle) (rw (eq-eqb (s .served) 0 idle) at (q .fit .disk))
 
-module _ (s : Session) (q : Sound s) (i : ℕ) (l : i < s .count) (charge expired queued : ℕ) (places : List ℕ) where
+module _ (s : Session) (q : Sound s) (i : ℕ) (l : i < s .count) (charge expired queued : ℕ) (places tags : List ℕ) where
   abbrev new : Stream
-  new = worked (streamAt s i) charge expired queued places
+  new = worked (streamAt s i) charge expired queued places tags
 
   -- its horizon is as it was
   pub horizon-kept : horizon (withStream s i new) ≡ horizon s
@@ -104,12 +104,12 @@ module _ (s : Session) (q : Sound s) (i : ℕ) (l : i < s .count) (charge expire
       (e ∙ ap (λ (r : Remainders). remainders (r .0 -ℤ pos (a * s .span))) (q .ahead .remainders-is) ∙ ap remainders (sym (remainders-charged a more)))
 
   -- such a stream at i keeps a session fit, if its charge, its queue and the disk are in order
-  pub stream-kept : charge ≤ streamAt s i .granted .0 + duration-max → streamAt s i .start .0 + s .worst * expired ≤ charge → Queue new
+  pub stream-kept : charge ≤ streamAt s i .granted .0 + duration-max → streamAt s i .start .0 + s .worst * expired ≤ charge → Queue queued places tags
       → soundDisk (withStream s i new) ≡ true → Fit (withStream s i new)
   stream-kept high low queue disk =
       let x = q .fit .used .each i l in
       let xs = s .streams in
-      let order = worked-order (s .worst) (s .padding) (horizon s) (streamAt s i) x charge expired queued places high low queue in
+      let order = worked-order (s .worst) (s .padding) (horizon s) (streamAt s i) x charge expired queued places tags high low queue in
       streams-kept s q (set xs i new) (map-set-same _ xs i new noStream refl) (map-set-same _ xs i new noStream refl) (length-set xs i new)
       (λ j m.
       subst (λ (h : ℕ). InOrder (s .worst) (s .padding) h (streamAt (withStream s i new) j)) (sym horizon-kept)
@@ -128,7 +128,7 @@ module _ (s : Session) (q : Sound s) (i : ℕ) (l : i < s .count) (charge expire
   pub disk-kept : charge ≡ streamAt s i .charge .0 → soundDisk (withStream s i new) ≡ true
   unfolding soundDisk
   disk-kept e =
-      ap (λ (n : ℕ). if (eqb (s .served) 0) (eqb (s .place) 0) (leb (s .served) (s .count) && leb 1 n)) (slots-kept e (s .served - 1))
+      ap (λ (n : ℕ). if (eqb (s .served) 0) (eqb (s .place) 0 && eqb (s .tag) 0) (leb (s .served) (s .count) && leb 1 n)) (slots-kept e (s .served - 1))
       ∙ q .fit .disk
 
 module _ (s : Session) (q : Sound s) (i : ℕ) (l : i < s .count) where
@@ -136,19 +136,19 @@ module _ (s : Session) (q : Sound s) (i : ℕ) (l : i < s .count) where
   old = streamAt s i
 
   -- another queue
-  pub queue-kept : (queued : ℕ) (places : List ℕ) → Queue (withQueue old queued places)
-      → Sound (withStream s i (withQueue old queued places))
-  queue-kept queued places queue =
+  pub queue-kept : (queued : ℕ) (places tags : List ℕ) → Queue queued places tags
+      → Sound (withStream s i (withQueue old queued places tags))
+  queue-kept queued places tags queue =
       let o = q .fit .used .each i l in
       let c = old .charge .0 in
       let e = old .expired in
-      let same : remaindersOf s ≡ remaindersOf (withStream s i (withQueue old queued places)) =
-      sym (remainders-charged s q i l c e queued places 0 (omega arith) ∙ ap (λ (n : ℕ). remaindersOf s -ℤ pos n) (let none : 0 * s .span ≡ 0 = omega arith in none) ∙ +ℤ-idr (remaindersOf s)) in
+      let same : remaindersOf s ≡ remaindersOf (withStream s i (withQueue old queued places tags)) =
+      sym (remainders-charged s q i l c e queued places tags 0 (omega arith) ∙ ap (λ (n : ℕ). remaindersOf s -ℤ pos n) (let none : 0 * s .span ≡ 0 = omega arith in none) ∙ +ℤ-idr (remaindersOf s)) in
       record {
-        fit = stream-kept s q i l c e queued places (o .charge-high) (o .covered) queue (disk-kept s q i l c e queued places refl);
+        fit = stream-kept s q i l c e queued places tags (o .charge-high) (o .covered) queue (disk-kept s q i l c e queued places tags refl);
         ahead =
             record {
-              horizon-is = q .ahead .horizon-is ∙ ap moment (sym (horizon-kept s q i l c e queued places));
+              horizon-is = q .ahead .horizon-is ∙ ap moment (sym (horizon-kept s q i l c e queued places tags));
               remainders-is = q .ahead .remainders-is ∙ ap remainders same;
             };
       }
@@ -156,17 +156,16 @@ module _ (s : Session) (q : Sound s) (i : ℕ) (l : i < s .count) where
   -- another charge, while the disk is idle, until the session looks ahead anew
   pub charge-kept : (charge expired : ℕ) → charge ≤ old .granted .0 + duration-max → old .start .0 + s .worst * expired ≤ charge → s .served ≡ 0
       → Fit (withStream s i (withCharge old charge expired))
-  unfolding soundQueue
   charge-kept charge expired high low idle =
-      stream-kept s q i l charge expired (old .queued) (old .places) high low
-      (queue-of (withCharge old charge expired) (of-queue old (q .fit .used .each i l .queue)))
+      stream-kept s q i l charge expired (old .queued) (old .places) (old .tags) high low
+      (q .fit .used .each i l .queue)
       (idle-kept s _ q idle)
 
 -- another clock and another request at the disk
-pub clock-kept : (s : Session) → Sound s → (clock : Clock) (head served place : ℕ) → clock .0 ≤ session-end
-    → soundDisk (withDisk s clock head served place) ≡ true → Sound (withDisk s clock head served place)
+pub clock-kept : (s : Session) → Sound s → (clock : Clock) (head served place tag : ℕ) → clock .0 ≤ session-end
+    → soundDisk (withDisk s clock head served place tag) ≡ true → Sound (withDisk s clock head served place tag)
 unfolding horizon remaindersOf
-clock-kept s q clock head served place high disk =
+clock-kept s q clock head served place tag high disk =
     let used = q .fit .used in
     record {
       fit =
@@ -181,9 +180,9 @@ clock-kept s q clock head served place high disk =
     }
 
 -- a stream with a slot may have its request at the disk
-pub disk-served : (s : Session) (clock : Clock) (head i place : ℕ) → i < s .count → 1 ≤ slotsAt s i
-    → soundDisk (withDisk s clock head (i + 1) place) ≡ true
+pub disk-served : (s : Session) (clock : Clock) (head i place tag : ℕ) → i < s .count → 1 ≤ slotsAt s i
+    → soundDisk (withDisk s clock head (i + 1) place tag) ≡ true
 unfolding soundDisk horizon if
-disk-served s clock head i place l slot =
+disk-served s clock head i place tag l slot =
     let back : i + 1 - 1 ≡ i = omega arith in
     rw (back, ne-eqb (i + 1) 0 (λ e. omega arith), le-leb (i + 1) (s .count) (omega arith), le-leb 1 (slotsAt s i) slot)

@@ -27,7 +27,7 @@ grounds {s} d = subst (Grounds s) (d .is) (verdict-grounds s (sound-of s (d .ok)
 pub inside : (s : Session) → sound s ≡ true → (i : ℕ) → i < s .count → i < 8
 inside s ok i l = below-eight i (s .count) l (count-high s ok)
 
-pub can-append : {s : Session} {i place : ℕ} → Due s (append i place) → (i < 8) × (streamAt s i .queued < 16)
+pub can-append : {s : Session} {i place tag : ℕ} → Due s (append i place tag) → (i < 8) × (streamAt s i .queued < 16)
 can-append {s} {i} d = let g = grounds d in (inside s (d .ok) i (g .exists), g .space)
 
 pub can-send : {s : Session} {i j : ℕ} → Due s (send i j) → (i < 8) × (j < 16) × (1 ≤ streamAt s i .queued)

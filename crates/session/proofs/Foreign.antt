@@ -27,10 +27,10 @@ record Alike (s z : Session) : Type 0 where
   told : asked z ≡ asked s
 
 -- as they are after an arrival, refused or not
-arrival-alike : (s : Session) (n place : ℕ) → Alike s (answerTo s (Call.Arrival n place) .session)
+arrival-alike : (s : Session) (n place tag : ℕ) → Alike s (answerTo s (Call.Arrival n place tag) .session)
 unfolding answerTo verdict effect apply
-arrival-alike s n place =
-    ruled-by (λ v. Alike s (apply s v)) (refusal s (Call.Arrival n place)) (append (n - 1) place)
+arrival-alike s n place tag =
+    ruled-by (λ v. Alike s (apply s v)) (refusal s (Call.Arrival n place tag)) (append (n - 1) place tag)
     (record { disk = refl; clock = refl; told = refl })
     (λ z. record { disk = refl; clock = refl; told = refl })
 
@@ -52,8 +52,8 @@ module _ (now : ℕ) (until : Clock) (le : now ≤ until .0) (in-session : now �
   unfolding after
   after-arrivals s [] ok idle told onward = in-time s now until ok idle told onward le in-session
   after-arrivals s (r ∷ requests) ok idle told onward =
-      let call = Call.Arrival (r .stream) (r .place) in
-      let same = arrival-alike s (r .stream) (r .place) in
+      let call = Call.Arrival (r .stream) (r .place) (r .tag) in
+      let same = arrival-alike s (r .stream) (r .place) (r .tag) in
       let clock = ap (λ (c : Clock). c .0) (same .clock) in
       after-arrivals (answerTo s call .session) requests (calls-keep-sound s call ok) (same .disk ∙ idle) (same .told ∙ told) (omega (arith, clock, onward))
 

@@ -23,7 +23,7 @@ use Rattle.session.proofs.Sound.{Sound, of-sound}
 -- of a refusal: it is not 31. Of an effect: its stream exists, the disk is as the call asks, and nothing passes its bound.
 abbrev pub Grounds : Session → Verdict → Type 0
 Grounds s (refuse n) = n < 31
-Grounds s (append i place) = record { exists : i < s .count; space : streamAt s i .queued < queue-max }
+Grounds s (append i place tag) = record { exists : i < s .count; space : streamAt s i .queued < queue-max }
 Grounds s (send i j) = record { idle : s .served ≡ 0; exists : i < s .count; inSet : j < filledAt s i }
 Grounds s move =
     record {
@@ -112,11 +112,11 @@ turn-grounds s idle h =
 -- what each call comes to where nothing refuses it
 call-grounds : (s : Session) → Sound s → (k : Call) → callRefusal s k ≡ 0 → Grounds s (effect s k)
 unfolding callRefusal effect
-call-grounds s q (Call.Arrival n place) h =
+call-grounds s q (Call.Arrival n place tag) h =
     let a = or-next-none _ _ h in
     let exists = named s n (given-none _ 7 (a .0)) .1 in
     let more = eqb-false (streamAt s (n - 1) .queued) queue-max (given-none _ 8 (a .1)) in
-    record { exists = exists; space = omega (arith, q .fit .used .each (n - 1) exists .queue .queued-high) }
+    record { exists = exists; space = omega (arith, q .fit .used .each (n - 1) exists .queue .places .queued-high) }
 call-grounds s q Call.Turn h =
     let a = or-next-none _ _ h in
     turn-grounds s (idle-of s (given-none _ 9 (a .0))) (given-none _ 13 (a .1))
@@ -147,7 +147,7 @@ call-grounds s q (Call.Clock t) h =
 -- the refusals of calls are at most 15
 pub call-refusal-high : (s : Session) (k : Call) → callRefusal s k ≤ 15
 unfolding callRefusal
-call-refusal-high s (Call.Arrival n place) = search (or-next-high, given-high, lit≤)
+call-refusal-high s (Call.Arrival n place tag) = search (or-next-high, given-high, lit≤)
 call-refusal-high s Call.Turn = search (or-next-high, given-high, lit≤)
 call-refusal-high s (Call.OwnTurn n j) = search (or-next-high, given-high, lit≤)
 call-refusal-high s (Call.Done a) = search (or-next-high, given-high, lit≤)

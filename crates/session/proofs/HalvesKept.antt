@@ -25,13 +25,13 @@ grown-in-time : (t u a h next span rates others useds more : ℕ) → next ≡ h
 grown-in-time t u a h next span rates others useds more same alike grows le time =
     rw (same, alike, grows) (omega (arith, mul-le-mul-right span le))
 
-module _ (s : Session) (q : Sound s) (i : ℕ) (l : i < s .count) (charge expired queued : ℕ) (places : List ℕ) (a : ℕ)
+module _ (s : Session) (q : Sound s) (i : ℕ) (l : i < s .count) (charge expired queued : ℕ) (places tags : List ℕ) (a : ℕ)
     (more : charge ≡ streamAt s i .charge .0 + a) where
   abbrev old : Stream
   old = streamAt s i
 
   abbrev new : Stream
-  new = worked old charge expired queued places
+  new = worked old charge expired queued places tags
 
   -- what it has used is that much more
   new-used : used (s .span) new ≡ used (s .span) old + a * s .span
@@ -41,17 +41,17 @@ module _ (s : Session) (q : Sound s) (i : ℕ) (l : i < s .count) (charge expire
   changed = withStream s i new
 
   ahead : horizon changed ≡ horizon s
-  ahead = horizon-kept s q i l charge expired queued places
+  ahead = horizon-kept s q i l charge expired queued places tags
 
   -- the sum over the streams of what each has
   sum-of : (f : Stream → ℕ) → sumTo (λ j. f (streamAt changed j)) (s .count) + f old ≡ sumTo (λ j. f (streamAt s j)) (s .count) + f new
-  sum-of f = summed s q i l charge expired queued places f
+  sum-of f = summed s q i l charge expired queued places tags f
 
   -- it keeps its room, if it had room for that
   pub charge-keeps-room : usedAt s i + a * s .span ≤ horizon s * rateAt s i → Room s → Room changed
   charge-keeps-room enough room j m =
       subst (λ (h : ℕ). usedAt changed j ≤ h * rateAt changed j) (sym ahead)
-      (set-each (s .streams) i new noStream (λ x. used (s .span) x ≤ horizon s * rate (s .span) x) (here s q i l charge expired queued places) (omega (arith, new-used, enough)) j (room j m))
+      (set-each (s .streams) i new noStream (λ x. used (s .span) x ≤ horizon s * rate (s .span) x) (here s q i l charge expired queued places tags) (omega (arith, new-used, enough)) j (room j m))
 
   -- and a clock that grows by no more than that is still in time
   pub charge-keeps-time : (t u : ℕ) → u ≤ t + a → InTime s t → InTime changed u

@@ -34,11 +34,11 @@ pub record Follows (closing : Bool) (lasted lost worst : ℕ) (x y : Stream) : T
   pub deadline-next : y .deadline .0 ≡ if closing (x .deadline .0 + x .period) (x .deadline .0)
 
 -- with another charge, expired count and queue
-worked-on : (lasted lost worst : ℕ) (x : Stream) (charge expired queued : ℕ) (places : List ℕ)
+worked-on : (lasted lost worst : ℕ) (x : Stream) (charge expired queued : ℕ) (places tags : List ℕ)
     → charge ≡ x .charge .0 + lasted + worst * lost → expired ≡ x .expired + lost
-    → Follows false lasted lost worst x (worked x charge expired queued places)
+    → Follows false lasted lost worst x (worked x charge expired queued places tags)
 unfolding if
-worked-on lasted lost worst x charge expired queued places charge-is expired-is =
+worked-on lasted lost worst x charge expired queued places tags charge-is expired-is =
     record { granted-same = refl; period-same = refl; charge-next = charge-is; start-next = refl; expired-next = expired-is; deadline-next = refl }
 
 -- the streams after one is changed: that one, and the others
@@ -67,15 +67,15 @@ module _ (s : Session) (q : Sound s) (k : Call) (i : ℕ) where
 
   -- nothing is told, and nothing changes
   quiet : Follows false 0 0 (s .worst) x x
-  quiet = worked-on 0 0 (s .worst) x (x .charge .0) (x .expired) (x .queued) (x .places) (omega arith) (omega arith)
+  quiet = worked-on 0 0 (s .worst) x (x .charge .0) (x .expired) (x .queued) (x .places) (x .tags) (omega arith) (omega arith)
 
   -- stream i is the one at j
-  at : (j lasted lost charge expired queued : ℕ) (places : List ℕ) → i ≡ j
+  at : (j lasted lost charge expired queued : ℕ) (places tags : List ℕ) → i ≡ j
       → charge ≡ streamAt s j .charge .0 + lasted + s .worst * lost → expired ≡ streamAt s j .expired + lost
-      → Follows false lasted lost (s .worst) x (worked (streamAt s j) charge expired queued places)
-  at j lasted lost charge expired queued places same charge-is expired-is =
-      subst (λ (n : ℕ). Follows false lasted lost (s .worst) (streamAt s n) (worked (streamAt s j) charge expired queued places)) (sym same)
-      (worked-on lasted lost (s .worst) (streamAt s j) charge expired queued places charge-is expired-is)
+      → Follows false lasted lost (s .worst) x (worked (streamAt s j) charge expired queued places tags)
+  at j lasted lost charge expired queued places tags same charge-is expired-is =
+      subst (λ (n : ℕ). Follows false lasted lost (s .worst) (streamAt s n) (worked (streamAt s j) charge expired queued places tags)) (sym same)
+      (worked-on lasted lost (s .worst) (streamAt s j) charge expired queued places tags charge-is expired-is)
 
   -- what the reply to a verdict tells is how it goes on
   abbrev pub Tells : Verdict → Type 0
@@ -86,13 +86,13 @@ module _ (s : Session) (q : Sound s) (k : Call) (i : ℕ) where
   refuse-told n low =
       rw (ne-eqb n 22 (λ e. omega arith), ne-eqb n 23 (λ e. omega arith), ne-eqb n 25 (λ e. omega arith), ne-eqb n 26 (λ e. omega arith)) quiet
 
-  append-told : (j place : ℕ) → j < s .count → Tells (append j place)
+  append-told : (j place tag : ℕ) → j < s .count → Tells (append j place tag)
   unfolding apply replyTo if arrived
-  append-told j place l = set-at (Told (replyTo s (append j place))) (s .streams) j _ (cell j l) i (λ e. at j 0 0 _ _ _ _ e (omega arith) (omega arith)) (λ e. quiet)
+  append-told j place tag l = set-at (Told (replyTo s (append j place tag))) (s .streams) j _ (cell j l) i (λ e. at j 0 0 _ _ _ _ _ e (omega arith) (omega arith)) (λ e. quiet)
 
   send-told : (j n : ℕ) → j < s .count → Tells (send j n)
   unfolding apply replyTo if without
-  send-told j n l = set-at (Told (replyTo s (send j n))) (s .streams) j _ (cell j l) i (λ e. at j 0 0 _ _ _ _ e (omega arith) (omega arith)) (λ e. quiet)
+  send-told j n l = set-at (Told (replyTo s (send j n))) (s .streams) j _ (cell j l) i (λ e. at j 0 0 _ _ _ _ _ e (omega arith) (omega arith)) (λ e. quiet)
 
   move-told : Tells move
   unfolding apply replyTo if moved closed
@@ -108,7 +108,7 @@ module _ (s : Session) (q : Sound s) (k : Call) (i : ℕ) where
   unfolding apply replyTo if lapsed
   expire-told j l =
       set-at (Told (replyTo s (expire j))) (s .streams) j _ (cell j l) i
-      (λ e. rw (eq-eqb (j + 1) (i + 1) (omega arith)) (at j 0 1 _ _ _ _ e (omega arith) refl))
+      (λ e. rw (eq-eqb (j + 1) (i + 1) (omega arith)) (at j 0 1 _ _ _ _ _ e (omega arith) refl))
       (λ e. rw (ne-eqb (j + 1) (i + 1) (λ f. e (omega arith))) quiet)
 
   -- a completion, overlong or not
@@ -117,7 +117,7 @@ module _ (s : Session) (q : Sound s) (k : Call) (i : ℕ) where
   unfolding apply if charged
   charged-told j a l lasted =
       set-at (Follows false (if (eqb (j + 1) (i + 1)) (durationOf k) 0) 0 (s .worst) x) (s .streams) j _ (cell j l) i
-      (λ e. rw (eq-eqb (j + 1) (i + 1) (omega arith), lasted) (at j a 0 _ _ _ _ e (omega arith) (omega arith)))
+      (λ e. rw (eq-eqb (j + 1) (i + 1) (omega arith), lasted) (at j a 0 _ _ _ _ _ e (omega arith) (omega arith)))
       (λ e. rw (ne-eqb (j + 1) (i + 1) (λ f. e (omega arith))) quiet)
 
   finish-told : (j a : ℕ) → j < s .count → durationOf k ≡ a → Tells (finish j a)
@@ -134,7 +134,7 @@ module _ (s : Session) (q : Sound s) (k : Call) (i : ℕ) where
   pub told : (v : Verdict) → Grounds s v → Reasons s k v → Tells v
   unfolding apply replyTo if
   told (refuse n) g r = refuse-told n r
-  told (append j place) g r = append-told j place (g .exists)
+  told (append j place tag) g r = append-told j place tag (g .exists)
   told (send j n) g r = send-told j n (g .exists)
   told move g r = move-told
   told wait g r = quiet

@@ -185,7 +185,7 @@ module _ (s : Session) where
               ahead = used .1;
             })
 
-    pub idle-decides : s .served ≡ 0 → eqb (s .place) 0 ≡ sound s
+    pub idle-decides : s .served ≡ 0 → (eqb (s .place) 0 && eqb (s .tag) 0) ≡ sound s
     unfolding soundDisk if
     idle-decides none = rw (eq-eqb _ _ none) at disk-decides
 

@@ -6,7 +6,7 @@ use lib.ListN.{getD}
 use Rattle.table.specs.Fold.{if}
 use Rattle.time.specs.Time.{moment}
 use Rattle.stream.specs.Stream.{filled, arrived, without, charged, lapsed}
-use Rattle.session.specs.Session.{streamAt, horizon, slotsAt, soundDisk, withStream, withDisk}
+use Rattle.session.specs.Session.{streamAt, placeAt, tagAt, horizon, slotsAt, soundDisk, withStream, withDisk}
 use Rattle.session.specs.Calls.{Verdict, refuse, append, send, move, wait, expire, finish, set-clock, verdict, apply, answerTo}
 use Rattle.session.specs.Laws.{CallsKeepSound}
 use Rattle.session.specs.declared.Session.{Session}
@@ -18,10 +18,10 @@ use Rattle.session.proofs.Changes.{slots-kept, queue-kept, charge-kept,
 use Rattle.session.proofs.MoveKept.{move-kept}
 
 -- an arrival
-append-kept : (s : Session) → Sound s → (i place : ℕ) → Grounds s (append i place) → Sound (apply s (append i place))
+append-kept : (s : Session) → Sound s → (i place tag : ℕ) → Grounds s (append i place tag) → Sound (apply s (append i place tag))
 unfolding apply arrived
-append-kept s q i place g =
-    queue-kept s q i (g .exists) _ _ (arrived-queue place (streamAt s i) (q .fit .used .each i (g .exists) .queue) (g .space))
+append-kept s q i place tag g =
+    queue-kept s q i (g .exists) _ _ _ (arrived-queue (streamAt s i) (q .fit .used .each i (g .exists) .queue) place tag (g .space))
 
 -- a request sent: its stream keeps its slots, and so has one while it is at the disk
 send-kept : (s : Session) → Sound s → (i j : ℕ) → Grounds s (send i j) → Sound (apply s (send i j))
@@ -30,12 +30,13 @@ send-kept s q i j g =
     let l = g .exists in
     let x = streamAt s i in
     let y = without j x in
-    let place = getD (x .places) j 0 in
-    let left = queue-kept s q i l _ _ (without-queue j x (q .fit .used .each i l .queue) (omega (arith, g .inSet))) in
+    let place = placeAt s i j in
+    let tag = tagAt s i j in
+    let left = queue-kept s q i l _ _ _ (without-queue x (q .fit .used .each i l .queue) j (omega (arith, g .inSet))) in
     let slot : 1 ≤ slotsAt (withStream s i y) i =
-    subst (λ (n : ℕ). 1 ≤ n) (sym (slots-kept s q i l (x .charge .0) (x .expired) (y .queued) (y .places) refl i)) (omega (arith, g .inSet)) in
-    clock-kept (withStream s i y) left (s .clock) place (i + 1) place (q .fit .clock-high)
-    (disk-served (withStream s i y) (s .clock) place i place l slot)
+    subst (λ (n : ℕ). 1 ≤ n) (sym (slots-kept s q i l (x .charge .0) (x .expired) (y .queued) (y .places) (y .tags) refl i)) (omega (arith, g .inSet)) in
+    clock-kept (withStream s i y) left (s .clock) place (i + 1) place tag (q .fit .clock-high)
+    (disk-served (withStream s i y) (s .clock) place i place tag l slot)
 
 -- a stream with a slot has room for W
 room : (s : Session) → Sound s → (i : ℕ) → i < s .count → 1 ≤ slotsAt s i → streamAt s i .charge .0 + s .worst ≤ streamAt s i .granted .0
@@ -55,19 +56,19 @@ finish-kept s q i a g =
     let l = g .exists in
     let clock = moment (s .clock .0 + a) in
     looking-ahead _
-    (charge-kept (withDisk s clock (s .head) 0 0) (clock-kept s q clock (s .head) 0 0 (g .inTime) refl) i l _ _
+    (charge-kept (withDisk s clock (s .head) 0 0 0) (clock-kept s q clock (s .head) 0 0 0 (g .inTime) refl) i l _ _
     (omega (arith, g .short, room s q i l (g .slot))) (omega (arith, q .fit .used .each i l .covered)) refl)
 
 -- a clock report
 set-clock-kept : (s : Session) → Sound s → (t : ℕ) → Grounds s (set-clock t) → Sound (apply s (set-clock t))
 unfolding apply soundDisk horizon
-set-clock-kept s q t inTime = clock-kept s q (moment t) (s .head) (s .served) (s .place) inTime (q .fit .disk)
+set-clock-kept s q t inTime = clock-kept s q (moment t) (s .head) (s .served) (s .place) (s .tag) inTime (q .fit .disk)
 
 -- whatever a call comes to
 pub effect-kept : (s : Session) → Sound s → (v : Verdict) → Grounds s v → Sound (apply s v)
 unfolding apply
 effect-kept s q (refuse n) g = q
-effect-kept s q (append i place) g = append-kept s q i place g
+effect-kept s q (append i place tag) g = append-kept s q i place tag g
 effect-kept s q (send i j) g = send-kept s q i j g
 effect-kept s q move g = looking-ahead _ (move-kept s q g)
 effect-kept s q wait g = q

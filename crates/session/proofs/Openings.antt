@@ -22,7 +22,7 @@ use Rattle.table.proofs.Whole.{less-left}
 use Rattle.table.proofs.Lists.{length-listTo, getD-listTo}
 use Rattle.table.proofs.Judged.{Admits, admits-of, load-alike, admits-alike}
 use Rattle.time.specs.Time.{parts-max}
-use Rattle.stream.specs.Stream.{partOf, soundQueue, unusedStream, zeroJob, freshStream}
+use Rattle.stream.specs.Stream.{partOf, soundRow, soundQueue, unusedStream, zeroJob, freshStream}
 use Rattle.session.specs.Session.{noStream, streamAt, horizon, scaledPart, remaindersOf, tableOf, soundDisk, sound}
 use Rattle.calls.specs.Replies.{numberOf}
 use Rattle.session.specs.Calls.{Verdict, refuse, append, send, move, wait, expire, finish, set-clock, verdict, apply, replyTo, answerTo, after}
@@ -86,7 +86,7 @@ module _ (t : Table) (admitted : admissionOf t ≡ 0) where
 
   -- the others are 0
   fresh-others : (i : ℕ) → t .count ≤ i → i < streams-max → unusedStream (streamAt (openedSession t) i) ≡ true
-  unfolding openedStream freshStream unusedStream zeroJob soundQueue allTo if
+  unfolding openedStream freshStream unusedStream zeroJob soundRow soundQueue allTo if
   fresh-others i past l = rw (opened-at i l, le-ltb i (t .count) past)
 
   -- the session of an admitted table is sound once it looks ahead
@@ -199,7 +199,7 @@ ask-is-latest = (
 margin-stays : (s : Session) (v : Verdict) → apply s v .margin ≡ s .margin
 unfolding apply
 margin-stays s (refuse n) = refl
-margin-stays s (append i place) = refl
+margin-stays s (append i place tag) = refl
 margin-stays s (send i j) = refl
 margin-stays s move = refl
 margin-stays s wait = refl
@@ -231,7 +231,7 @@ margin-is-kept = (
 number-low : (s : Session) (v : Verdict) → Grounds s v → numberOf (replyTo s v) < 31
 unfolding replyTo
 number-low s (refuse n) g = g
-number-low s (append i place) g = lit< tt
+number-low s (append i place tag) g = lit< tt
 number-low s (send i j) g = lit< tt
 number-low s move g = lit< tt
 number-low s wait g = lit< tt

@@ -9,7 +9,7 @@ use Rattle.table.specs.Fold.{if}
 use Rattle.time.specs.Time.{moment, diskTime}
 use Rattle.time.specs.Latest.{remainders}
 use Rattle.stream.specs.Stream.{arrived, without, charged, lapsed}
-use Rattle.session.specs.Session.{streamAt, horizon, latest, remaindersOf, withStream, withDisk, withAhead}
+use Rattle.session.specs.Session.{streamAt, placeAt, tagAt, horizon, latest, remaindersOf, withStream, withDisk, withAhead}
 use Rattle.session.specs.Calls.{refuse, append, send, wait, expire, finish, set-clock, overlong, late, apply, replyTo, outcome}
 use Rattle.time.specs.declared.Charge.{Charge}
 use Rattle.time.specs.declared.Clock.{Clock}
@@ -34,12 +34,13 @@ module _ (s : Session) where
   unfolding apply replyTo
   refuses n = refl
 
-  pub appends : (i place : ℕ) (y : Stream) → y ≡ arrived place (streamAt s i) → with-reply (withStream s i y) (Reply.Arrived (i + 1) (y .queued)) ≡ outcome s (append i place)
+  pub appends : (i place tag : ℕ) (y : Stream) → y ≡ arrived place tag (streamAt s i) → with-reply (withStream s i y) (Reply.Arrived (i + 1) (y .queued)) ≡ outcome s (append i place tag)
   unfolding apply replyTo arrived
-  appends i place y e = rw e
+  appends i place tag y e = rw e
 
-  pub sends : (i j : ℕ) (y : Stream) → y ≡ without j (streamAt s i) → let place = getD (streamAt s i .places) j 0 in
-      with-reply (withDisk (withStream s i y) (s .clock) place (i + 1) place) (Reply.Sent (i + 1) place) ≡ outcome s (send i j)
+  pub sends : (i j : ℕ) (y : Stream) → y ≡ without j (streamAt s i) → let place = placeAt s i j in
+      let tag = tagAt s i j in
+      with-reply (withDisk (withStream s i y) (s .clock) place (i + 1) place tag) (Reply.Sent (i + 1) place tag) ≡ outcome s (send i j)
   unfolding apply replyTo
   sends i j y e = rw e
 
@@ -59,32 +60,32 @@ module _ (s : Session) where
         let x = streamAt s i in
         ap (λ (z : Stream). with-reply (charging z) (Reply.Expired (i + 1) (z .charge))) e
         ∙ ap (λ (z : Session). with-reply z (Reply.Expired (i + 1) (diskTime (x .charge .0 + s .worst))))
-        (ahead-charged s q i l (x .charge .0 + s .worst) (x .expired + 1) (x .queued) (x .places) (s .worst) refl sum sum-is)
+        (ahead-charged s q i l (x .charge .0 + s .worst) (x .expired + 1) (x .queued) (x .places) (x .tags) (s .worst) refl sum sum-is)
 
     -- a completion, overlong or not
     module _ (taken : Charge) (now : Clock) (stored : y ≡ charged (taken .0) (streamAt s i)) (sum-is : sum ≡ remainders (s .remainders .0 -ℤ pos (taken .0 * s .span))) (grown : now ≡ moment (s .clock .0 + taken .0)) where
-      finished : withDisk (charging y) now (s .head) 0 0 ≡ apply s (finish i (taken .0))
+      finished : withDisk (charging y) now (s .head) 0 0 0 ≡ apply s (finish i (taken .0))
       unfolding apply charged horizon remaindersOf
       finished =
           let x = streamAt s i in
-          ap₂ (λ (z : Stream) (c : Clock). withDisk (charging z) c (s .head) 0 0) stored grown
-          ∙ ap (λ (z : Session). withDisk z (moment (s .clock .0 + taken .0)) (s .head) 0 0)
-          (ahead-charged s q i l (x .charge .0 + taken .0) (x .expired) (x .queued) (x .places) (taken .0) refl sum sum-is)
+          ap₂ (λ (z : Stream) (c : Clock). withDisk (charging z) c (s .head) 0 0 0) stored grown
+          ∙ ap (λ (z : Session). withDisk z (moment (s .clock .0 + taken .0)) (s .head) 0 0 0)
+          (ahead-charged s q i l (x .charge .0 + taken .0) (x .expired) (x .queued) (x .places) (x .tags) (taken .0) refl sum sum-is)
 
-      pub finishes-overlong : ltb (s .worst) (taken .0) ≡ true → with-reply (withDisk (charging y) now (s .head) 0 0) (Reply.Overlong (i + 1) (y .charge)) ≡ outcome s (finish i (taken .0))
+      pub finishes-overlong : ltb (s .worst) (taken .0) ≡ true → with-reply (withDisk (charging y) now (s .head) 0 0 0) (Reply.Overlong (i + 1) (y .charge) (s .tag)) ≡ outcome s (finish i (taken .0))
       unfolding replyTo charged overlong if
       finishes-overlong long = rw (finished, stored, long)
 
-      pub finishes : ltb (s .worst) (taken .0) ≡ false → with-reply (withDisk (charging y) now (s .head) 0 0) (Reply.Done (i + 1) (y .charge)) ≡ outcome s (finish i (taken .0))
+      pub finishes : ltb (s .worst) (taken .0) ≡ false → with-reply (withDisk (charging y) now (s .head) 0 0 0) (Reply.Done (i + 1) (y .charge) (s .tag)) ≡ outcome s (finish i (taken .0))
       unfolding replyTo charged overlong if
       finishes short = rw (finished, stored, short)
 
   -- a report of the time, late or not
   module _ (now : Clock) where
-    pub reports-late : late s (now .0) ≡ true → with-reply (withDisk s now (s .head) (s .served) (s .place)) (Reply.Late now) ≡ outcome s (set-clock (now .0))
+    pub reports-late : late s (now .0) ≡ true → with-reply (withDisk s now (s .head) (s .served) (s .place) (s .tag)) (Reply.Late now) ≡ outcome s (set-clock (now .0))
     unfolding apply replyTo if
     reports-late l = rw l
 
-    pub reports : late s (now .0) ≡ false → with-reply (withDisk s now (s .head) (s .served) (s .place)) (Reply.Clock now) ≡ outcome s (set-clock (now .0))
+    pub reports : late s (now .0) ≡ false → with-reply (withDisk s now (s .head) (s .served) (s .place) (s .tag)) (Reply.Clock now) ≡ outcome s (set-clock (now .0))
     unfolding apply replyTo if
     reports l = rw l

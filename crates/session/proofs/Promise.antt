@@ -74,7 +74,7 @@ at-most-once false a worst le = omega arith
 table-same : (s : Session) (v : Verdict) → (apply s v .worst ≡ s .worst) × (apply s v .span ≡ s .span) × (apply s v .padding ≡ s .padding) × (apply s v .count ≡ s .count)
 unfolding apply
 table-same s (refuse n) = (refl, refl, refl, refl)
-table-same s (append i place) = (refl, refl, refl, refl)
+table-same s (append i place tag) = (refl, refl, refl, refl)
 table-same s (send i j) = (refl, refl, refl, refl)
 table-same s move = (refl, refl, refl, refl)
 table-same s wait = (refl, refl, refl, refl)
@@ -194,7 +194,7 @@ module _ (t : Table) (s : Session) (past : List Moment) (kept : Kept t s past) w
   lawful-on k (refuse n) g low =
       neither-lawful _ (ne-eqb n 22 (λ e. omega arith)) (ne-eqb n 23 (λ e. omega arith))
       (λ is i. rw (ne-eqb n 25 (λ e. omega arith), ne-eqb n 26 (λ e. omega arith)) (omega arith))
-  lawful-on k (append j place) g r = neither-lawful _ refl refl (λ is i. omega arith)
+  lawful-on k (append j place tag) g r = neither-lawful _ refl refl (λ is i. omega arith)
   lawful-on k (send j n) g r = neither-lawful _ refl refl (λ is i. omega arith)
   lawful-on k move g over =
       record {

@@ -44,13 +44,13 @@ charges l = map (λ i. chargeOf twins i l) (0 ∷ 1 ∷ [])
 -- Within bounds: sends, completions, waits, clock reports, expiries, an own turn and refusals; then a move that closes both jobs.
 abbrev calls : List Call
 calls =
-    Arrival 1 100
+    Arrival 1 100 0
     ∷ Turn
     ∷ Done 20_000
     ∷ Turn
     ∷ Clock 170_000
     ∷ Turn
-    ∷ Arrival 2 900
+    ∷ Arrival 2 900 0
     ∷ OwnTurn 2 1
     ∷ OwnTurn 2 0
     ∷ Clock 170_000
@@ -93,13 +93,13 @@ two-of-first = requests-served twins (calls ++ (Turn ∷ [])) refl refl [] (clos
 -- Outside: a request of stream 1 takes 230,000, and stream 2's two requests of 25,000 end after the deadline of both.
 abbrev overrun : List Call
 overrun =
-    Arrival 1 100
+    Arrival 1 100 0
     ∷ Turn
     ∷ Done 230_000
-    ∷ Arrival 2 900
+    ∷ Arrival 2 900 0
     ∷ Turn
     ∷ Done 25_000
-    ∷ Arrival 2 900
+    ∷ Arrival 2 900 0
     ∷ Turn
     ∷ Done 25_000
     ∷ []

@@ -17,7 +17,7 @@ use Rattle.session.proofs.Grounds.{call-refusal-high, ruled-by}
 -- a refusal is at most 15; a move finds no slot; an expiry finds no filled one; a completion has the duration of its call
 abbrev pub Reasons : Session → Call → Verdict → Type 0
 Reasons s k (refuse n) = n ≤ 15
-Reasons s k (append i place) = Unit {0}
+Reasons s k (append i place tag) = Unit {0}
 Reasons s k (send i j) = Unit {0}
 Reasons s k move = noSlot s ≡ true
 Reasons s k wait = Unit {0}
@@ -35,7 +35,7 @@ turn-reasons s =
 
 effect-reasons : (s : Session) (k : Call) → Reasons s k (effect s k)
 unfolding effect
-effect-reasons s (Call.Arrival n place) = tt
+effect-reasons s (Call.Arrival n place tag) = tt
 effect-reasons s Call.Turn = turn-reasons s
 effect-reasons s (Call.OwnTurn n j) = tt
 effect-reasons s (Call.Done a) = refl
@@ -50,7 +50,7 @@ verdict-reasons s q k =
 module _ (P : Reply → Type 0) (s : Session) where
   pub done-or-overlong : (i a : ℕ)
       → let charge = diskTime (streamAt s i .charge .0 + a) in
-      (overlong s a ≡ true → P (Reply.Overlong (i + 1) charge)) → (overlong s a ≡ false → P (Reply.Done (i + 1) charge)) → P (replyTo s (finish i a))
+      (overlong s a ≡ true → P (Reply.Overlong (i + 1) charge (s .tag))) → (overlong s a ≡ false → P (Reply.Done (i + 1) charge (s .tag))) → P (replyTo s (finish i a))
   unfolding replyTo
   done-or-overlong i a = by-if P _ _ _
 

@@ -54,29 +54,29 @@ module _ (s : Session) (q : Sound s) where
 
   -- Room: a stream with a slot has room for W, and so for any duration up to W; one with another queue is charged nothing.
   module _ (room : Room s) where
-    queue-room : (i : ℕ) → i < s .count → (queued : ℕ) (places : List ℕ) → Room (withStream s i (withQueue (x i) queued places))
-    queue-room i l queued places =
-        charge-keeps-room s q i l (x i .charge .0) (x i .expired) queued places 0 (same-charge i) (omega (arith, room i l)) room
+    queue-room : (i : ℕ) → i < s .count → (queued : ℕ) (places tags : List ℕ) → Room (withStream s i (withQueue (x i) queued places tags))
+    queue-room i l queued places tags =
+        charge-keeps-room s q i l (x i .charge .0) (x i .expired) queued places tags 0 (same-charge i) (omega (arith, room i l)) room
 
     send-room : (i j : ℕ) → Grounds s (send i j) → Room (apply s (send i j))
     unfolding apply without horizon
-    send-room i j g = queue-room i (g .exists) (without j (x i) .queued) (without j (x i) .places)
+    send-room i j g = queue-room i (g .exists) (without j (x i) .queued) (without j (x i) .places) (without j (x i) .tags)
 
     expire-room : (i : ℕ) → Grounds s (expire i) → Room (apply s (expire i))
     unfolding apply lapsed horizon
-    expire-room i g = charge-keeps-room s q i (g .exists) _ _ _ _ (s .worst) refl (slot-has-room s q i (g .exists) (g .slot)) room
+    expire-room i g = charge-keeps-room s q i (g .exists) _ _ _ _ _ (s .worst) refl (slot-has-room s q i (g .exists) (g .slot)) room
 
     finish-room : (i a : ℕ) → Grounds s (finish i a) → a ≤ s .worst → Room (apply s (finish i a))
     unfolding apply charged horizon
     finish-room i a g le =
         let l = g .exists in
         let enough : usedAt s i + a * s .span ≤ horizon s * rateAt s i = omega (arith, slot-has-room s q i l (g .slot), mul-le-mul-right (s .span) le) in
-        charge-keeps-room s q i l (x i .charge .0 + a) (x i .expired) (x i .queued) (x i .places) a refl enough room
+        charge-keeps-room s q i l (x i .charge .0 + a) (x i .expired) (x i .queued) (x i .places) (x i .tags) a refl enough room
 
     pub effect-room : (v : Verdict) → Grounds s v → not (eqb (numberOf (replyTo s v)) 26) ≡ true → Room (apply s v)
     unfolding apply arrived horizon
     effect-room (refuse n) g is = room
-    effect-room (append i place) g is = queue-room i (g .exists) _ _
+    effect-room (append i place tag) g is = queue-room i (g .exists) _ _ _
     effect-room (send i j) g is = send-room i j g
     effect-room move g is = move-keeps-room s q room
     effect-room wait g is = room
@@ -86,22 +86,22 @@ module _ (s : Session) (q : Sound s) where
 
   -- Time: what a completion adds to the clock it adds to the charge as well, however long it lasted.
   module _ (time : InTime s (s .clock .0)) where
-    queue-time : (i : ℕ) → i < s .count → (queued : ℕ) (places : List ℕ) → InTime (withStream s i (withQueue (x i) queued places)) (s .clock .0)
-    queue-time i l queued places =
-        charge-keeps-time s q i l (x i .charge .0) (x i .expired) queued places 0 (same-charge i) (s .clock .0) (s .clock .0) (omega arith) time
+    queue-time : (i : ℕ) → i < s .count → (queued : ℕ) (places tags : List ℕ) → InTime (withStream s i (withQueue (x i) queued places tags)) (s .clock .0)
+    queue-time i l queued places tags =
+        charge-keeps-time s q i l (x i .charge .0) (x i .expired) queued places tags 0 (same-charge i) (s .clock .0) (s .clock .0) (omega arith) time
 
     send-time : (i j : ℕ) → Grounds s (send i j) → InTime (apply s (send i j)) (s .clock .0)
     unfolding apply without horizon
-    send-time i j g = queue-time i (g .exists) (without j (x i) .queued) (without j (x i) .places)
+    send-time i j g = queue-time i (g .exists) (without j (x i) .queued) (without j (x i) .places) (without j (x i) .tags)
 
     expire-time : (i : ℕ) → Grounds s (expire i) → InTime (apply s (expire i)) (s .clock .0)
     unfolding apply lapsed horizon
-    expire-time i g = charge-keeps-time s q i (g .exists) _ _ _ _ (s .worst) refl (s .clock .0) (s .clock .0) (omega arith) time
+    expire-time i g = charge-keeps-time s q i (g .exists) _ _ _ _ _ (s .worst) refl (s .clock .0) (s .clock .0) (omega arith) time
 
     finish-time : (i a : ℕ) → Grounds s (finish i a) → InTime (apply s (finish i a)) (s .clock .0 + a)
     unfolding apply charged horizon
     finish-time i a g =
-        charge-keeps-time s q i (g .exists) (x i .charge .0 + a) (x i .expired) (x i .queued) (x i .places) a refl (s .clock .0) (s .clock .0 + a) (omega arith) time
+        charge-keeps-time s q i (g .exists) (x i .charge .0 + a) (x i .expired) (x i .queued) (x i .places) (x i .tags) a refl (s .clock .0) (s .clock .0 + a) (omega arith) time
 
     -- a clock report that is not late is at most L, or at most the clock
     set-clock-time : (t : ℕ) → late s t ≡ false → InTime s t
@@ -115,7 +115,7 @@ module _ (s : Session) (q : Sound s) where
     pub effect-time : (v : Verdict) → Grounds s v → not (eqb (numberOf (replyTo s v)) 28) ≡ true → InTime (apply s v) (apply s v .clock .0)
     unfolding apply arrived horizon
     effect-time (refuse n) g is = time
-    effect-time (append i place) g is = queue-time i (g .exists) _ _
+    effect-time (append i place tag) g is = queue-time i (g .exists) _ _ _
     effect-time (send i j) g is = send-time i j g
     effect-time move g is = move-keeps-time s q (s .clock .0) time
     effect-time wait g is = time

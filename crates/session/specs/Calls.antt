@@ -2,24 +2,23 @@
 use mathlib.Core.Bool.{Bool, not, _&&_, _||_}
 use mathlib.Core.List.{List, [], _∷_, map}
 use Prim.Native.Nat.{ℕ, zero, suc, _+_, _-_}
-use lib.ListN.{getD}
 use lib.Dec.{ltb, eqb}
 use Rattle.table.specs.Fold.{if, someTo}
 use Rattle.table.specs.Refusal.{given, _or-next_, outside}
 use Rattle.time.specs.Time.{session-end, duration-max, moment, diskTime}
 use Rattle.stream.specs.Stream.{queue-max, closesPastEnd, arrived, without, charged, lapsed, moved}
-use Rattle.session.specs.Session.{streamAt, horizon, inSet, someFilled, noSlot, latest, sound, withStreams, withStream, withDisk, lookingAhead}
+use Rattle.session.specs.Session.{streamAt, placeAt, tagAt, horizon, inSet, someFilled, noSlot, latest, sound, withStreams, withStream, withDisk, lookingAhead}
 use Rattle.session.specs.Choice.{nearestAt, chosen, expiring}
 use Rattle.session.specs.declared.Session.{Session}
 use Rattle.calls.specs.declared.Call.{Call}
 use Rattle.calls.specs.declared.Reply.{Reply}
-use Rattle.calls.specs.Replies.{numberOf, valueOf, streamOf}
+use Rattle.calls.specs.Replies.{numberOf, valueOf, streamOf, tagOf}
 use Rattle.session.specs.declared.Answer.{Answer}
 
 -- What a call comes to. Streams and queue places are counted from 0 here.
 pub data Verdict : Type 0 where
   refuse : ℕ → Verdict
-  append : ℕ → ℕ → Verdict
+  append : ℕ → ℕ → ℕ → Verdict
   send : ℕ → ℕ → Verdict
   move : Verdict
   wait : Verdict
@@ -41,7 +40,7 @@ movePassesEnd s = someTo (λ i. closesPastEnd (horizon s) (streamAt s i)) (s .co
 
 -- "Arrival: 8, 9. Turn: 10, 14 (only in b). Own turn: 10, 8, 15. Done: 11, 12, 14. Clock: 10, 13, 14."
 unfoldable pub callRefusal : Session → Call → ℕ
-callRefusal s (Call.Arrival n place) =
+callRefusal s (Call.Arrival n place tag) =
     given (noSuchStream s n) 8
     or-next given (eqb (streamAt s (n - 1) .queued) queue-max) 9
 callRefusal s Call.Turn =
@@ -74,7 +73,7 @@ turnEffect s =
 
 -- what a call comes to where nothing refuses it
 unfoldable pub effect : Session → Call → Verdict
-effect s (Call.Arrival n place) = append (n - 1) place
+effect s (Call.Arrival n place tag) = append (n - 1) place tag
 effect s Call.Turn = turnEffect s
 effect s (Call.OwnTurn n j) = send (n - 1) j
 effect s (Call.Done a) = finish (s .served - 1) a
@@ -91,16 +90,15 @@ verdict s k = ruled (refusal s k) (effect s k)
 -- The session afterwards. "A refused call returns its number and changes no byte of session or buffer." A move, an expiry and a completion change a charge or the horizon.
 unfoldable pub apply : Session → Verdict → Session
 apply s (refuse n) = s
-apply s (append i place) = withStream s i (arrived place (streamAt s i))
+apply s (append i place tag) = withStream s i (arrived place tag (streamAt s i))
 apply s (send i j) =
-    let place = getD (streamAt s i .places) j 0 in
-    withDisk (withStream s i (without j (streamAt s i))) (s .clock) place (i + 1) place
+    withDisk (withStream s i (without j (streamAt s i))) (s .clock) (placeAt s i j) (i + 1) (placeAt s i j) (tagAt s i j)
 apply s move = lookingAhead (withStreams s (map (moved (s .clock) (horizon s)) (s .streams)))
 apply s wait = s
 apply s (expire i) = lookingAhead (withStream s i (lapsed (s .worst) (streamAt s i)))
 apply s (finish i a) =
-    lookingAhead (withDisk (withStream s i (charged a (streamAt s i))) (moment (s .clock .0 + a)) (s .head) 0 0)
-apply s (set-clock t) = withDisk s (moment t) (s .head) (s .served) (s .place)
+    lookingAhead (withDisk (withStream s i (charged a (streamAt s i))) (moment (s .clock .0 + a)) (s .head) 0 0 0)
+apply s (set-clock t) = withDisk s (moment t) (s .head) (s .served) (s .place) (s .tag)
 
 -- "Overlong if a > W."
 unfoldable pub overlong : Session → ℕ → Bool
@@ -110,17 +108,17 @@ overlong s a = ltb (s .worst) a
 unfoldable pub late : Session → ℕ → Bool
 late s t = ltb (latest s) t && ltb (s .clock .0) t
 
--- "Done replies: 20 arrival (value: queue length), 21 sent (place), 22 expired (charge after), 23 moved (new horizon), 24 wait (L), 25 done (charge after), 26 done overlong (charge after), 27 clock (time), 28 clock late (time)."
+-- "Done replies: 20 arrival (value: queue length), 21 sent (place), 22 expired (charge after), 23 moved (new horizon), 24 wait (L), 25 done (charge after), 26 done overlong (charge after), 27 clock (time), 28 clock late (time)." Document 02, Req 07: "sent and done hand the tag back".
 unfoldable pub replyTo : Session → Verdict → Reply
 replyTo s (refuse n) = Reply.Refused n
-replyTo s (append i place) = Reply.Arrived (i + 1) (streamAt s i .queued + 1)
-replyTo s (send i j) = Reply.Sent (i + 1) (getD (streamAt s i .places) j 0)
+replyTo s (append i place tag) = Reply.Arrived (i + 1) (streamAt s i .queued + 1)
+replyTo s (send i j) = Reply.Sent (i + 1) (placeAt s i j) (tagAt s i j)
 replyTo s move = Reply.Moved (moment (horizon (apply s move)))
 replyTo s wait = Reply.Wait (moment (latest s))
 replyTo s (expire i) = Reply.Expired (i + 1) (diskTime (streamAt s i .charge .0 + s .worst))
 replyTo s (finish i a) =
     let charge = diskTime (streamAt s i .charge .0 + a) in
-    if (overlong s a) (Reply.Overlong (i + 1) charge) (Reply.Done (i + 1) charge)
+    if (overlong s a) (Reply.Overlong (i + 1) charge (s .tag)) (Reply.Done (i + 1) charge (s .tag))
 replyTo s (set-clock t) = if (late s t) (Reply.Late (moment t)) (Reply.Clock (moment t))
 
 -- what a verdict comes to, and so what a call is answered
@@ -135,13 +133,14 @@ unfoldable pub after : Session → List Call → Session
 after s [] = s
 after s (k ∷ ks) = after (answerTo s k .session) ks
 
--- the numbers of a printed line: "its number from 1, the reply, the stream [...], the value [...], the clock afterwards"
+-- the numbers of a printed line: "its number from 1, the reply, the stream [...], the value [...], the clock afterwards", and "a last field, the tag of the request sent or done, else 0"
 pub record Line : Type 0 where
   pub event : ℕ
   pub answer : ℕ
   pub stream : ℕ
   pub value : ℕ
   pub clock : ℕ
+  pub tag : ℕ
 
 unfoldable pub lineOf : ℕ → Call → Answer → Line
 lineOf n k a =
@@ -151,6 +150,7 @@ lineOf n k a =
       stream = streamOf k (a .reply);
       value = valueOf (a .reply);
       clock = a .session .clock .0;
+      tag = tagOf (a .reply);
     }
 
 unfoldable pub linesFrom : ℕ → Session → List Call → List Line

@@ -97,9 +97,9 @@ micros x ms = record { rules = microDeadlines x (length ms); document = map (λ 
 abbrev pub leaves : ℕ → ℕ → Case
 leaves charge n = record { rules = (slots 25_000 250_000 (streamA (charge ∷ [])) ∷ []) ∷ []; document = (n ∷ []) ∷ [] }
 
--- what the program prints for a table and calls: number, answer, stream, value, clock
+-- what the program prints for a table and calls: number, answer, stream, value, clock, tag
 unfoldable pub row : Line → List ℕ
-row l = l .event ∷ l .answer ∷ l .stream ∷ l .value ∷ l .clock ∷ []
+row l = l .event ∷ l .answer ∷ l .stream ∷ l .value ∷ l .clock ∷ l .tag ∷ []
 
 abbrev pub prints : Table → List Call → List (List ℕ) → Case
 prints t calls rows = record { rules = map row (linesFrom 1 (openingOf t .session) calls); document = rows }
@@ -137,24 +137,24 @@ single = table 25_000 250_000 1 (25_000 ∷ []) (250_000 ∷ [])
 
 -- "two requests of 25,000", and the turn after them
 abbrev pub twoRequests : List Call
-twoRequests = Arrival 1 100 ∷ Arrival 1 100 ∷ Turn ∷ Done 25_000 ∷ Turn ∷ Done 25_000 ∷ Turn ∷ []
+twoRequests = Arrival 1 100 0 ∷ Arrival 1 100 0 ∷ Turn ∷ Done 25_000 ∷ Turn ∷ Done 25_000 ∷ Turn ∷ []
 
 -- one request of a duration, and one of the whole budget for each of two streams with one deadline
 abbrev pub oneRequest : ℕ → List Call
-oneRequest duration = Arrival 1 100 ∷ Turn ∷ Done duration ∷ []
+oneRequest duration = Arrival 1 100 0 ∷ Turn ∷ Done duration ∷ []
 
 abbrev pub twins : Table
 twins = table 25_000 250_000 1 (25_000 ∷ 25_000 ∷ []) (250_000 ∷ 250_000 ∷ [])
 
 abbrev pub bothUsedUp : List Call
-bothUsedUp = Arrival 2 100 ∷ Turn ∷ Done 50_000 ∷ oneRequest 50_000 ++ (Turn ∷ [])
+bothUsedUp = Arrival 2 100 0 ∷ Turn ∷ Done 50_000 ∷ oneRequest 50_000 ++ (Turn ∷ [])
 
 -- with a budget of 50,000: one request of a duration, and so many turns after it; of the two streams with one deadline the second has its budget used up and a turn follows, and before that the first has run 30,000 over
 abbrev pub thenTurns : ℕ → ℕ → List Call
 thenTurns duration n = oneRequest duration ++ replicate n Turn
 
 abbrev pub secondUsedUp : List Call
-secondUsedUp = Arrival 2 900 ∷ Turn ∷ Done 50_000 ∷ Turn ∷ []
+secondUsedUp = Arrival 2 900 0 ∷ Turn ∷ Done 50_000 ∷ Turn ∷ []
 
 abbrev pub firstOverruns : List Call
 firstOverruns = oneRequest 80_000 ++ secondUsedUp
@@ -164,29 +164,29 @@ unfoldable pub markedCases : List Case
 markedCases =
     prints
     listed
-    (Arrival 1 100
+    (Arrival 1 100 0
     ∷ Turn
     ∷ Done 5_000
     ∷ Turn
     ∷ Clock 105_000
     ∷ Turn
-    ∷ Arrival 2 900
+    ∷ Arrival 2 900 0
     ∷ Turn
     ∷ Clock 106_000
     ∷ Done 25_000
     ∷ Clock 160_000
     ∷ [])
-    ((1 ∷ 20 ∷ 1 ∷ 1 ∷ 0 ∷ [])
-    ∷ (2 ∷ 21 ∷ 1 ∷ 100 ∷ 0 ∷ [])
-    ∷ (3 ∷ 25 ∷ 1 ∷ 5_000 ∷ 5_000 ∷ [])
-    ∷ (4 ∷ 24 ∷ 0 ∷ 105_000 ∷ 5_000 ∷ [])
-    ∷ (5 ∷ 27 ∷ 0 ∷ 105_000 ∷ 105_000 ∷ [])
-    ∷ (6 ∷ 22 ∷ 2 ∷ 25_000 ∷ 105_000 ∷ [])
-    ∷ (7 ∷ 20 ∷ 2 ∷ 1 ∷ 105_000 ∷ [])
-    ∷ (8 ∷ 21 ∷ 2 ∷ 900 ∷ 105_000 ∷ [])
-    ∷ (9 ∷ 10 ∷ 0 ∷ 0 ∷ 105_000 ∷ [])
-    ∷ (10 ∷ 25 ∷ 2 ∷ 50_000 ∷ 130_000 ∷ [])
-    ∷ (11 ∷ 28 ∷ 0 ∷ 160_000 ∷ 160_000 ∷ [])
+    ((1 ∷ 20 ∷ 1 ∷ 1 ∷ 0 ∷ 0 ∷ [])
+    ∷ (2 ∷ 21 ∷ 1 ∷ 100 ∷ 0 ∷ 0 ∷ [])
+    ∷ (3 ∷ 25 ∷ 1 ∷ 5_000 ∷ 5_000 ∷ 0 ∷ [])
+    ∷ (4 ∷ 24 ∷ 0 ∷ 105_000 ∷ 5_000 ∷ 0 ∷ [])
+    ∷ (5 ∷ 27 ∷ 0 ∷ 105_000 ∷ 105_000 ∷ 0 ∷ [])
+    ∷ (6 ∷ 22 ∷ 2 ∷ 25_000 ∷ 105_000 ∷ 0 ∷ [])
+    ∷ (7 ∷ 20 ∷ 2 ∷ 1 ∷ 105_000 ∷ 0 ∷ [])
+    ∷ (8 ∷ 21 ∷ 2 ∷ 900 ∷ 105_000 ∷ 0 ∷ [])
+    ∷ (9 ∷ 10 ∷ 0 ∷ 0 ∷ 105_000 ∷ 0 ∷ [])
+    ∷ (10 ∷ 25 ∷ 2 ∷ 50_000 ∷ 130_000 ∷ 0 ∷ [])
+    ∷ (11 ∷ 28 ∷ 0 ∷ 160_000 ∷ 160_000 ∷ 0 ∷ [])
     ∷ [])
     ∷ admits (alone 1 950_000) 0
     ∷ admits (alone 1 950_001) 7
@@ -203,16 +203,16 @@ markedCases =
     ∷ prints
     single
     twoRequests
-    ((1 ∷ 20 ∷ 1 ∷ 1 ∷ 0 ∷ [])
-    ∷ (2 ∷ 20 ∷ 1 ∷ 2 ∷ 0 ∷ [])
-    ∷ (3 ∷ 21 ∷ 1 ∷ 100 ∷ 0 ∷ [])
-    ∷ (4 ∷ 25 ∷ 1 ∷ 25_000 ∷ 25_000 ∷ [])
-    ∷ (5 ∷ 21 ∷ 1 ∷ 100 ∷ 25_000 ∷ [])
-    ∷ (6 ∷ 25 ∷ 1 ∷ 50_000 ∷ 50_000 ∷ [])
-    ∷ (7 ∷ 23 ∷ 0 ∷ 500_000 ∷ 50_000 ∷ [])
+    ((1 ∷ 20 ∷ 1 ∷ 1 ∷ 0 ∷ 0 ∷ [])
+    ∷ (2 ∷ 20 ∷ 1 ∷ 2 ∷ 0 ∷ 0 ∷ [])
+    ∷ (3 ∷ 21 ∷ 1 ∷ 100 ∷ 0 ∷ 0 ∷ [])
+    ∷ (4 ∷ 25 ∷ 1 ∷ 25_000 ∷ 25_000 ∷ 0 ∷ [])
+    ∷ (5 ∷ 21 ∷ 1 ∷ 100 ∷ 25_000 ∷ 0 ∷ [])
+    ∷ (6 ∷ 25 ∷ 1 ∷ 50_000 ∷ 50_000 ∷ 0 ∷ [])
+    ∷ (7 ∷ 23 ∷ 0 ∷ 500_000 ∷ 50_000 ∷ 0 ∷ [])
     ∷ [])
     ∷ records single twoRequests 0 (50_000 ∷ 50_000 ∷ 250_000 ∷ 0 ∷ 0 ∷ [])
-    ∷ answers listed (replicate 17 (Arrival 1 5)) (replicate 16 20 ++ (9 ∷ []))
+    ∷ answers listed (replicate 17 (Arrival 1 5 0)) (replicate 16 20 ++ (9 ∷ []))
     ∷ []
 
 -- the lines of the document that are not marked, and what else a reader may ask: a duration of W, W + 1, 0, 10,000,000 and 10,000,001; a clock at L = 200,000, at L + 1, and at the present time past L; two streams that share a deadline both close; stream 1's 6 comes before stream 2's 5; document 02, Req 02, "A padding of 0 in a table now stands for 3": the lines of k 3 are those of k 0, and two tables that opened with 0 while it stood for 1 give 7 and 6 now; Req 03, "the new job starts with the old charge less the granted budget, or zero if that is negative": two due streams of which one has overrun, a charge above three budgets over three closings and one above four over five, one that just reaches the budget, one above it by 1, one below it, and a completion after a carry; Req 05, "the exact margin, span less load": of the listing's table, of one whose load is the span and of the same with a reserved time raised by 1, of the stream alone that is over by 1, and of one that 6 refuses; Req 06, "the horizon less the sum divided by the span, rounded down, is below 0 or does not fit 64 unsigned bits": numbers of no sound session that are told a moment, a span of 0, rounded once, at 0 and just below it, at the last moment of 64 bits and just past it, with the least sum of 64 bits, of the listing after its third call, and after an overrun and the move that carries it
@@ -253,15 +253,15 @@ otherCases =
     ∷ prints
     single
     (thenTurns 170_000 3 ++ oneRequest 10_000)
-    ((1 ∷ 20 ∷ 1 ∷ 1 ∷ 0 ∷ [])
-    ∷ (2 ∷ 21 ∷ 1 ∷ 100 ∷ 0 ∷ [])
-    ∷ (3 ∷ 26 ∷ 1 ∷ 170_000 ∷ 170_000 ∷ [])
-    ∷ (4 ∷ 23 ∷ 0 ∷ 500_000 ∷ 170_000 ∷ [])
-    ∷ (5 ∷ 23 ∷ 0 ∷ 750_000 ∷ 170_000 ∷ [])
-    ∷ (6 ∷ 23 ∷ 0 ∷ 1_000_000 ∷ 170_000 ∷ [])
-    ∷ (7 ∷ 20 ∷ 1 ∷ 1 ∷ 170_000 ∷ [])
-    ∷ (8 ∷ 21 ∷ 1 ∷ 100 ∷ 170_000 ∷ [])
-    ∷ (9 ∷ 25 ∷ 1 ∷ 30_000 ∷ 180_000 ∷ [])
+    ((1 ∷ 20 ∷ 1 ∷ 1 ∷ 0 ∷ 0 ∷ [])
+    ∷ (2 ∷ 21 ∷ 1 ∷ 100 ∷ 0 ∷ 0 ∷ [])
+    ∷ (3 ∷ 26 ∷ 1 ∷ 170_000 ∷ 170_000 ∷ 0 ∷ [])
+    ∷ (4 ∷ 23 ∷ 0 ∷ 500_000 ∷ 170_000 ∷ 0 ∷ [])
+    ∷ (5 ∷ 23 ∷ 0 ∷ 750_000 ∷ 170_000 ∷ 0 ∷ [])
+    ∷ (6 ∷ 23 ∷ 0 ∷ 1_000_000 ∷ 170_000 ∷ 0 ∷ [])
+    ∷ (7 ∷ 20 ∷ 1 ∷ 1 ∷ 170_000 ∷ 0 ∷ [])
+    ∷ (8 ∷ 21 ∷ 1 ∷ 100 ∷ 170_000 ∷ 0 ∷ [])
+    ∷ (9 ∷ 25 ∷ 1 ∷ 30_000 ∷ 180_000 ∷ 0 ∷ [])
     ∷ [])
     ∷ opens listed 0 300_000 0
     ∷ opens (crowded 9_380) 0 0 0

@@ -1,10 +1,9 @@
 -- Which request the house sends, and which slot expires.
 use mathlib.Core.Bool.{Bool, _&&_, _||_}
 use Prim.Native.Nat.{ℕ}
-use lib.ListN.{getD}
 use lib.Dec.{leb, ltb, eqb}
 use Rattle.stream.specs.Choice.{firstBest, distance, nearest, expiresFirst}
-use Rattle.session.specs.Session.{streamAt, slotsAt, filledAt}
+use Rattle.session.specs.Session.{streamAt, placeAt, slotsAt, filledAt}
 use Rattle.session.specs.declared.Session.{Session}
 
 -- a stream's request of the set that would be sent, and how far it is from the head
@@ -12,7 +11,7 @@ abbrev pub nearestAt : Session → ℕ → ℕ
 nearestAt s i = nearest (s .head) (streamAt s i .places) (filledAt s i)
 
 abbrev pub distanceAt : Session → ℕ → ℕ
-distanceAt s i = distance (s .head) (getD (streamAt s i .places) (nearestAt s i) 0)
+distanceAt s i = distance (s .head) (placeAt s i (nearestAt s i))
 
 -- "Take the earliest deadline among streams with a filled slot; of the set's requests from streams with that deadline, the place nearest the head"
 unfoldable pub sentBefore : Session → ℕ → ℕ → Bool

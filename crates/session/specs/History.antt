@@ -73,7 +73,7 @@ abbrev pub completes : ℕ → Moment → Bool
 completes i m = (replied 25 m || replied 26 m) && concerns i m
 
 abbrev pub durationOf : Call → ℕ
-durationOf (Call.Arrival n place) = 0
+durationOf (Call.Arrival n place tag) = 0
 durationOf Call.Turn = 0
 durationOf (Call.OwnTurn n j) = 0
 durationOf (Call.Done a) = a

@@ -4,7 +4,6 @@ use mathlib.Core.Bool.{true, false}
 use mathlib.Core.List.{List, map}
 use mathlib.Core.Logic.{_↔_}
 use Prim.Native.Nat.{ℕ, _+_, _-_, _*_, _≤_, _<_}
-use lib.ListN.{getD}
 use Rattle.table.specs.Fold.{sumTo}
 use Rattle.table.specs.Admission.{admissionOf}
 use Rattle.table.specs.Whole.{aboveZero, belowZero}
@@ -14,7 +13,7 @@ use Rattle.time.specs.Time.{session-end, moment}
 use Rattle.time.specs.declared.Clock.{Clock}
 use Rattle.time.specs.declared.remainders.Latest.the-variants.{At}
 use Rattle.stream.specs.Laws.{CarriedOn, GoesFirst}
-use Rattle.session.specs.Session.{streamAt, horizon, slotsAt, filledAt, inSet, someFilled, noSlot, scaledPart, latest, asked, tableOf, sound}
+use Rattle.session.specs.Session.{streamAt, placeAt, horizon, slotsAt, filledAt, inSet, someFilled, noSlot, scaledPart, latest, asked, tableOf, sound}
 use Rattle.stream.specs.Choice.{distance}
 use Rattle.session.specs.Choice.{nearestAt, sentBefore, chosen, expiresBefore, expiring}
 use Rattle.calls.specs.Replies.{numberOf}
@@ -147,9 +146,10 @@ RemaindersAreBounded =
 pub record Request : Type 0 where
   pub stream : ℕ
   pub place : ℕ
+  pub tag : ℕ
 
 abbrev pub arriving : List Request → List Call
-arriving requests = map (λ (r : Request). Call.Arrival (r .stream) (r .place)) requests
+arriving requests = map (λ (r : Request). Call.Arrival (r .stream) (r .place) (r .tag)) requests
 
 abbrev pub ForeignRequestFits : Type 0
 ForeignRequestFits =
@@ -172,7 +172,7 @@ abbrev pub SentGoesFirst : Type 0
 SentGoesFirst =
     (s : Session) (i j : ℕ) → someFilled s ≡ true → i < s .count → inSet s i j ≡ true
     → let due : ℕ → ℕ = λ a. streamAt s a .deadline .0 in
-    let far : ℕ → ℕ → ℕ = λ a b. distance (s .head) (getD (streamAt s a .places) b 0) in
+    let far : ℕ → ℕ → ℕ = λ a b. distance (s .head) (placeAt s a b) in
     let stream = chosen s in
     let request = nearestAt s stream in
     (due stream ≤ due i)

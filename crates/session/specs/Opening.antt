@@ -23,7 +23,7 @@ openedStream t i =
     (freshStream (reservedAt t i) (periodAt t i) (grantedOf (t .worst) (t .padding) (reservedAt t i)))
     (freshStream 0 0 0)
 
--- "Clock t, starting at 0. Head place, starting at 0. The stream and place of the request at the disk, none at first." Of the margin, document 02, Req 05: "the session keeps it when admitted". This is the session before it looks ahead, with 0 for the horizon and the sum that it will keep.
+-- "Clock t, starting at 0. Head place, starting at 0. The stream and place of the request at the disk, none at first", and no tag. Of the margin, document 02, Req 05: "the session keeps it when admitted". This is the session before it looks ahead, with 0 for the horizon and the sum that it will keep.
 abbrev pub openedSession : Table → Session
 openedSession t =
     record {
@@ -38,6 +38,7 @@ openedSession t =
       head = 0;
       served = 0;
       place = 0;
+      tag = 0;
       streams = listTo (openedStream t) streams-max;
     }
 
@@ -60,6 +61,7 @@ zeroSession =
       head = 0;
       served = 0;
       place = 0;
+      tag = 0;
       streams = replicate streams-max (freshStream 0 0 0);
     }
 

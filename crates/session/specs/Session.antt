@@ -34,12 +34,20 @@ noStream =
       start = diskTime 0;
       queued = 0;
       places = [];
+      tags = [];
       last = record { charge = diskTime 0; closed = moment 0; deadline = moment 0; expired = 0; start = diskTime 0 };
     }
 
 -- a stream of a session, counted from 0
 abbrev pub streamAt : Session → ℕ → Stream
 streamAt s i = getD (s .streams) i noStream
+
+-- the place and the tag of its queued request j: "A queued request becomes a place with a tag of 32 bits."
+abbrev pub placeAt : Session → ℕ → ℕ → ℕ
+placeAt s i j = getD (streamAt s i .places) j 0
+
+abbrev pub tagAt : Session → ℕ → ℕ → ℕ
+tagAt s i j = getD (streamAt s i .tags) j 0
 
 -- "Horizon h = smallest deadline."
 unfoldable pub horizon : Session → ℕ
@@ -95,10 +103,10 @@ tableOf s =
       period = map (λ x. x .period) (s .streams);
     }
 
--- "the stream at the disk, if any, exists and has a slot"; "every unused cell is 0 (.. the place while nothing is at the disk)"
+-- "the stream at the disk, if any, exists and has a slot"; "every unused cell is 0 (.. the place while nothing is at the disk)", and so is the tag
 unfoldable pub soundDisk : Session → Bool
 soundDisk s =
-    if (eqb (s .served) 0) (eqb (s .place) 0) (leb (s .served) (s .count) && leb 1 (slotsAt s (s .served - 1)))
+    if (eqb (s .served) 0) (eqb (s .place) 0 && eqb (s .tag) 0) (leb (s .served) (s .count) && leb 1 (slotsAt s (s .served - 1)))
 
 -- "every unused cell is 0 (.. streams past the count ..)". The array has eight cells.
 unfoldable pub soundRest : List Stream → ℕ → Bool
@@ -140,15 +148,16 @@ withStreams s streams =
       head = s .head;
       served = s .served;
       place = s .place;
+      tag = s .tag;
       streams = streams;
     }
 
 abbrev pub withStream : Session → ℕ → Stream → Session
 withStream s i x = withStreams s (set (s .streams) i x)
 
--- a session with another clock, and another request at the disk: its stream counted from 1 and its place, or 0 and 0
-abbrev pub withDisk : Session → Clock → ℕ → ℕ → ℕ → Session
-withDisk s clock head served place =
+-- a session with another clock, and another request at the disk: its stream counted from 1, its place and its tag, or zeros
+abbrev pub withDisk : Session → Clock → ℕ → ℕ → ℕ → ℕ → Session
+withDisk s clock head served place tag =
     record {
       worst = s .worst;
       span = s .span;
@@ -161,6 +170,7 @@ withDisk s clock head served place =
       head = head;
       served = served;
       place = place;
+      tag = tag;
       streams = s .streams;
     }
 
@@ -179,6 +189,7 @@ withAhead s horizon remainders =
       head = s .head;
       served = s .served;
       place = s .place;
+      tag = s .tag;
       streams = s .streams;
     }
 

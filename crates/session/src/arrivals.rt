@@ -7,9 +7,9 @@ use calls::Call;
 use stream::Stream;
 
 impl Session {
-    // A request of a stream, counted from 1, at a place: 8, 9.
-    pub fn arrival(self, stream: u64, place: u64) -> Answer
-        ensures { λ r. ⌜ r ≡ answerTo self (Call.Arrival stream place) ⌝ }
+    // A request of a stream, counted from 1, at a place, with the host's tag: 8, 9.
+    pub fn arrival(self, stream: u64, place: u64, tag: u32) -> Answer
+        ensures { λ r. ⌜ r ≡ answerTo self (Call.Arrival stream place tag) ⌝ }
     {
         if !self.is_sound() {
             return self.refuse(31);
@@ -22,6 +22,6 @@ impl Session {
         if x.queued == Stream::QUEUE_MAX {
             return self.refuse(9);
         }
-        self.append(n, place)
+        self.append(n, place, tag)
     }
 }

@@ -11,8 +11,8 @@ impl Session {
         ensures { λ r. ⌜ r ≡ answerTo self call ⌝ }
     {
         match call {
-            Call::Arrival { stream, place } => {
-                return self.arrival(stream, place);
+            Call::Arrival { stream, place, tag } => {
+                return self.arrival(stream, place, tag);
             }
             Call::Turn => {
                 return self.turn();

@@ -23,12 +23,12 @@ impl Session {
     }
 
     // A request is put at the end of a stream's queue.
-    pub(crate) fn append(mut self, n: usize, place: u64) -> Answer
-        requires { ⌜ Due self (append n place) ⌝ }
-        ensures { λ r. ⌜ r ≡ outcome self (append n place) ⌝ }
+    pub(crate) fn append(mut self, n: usize, place: u64, tag: u32) -> Answer
+        requires { ⌜ Due self (append n place tag) ⌝ }
+        ensures { λ r. ⌜ r ≡ outcome self (append n place tag) ⌝ }
     {
         let x = self.streams[n];
-        let y = x.arrived(place);
+        let y = x.arrived(place, tag);
         self.streams[n] = y;
         let number = n as u64 + 1;
         let reply = Reply::Arrived {
@@ -49,15 +49,19 @@ impl Session {
         let x = self.streams[n];
         let places = x.places;
         let place = places[index];
+        let tags = x.tags;
+        let tag = tags[index];
         let y = x.without(index);
         self.streams[n] = y;
         self.head = place;
         self.served = n + 1;
         self.place = place;
+        self.tag = tag;
         let number = n as u64 + 1;
         let reply = Reply::Sent {
             stream: number,
             place: place,
+            tag: tag,
         };
         Answer {
             session: self,
@@ -125,12 +129,13 @@ impl Session {
         }
     }
 
-    // The request at the disk has ended: the clock and the charge of its stream both grow by what it took. That is overlong above W.
+    // The request at the disk has ended: the clock and the charge of its stream both grow by what it took, and its tag is handed back. It is overlong above W.
     pub(crate) fn finish(mut self, n: usize, taken: Charge) -> Answer
         requires { ⌜ Due self (finish n (taken .0)) ⌝ }
         ensures { λ r. ⌜ r ≡ outcome self (finish n (taken .0)) ⌝ }
     {
         let overlong = taken.is_over(self.worst);
+        let tag = self.tag;
         let end = self.clock.after(taken);
         let x = self.streams[n];
         let y = x.charged(taken);
@@ -141,15 +146,18 @@ impl Session {
         self.clock = end;
         self.served = 0;
         self.place = 0;
+        self.tag = 0;
         let number = n as u64 + 1;
         let mut reply = Reply::Done {
             stream: number,
             charge: charge,
+            tag: tag,
         };
         if overlong {
             reply = Reply::Overlong {
                 stream: number,
                 charge: charge,
+                tag: tag,
             };
         }
         Answer {

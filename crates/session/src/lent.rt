@@ -28,10 +28,10 @@ impl Session {
         Session::open(table)
     }
 
-    pub fn arrival_lent(&mut self, stream: u64, place: u64) -> Reply
-        ensures { λ r. ⌜ (r ≡ answerTo (now (self .entry)) (Call.Arrival stream place) .reply) × (now (self .exit) ≡ answerTo (now (self .entry)) (Call.Arrival stream place) .session) ⌝ }
+    pub fn arrival_lent(&mut self, stream: u64, place: u64, tag: u32) -> Reply
+        ensures { λ r. ⌜ (r ≡ answerTo (now (self .entry)) (Call.Arrival stream place tag) .reply) × (now (self .exit) ≡ answerTo (now (self .entry)) (Call.Arrival stream place tag) .session) ⌝ }
     {
-        let a = (*self).arrival(stream, place);
+        let a = (*self).arrival(stream, place, tag);
         *self = a.session;
         a.reply
     }

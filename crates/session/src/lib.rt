@@ -28,7 +28,7 @@ use time::Charge;
 use time::Clock;
 use time::Remainders;
 
-// The first `count` of the eight streams are used. The margin is that of the table; the horizon is the smallest deadline, and the sum of all remainders is scaled by the span. `served` is the stream whose request is at the disk, counted from 1, or 0.
+// The first `count` of the eight streams are used. The margin is that of the table; the horizon is the smallest deadline, and the sum of all remainders is scaled by the span. `served` is the stream whose request is at the disk, counted from 1, with its place and its tag, or zeros.
 pub struct Session {
     pub worst: u32,
     pub span: u32,
@@ -41,6 +41,7 @@ pub struct Session {
     pub head: u64,
     pub served: usize,
     pub place: u64,
+    pub tag: u32,
     pub streams: [Stream; Table::STREAMS_MAX],
 }
 
@@ -99,6 +100,7 @@ impl Session {
             head: 0,
             served: 0,
             place: 0,
+            tag: 0,
             streams: streams,
         }
     }
@@ -124,6 +126,7 @@ fn fresh(t: Table, margin: Margin) -> Session
         head: 0,
         served: 0,
         place: 0,
+        tag: 0,
         streams: streams,
     };
     let h = session.soonest();

@@ -31,7 +31,7 @@ impl Session {
             return false;
         }
         if self.served == 0 {
-            return self.place == 0;
+            return (self.place == 0) & (self.tag == 0);
         }
         let n = self.served - 1;
         let x = self.streams[n];

@@ -5,7 +5,7 @@ use mathlib.Core.Path.{_≡_, refl, sym}
 use mathlib.Core.Logic.{⊎-elim}
 use Prim.Native.Nat.{ℕ, _+_, _*_, _/_, _≤_, _<_}
 use native.Mathlib.Omega.{arith}
-use lib.ListN.{length, getD, getD-replicate}
+use lib.ListN.{length, getD, replicate, getD-replicate}
 use lib.Dec.{leb, ltb, eqb}
 use borrow.Author.Tests.{leb-true, eqb-true, le-leb, lt-ltb, le-ltb, eq-eqb}
 use Rattle.table.specs.Ranges.{worst-max}
@@ -14,7 +14,7 @@ use Rattle.table.proofs.Tests.{both, le-or-lt}
 use Rattle.table.proofs.Folds.{all-at, all-of}
 use Rattle.table.proofs.Judged.{Fits-in, stream-of as fits-of}
 use Rattle.time.specs.Time.{session-end, duration-max}
-use Rattle.stream.specs.Stream.{queue-max, freshStream, worked, closed, soundQueue, soundCells, soundStream}
+use Rattle.stream.specs.Stream.{queue-max, freshStream, worked, closed, soundRow, soundQueue, soundCells, soundStream}
 use Rattle.stream.specs.Bounds.{Bounded}
 use Rattle.stream.specs.Search.{inOrder}
 use Rattle.time.specs.declared.Clock.{Clock}
@@ -25,36 +25,52 @@ pub used-or-zero : (a b : Bool) → (a || b) ≡ true → a ≡ false → b ≡ 
 used-or-zero true b h n = absurd (false≢true (sym n))
 used-or-zero false b h n = h
 
-pub record Queue (x : Stream) : Type 0 where
-  pub queued-high : x .queued ≤ queue-max
-  pub cells : length (x .places) ≡ queue-max
-  pub unused : (j : ℕ) → x .queued ≤ j → j < queue-max → getD (x .places) j 0 ≡ 0
+-- a row of a queue: its places, or its tags
+pub record Row (queued : ℕ) (cells : List ℕ) : Type 0 where
+  pub queued-high : queued ≤ queue-max
+  pub sixteen : length cells ≡ queue-max
+  pub unused : (j : ℕ) → queued ≤ j → j < queue-max → getD cells j 0 ≡ 0
 
-pub queue-of : (x : Stream) → soundQueue (x .places) (x .queued) ≡ true → Queue x
-unfolding soundQueue
-queue-of x h =
+pub row-of : (queued : ℕ) (cells : List ℕ) → soundRow cells queued ≡ true → Row queued cells
+unfolding soundRow
+row-of queued cells h =
     let a = both _ _ h in
     let b = both _ _ (a .0) in
     record {
       queued-high = leb-true _ _ (b .1);
-      cells = eqb-true _ _ (b .0);
-      unused = λ j past l. eqb-true _ _ (used-or-zero _ _ (all-at _ queue-max (a .1) j l) (le-ltb j (x .queued) past));
+      sixteen = eqb-true _ _ (b .0);
+      unused = λ j past l. eqb-true _ _ (used-or-zero _ _ (all-at _ queue-max (a .1) j l) (le-ltb j queued past));
     }
 
 pub or-right : (a b : Bool) → b ≡ true → (a || b) ≡ true
 or-right true b h = refl
 or-right false b h = h
 
-pub of-queue : (x : Stream) → Queue x → soundQueue (x .places) (x .queued) ≡ true
-unfolding soundQueue
-of-queue x q =
-    rw (eq-eqb _ _ (q .cells), le-leb _ _ (q .queued-high))
-    (all-of (λ j. ltb j (x .queued) || eqb (getD (x .places) j 0) 0) queue-max
+of-row : (queued : ℕ) (cells : List ℕ) → Row queued cells → soundRow cells queued ≡ true
+unfolding soundRow
+of-row queued cells q =
+    rw (eq-eqb _ _ (q .sixteen), le-leb _ _ (q .queued-high))
+    (all-of (λ j. ltb j queued || eqb (getD cells j 0) 0) queue-max
     (λ j l.
     ⊎-elim
-    (λ (past : x .queued ≤ j). or-right (ltb j (x .queued)) _ (eq-eqb _ _ (q .unused j past l)))
-    (λ (here : j < x .queued). rw (lt-ltb j (x .queued) here))
-    (le-or-lt (x .queued) j)))
+    (λ (past : queued ≤ j). or-right (ltb j queued) _ (eq-eqb _ _ (q .unused j past l)))
+    (λ (here : j < queued). rw (lt-ltb j queued here))
+    (le-or-lt queued j)))
+
+-- both of them
+pub record Queue (queued : ℕ) (at aside : List ℕ) : Type 0 where
+  pub places : Row queued at
+  pub tags : Row queued aside
+
+pub queue-of : (queued : ℕ) (places tags : List ℕ) → soundQueue places tags queued ≡ true → Queue queued places tags
+unfolding soundQueue
+queue-of queued places tags h =
+    let rows = both _ _ h in
+    record { places = row-of queued places (rows .0); tags = row-of queued tags (rows .1) }
+
+of-queue : (queued : ℕ) (places tags : List ℕ) → Queue queued places tags → soundQueue places tags queued ≡ true
+unfolding soundQueue
+of-queue queued places tags q = rw (of-row queued places (q .places), of-row queued tags (q .tags))
 
 pub record InOrder (worst k h : ℕ) (x : Stream) : Type 0 where
   pub budget : x .granted .0 ≡ grantedOf worst k (x .reserved)
@@ -63,25 +79,25 @@ pub record InOrder (worst k h : ℕ) (x : Stream) : Type 0 where
   pub deadline-high : x .deadline .0 ≤ session-end
   pub charge-high : x .charge .0 ≤ x .granted .0 + duration-max
   pub covered : x .start .0 + worst * x .expired ≤ x .charge .0
-  pub queue : Queue x
+  pub queue : Queue (x .queued) (x .places) (x .tags)
 
 pub stream-of : (worst k h : ℕ) (x : Stream) → soundStream worst k h x ≡ true → InOrder worst k h x
 unfolding soundStream soundCells
 stream-of worst k h x t =
-    let a = both _ _ t in
-    let b = both _ _ (a .0) in
-    let d = both _ _ (b .0) in
-    let e = both _ _ (d .0) in
-    let f = both _ _ (e .0) in
-    let g = both _ _ (f .0) in
+    let release = both _ _ t in
+    let queue = both _ _ (release .0) in
+    let covered = both _ _ (queue .0) in
+    let charge = both _ _ (covered .0) in
+    let deadline = both _ _ (charge .0) in
+    let due = both _ _ (deadline .0) in
     record {
-      budget = eqb-true _ _ (g .0);
-      due = eqb-true _ _ (g .1);
-      released = leb-true _ _ (a .1);
-      deadline-high = leb-true _ _ (f .1);
-      charge-high = leb-true _ _ (e .1);
-      covered = leb-true _ _ (d .1);
-      queue = queue-of x (b .1);
+      budget = eqb-true _ _ (due .0);
+      due = eqb-true _ _ (due .1);
+      released = leb-true _ _ (release .1);
+      deadline-high = leb-true _ _ (deadline .1);
+      charge-high = leb-true _ _ (charge .1);
+      covered = leb-true _ _ (covered .1);
+      queue = queue-of _ _ _ (queue .1);
     }
 
 pub of-stream : (worst k h : ℕ) (x : Stream) → InOrder worst k h x → soundStream worst k h x ≡ true
@@ -93,7 +109,7 @@ of-stream worst k h x q =
       le-leb _ _ (q .deadline-high),
       le-leb _ _ (q .charge-high),
       le-leb _ _ (q .covered),
-      of-queue x (q .queue),
+      of-queue _ _ _ (q .queue),
       le-leb _ _ (q .released),
     )
 
@@ -111,9 +127,9 @@ module _ (worst k h : ℕ) (x : Stream) (q : InOrder worst k h x) where
         queue = q .queue;
       }
 
-  pub worked-order : (charge expired queued : ℕ) (places : List ℕ) → charge ≤ x .granted .0 + duration-max → x .start .0 + worst * expired ≤ charge
-      → Queue (worked x charge expired queued places) → InOrder worst k h (worked x charge expired queued places)
-  worked-order charge expired queued places high low queue =
+  pub worked-order : (charge expired queued : ℕ) (places tags : List ℕ) → charge ≤ x .granted .0 + duration-max → x .start .0 + worst * expired ≤ charge
+      → Queue queued places tags → InOrder worst k h (worked x charge expired queued places tags)
+  worked-order charge expired queued places tags high low queue =
       record {
         budget = q .budget;
         due = q .due;
@@ -125,7 +141,7 @@ module _ (worst k h : ℕ) (x : Stream) (q : InOrder worst k h x) where
       }
 
   pub closed-order : (now : Clock) (later : ℕ) → x .deadline .0 ≤ later → x .deadline .0 + x .period ≤ session-end → InOrder worst k later (closed now x)
-  unfolding closed soundQueue
+  unfolding closed
   closed-order now later le in-time =
       record {
         budget = q .budget;
@@ -134,8 +150,11 @@ module _ (worst k h : ℕ) (x : Stream) (q : InOrder worst k h x) where
         deadline-high = in-time;
         charge-high = omega (arith, q .charge-high);
         covered = omega arith;
-        queue = queue-of (closed now x) (of-queue x (q .queue));
+        queue = q .queue;
       }
+
+no-request : Row 0 (replicate queue-max 0)
+no-request = record { queued-high = omega arith; sixteen = refl; unused = λ j past m. getD-replicate queue-max j 0 0 m }
 
 pub fresh-order : (worst k h e p : ℕ) → p ≤ session-end → InOrder worst k h (freshStream e p (grantedOf worst k e))
 unfolding freshStream
@@ -147,11 +166,7 @@ fresh-order worst k h e p high =
       deadline-high = high;
       charge-high = omega arith;
       covered = omega arith;
-      queue = record {
-        queued-high = omega arith;
-        cells = refl;
-        unused = λ j past m. getD-replicate queue-max j 0 0 m;
-      };
+      queue = record { places = no-request; tags = no-request };
     }
 
 -- A used stream, by its reservation and its cells: what the inner functions ask, and what is tested of it.
@@ -175,7 +190,7 @@ module _ (worst span k h : ℕ) (x : Stream) where
         ahead = ahead;
         charge-high = q .charge-high;
         covered = q .covered;
-        queued-high = q .queue .queued-high;
+        queued-high = q .queue .places .queued-high;
       }
 
   pub of-order : streamRefusal worst span k (x .reserved) (x .period) ≡ 0 → InOrder worst k h x → h ≤ x .deadline .0 → inOrder worst span k h x ≡ true

@@ -1,4 +1,4 @@
--- A queue that closes up over the place at j, cell by cell.
+-- A queue that closes up over the request at j, cell by cell: so its places, and so its tags.
 use mathlib.Core.List.{List, [], _∷_, _++_, map-id}
 use mathlib.Core.Path.{_≡_, sym, _∙_, ap, subst}
 use Prim.Native.Nat.{ℕ, suc, _+_, _≤_, _<_}
@@ -11,7 +11,7 @@ use Rattle.stream.specs.Stream.{closedUp}
 
 -- what the queue closed up has in a cell
 abbrev pub closedCell : List ℕ → ℕ → ℕ → ℕ
-closedCell places j x = getD (closedUp j places) x 0
+closedCell cells j x = getD (closedUp j cells) x 0
 
 module _ (places : List ℕ) (j : ℕ) (cells : length places ≡ 16) (hj : j < 16) where
   abbrev cell : ℕ → ℕ

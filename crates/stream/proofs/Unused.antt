@@ -1,6 +1,8 @@
 -- An unused stream is the stream of zeros: each of its tests says one cell.
 use mathlib.Core.Bool.{true}
+use mathlib.Core.List.{List}
 use mathlib.Core.Path.{_≡_, refl, ap}
+use Prim.Native.Nat.{ℕ}
 use native.Mathlib.Omega.{arith}
 use lib.ListN.{replicate}
 use borrow.Author.Tests.{eqb-true}
@@ -8,19 +10,19 @@ use Rattle.table.specs.Fold.{listTo, allTo}
 use Rattle.table.proofs.Tests.{both}
 use Rattle.table.proofs.Lists.{filled-on, filled-all}
 use Rattle.time.specs.Time.{moment, diskTime}
-use Rattle.stream.specs.Stream.{queue-max, freshStream, soundQueue, zeroJob, unusedStream}
+use Rattle.stream.specs.Stream.{queue-max, freshStream, soundRow, soundQueue, zeroJob, unusedStream}
 use Rattle.stream.specs.Laws.{UnusedIsZero}
 use Rattle.stream.specs.declared.Job.{Job}
 use Rattle.stream.specs.declared.Stream.{Stream}
-use Rattle.stream.proofs.Orderly.{Queue, queue-of}
+use Rattle.stream.proofs.Orderly.{Row, queue-of}
 
--- a queue of which no place is used
-empty-queue : (x : Stream) → x .queued ≡ 0 → Queue x → x .places ≡ replicate queue-max 0
+-- a row of a queue with no request
+empty-row : (cells : List ℕ) → Row 0 cells → cells ≡ replicate queue-max 0
 unfolding listTo
-empty-queue x none q =
-    filled-all (λ j. 0) (x .places) queue-max
-    (filled-on (λ j. 0) (x .places) 0 0 queue-max (omega arith) (λ j low l. q .unused j (omega (arith, none)) l)
-    (record { cells = q .cells; front = refl }))
+empty-row cells q =
+    filled-all (λ j. 0) cells queue-max
+    (filled-on (λ j. 0) cells 0 0 queue-max (omega arith) (λ j low l. q .unused j (omega arith) l)
+    (record { cells = q .sixteen; front = refl }))
 
 no-job : (j : Job) → zeroJob j ≡ true → j ≡ record { charge = diskTime 0; closed = moment 0; deadline = moment 0; expired = 0; start = diskTime 0 }
 unfolding zeroJob
@@ -43,6 +45,7 @@ zeros x t =
     let last = both _ _ t in
     let queue = both _ _ (last .0) in
     let queued = both _ _ (queue .0) in
+    let rows = queue-of 0 (x .places) (x .tags) (queue .1) in
     let start = both _ _ (queued .0) in
     let expired = both _ _ (start .0) in
     let charge = both _ _ (expired .0) in
@@ -50,8 +53,6 @@ zeros x t =
     let release = both _ _ (deadline .0) in
     let granted = both _ _ (release .0) in
     let period = both _ _ (granted .0) in
-    let none : x .queued ≡ 0 = eqb-true (x .queued) 0 (queued .1) in
-    let places = empty-queue x none (queue-of x (rw none (queue .1))) in
     λ i. record {
       reserved = eqb-true (x .reserved) 0 (period .0) i;
       period = eqb-true (x .period) 0 (period .1) i;
@@ -61,11 +62,12 @@ zeros x t =
       charge = diskTime (eqb-true (x .charge .0) 0 (charge .1) i);
       expired = eqb-true (x .expired) 0 (expired .1) i;
       start = diskTime (eqb-true (x .start .0) 0 (start .1) i);
-      queued = none i;
-      places = places i;
+      queued = eqb-true (x .queued) 0 (queued .1) i;
+      places = empty-row (x .places) (rows .places) i;
+      tags = empty-row (x .tags) (rows .tags) i;
       last = no-job (x .last) (last .1) i;
     }
 
 pub unused-is-zero : UnusedIsZero
-unfolding unusedStream freshStream soundQueue zeroJob allTo
+unfolding unusedStream freshStream soundRow soundQueue zeroJob allTo
 unused-is-zero x = (zeros x, λ e. ap unusedStream e)

@@ -13,7 +13,7 @@ use Rattle.time.specs.declared.Clock.{Clock}
 use Rattle.stream.specs.declared.Job.{Job}
 use Rattle.stream.specs.declared.Stream.{Stream}
 
--- "a queue of up to 16 places in order of arrival"
+-- "a queue of up to 16 places in order of arrival", and document 02, Req 07: "A queued request becomes a place with a tag of 32 bits." The tags stand beside the places, each at the index of its place.
 abbrev pub queue-max : ℕ
 queue-max = 16
 
@@ -31,6 +31,7 @@ freshStream e p g =
       start = diskTime 0;
       queued = 0;
       places = replicate queue-max 0;
+      tags = replicate queue-max 0;
       last = record { charge = diskTime 0; closed = moment 0; deadline = moment 0; expired = 0; start = diskTime 0 };
     }
 
@@ -56,8 +57,8 @@ abbrev pub partOf : ℕ → ℕ → Stream → ℕ
 partOf span h x = (h - x .release .0) * x .granted .0 * (span / x .period)
 
 -- a stream with another charge, expired count and queue
-abbrev pub worked : Stream → ℕ → ℕ → ℕ → List ℕ → Stream
-worked x charge expired queued places =
+abbrev pub worked : Stream → ℕ → ℕ → ℕ → List ℕ → List ℕ → Stream
+worked x charge expired queued places tags =
     record {
       reserved = x .reserved;
       period = x .period;
@@ -69,26 +70,27 @@ worked x charge expired queued places =
       start = x .start;
       queued = queued;
       places = places;
+      tags = tags;
       last = x .last;
     }
 
 -- with another queue alone, and with another charge and expired count alone
-abbrev pub withQueue : Stream → ℕ → List ℕ → Stream
-withQueue x queued places = worked x (x .charge .0) (x .expired) queued places
+abbrev pub withQueue : Stream → ℕ → List ℕ → List ℕ → Stream
+withQueue x queued places tags = worked x (x .charge .0) (x .expired) queued places tags
 
 abbrev pub withCharge : Stream → ℕ → ℕ → Stream
-withCharge x charge expired = worked x charge expired (x .queued) (x .places)
+withCharge x charge expired = worked x charge expired (x .queued) (x .places) (x .tags)
 
--- "put at the queue's end"
-unfoldable pub arrived : ℕ → Stream → Stream
-arrived place x = withQueue x (x .queued + 1) (set (x .places) (x .queued) place)
+-- "put at the queue's end"; "Arrival takes both"
+unfoldable pub arrived : ℕ → ℕ → Stream → Stream
+arrived place tag x = withQueue x (x .queued + 1) (set (x .places) (x .queued) place) (set (x .tags) (x .queued) tag)
 
--- "The request leaves its queue, the others keep their order"; the cell set free is 0
+-- "The request leaves its queue, the others keep their order": places and tags close up over one index, and the cell set free is 0
 abbrev pub closedUp : ℕ → List ℕ → List ℕ
-closedUp j places = take j places ++ (drop (suc j) places ++ (0 ∷ []))
+closedUp j cells = take j cells ++ (drop (suc j) cells ++ (0 ∷ []))
 
 unfoldable pub without : ℕ → Stream → Stream
-without j x = withQueue x (x .queued - 1) (closedUp j (x .places))
+without j x = withQueue x (x .queued - 1) (closedUp j (x .places)) (closedUp j (x .tags))
 
 -- "clock and charge of the stream served both grow by a"
 unfoldable pub charged : ℕ → Stream → Stream
@@ -117,6 +119,7 @@ closed now x =
       start = carried;
       queued = x .queued;
       places = x .places;
+      tags = x .tags;
       last = record { charge = x .charge; closed = now; deadline = x .deadline; expired = x .expired; start = x .start };
     }
 
@@ -128,12 +131,15 @@ moved now h x = if (eqb (x .deadline .0) h) (closed now x) x
 abbrev pub closesPastEnd : ℕ → Stream → Bool
 closesPastEnd h x = eqb (x .deadline .0) h && ltb session-end (x .deadline .0 + x .period)
 
--- "at most 16 places are queued"; "every unused cell is 0 (queue places past the length ..)". The array has sixteen cells.
-unfoldable pub soundQueue : List ℕ → ℕ → Bool
-soundQueue places queued =
-    eqb (length places) queue-max
+-- "at most 16 places are queued"; "every unused cell is 0 (queue places past the length ..)". A row of a queue, its places or its tags, has sixteen cells.
+unfoldable pub soundRow : List ℕ → ℕ → Bool
+soundRow cells queued =
+    eqb (length cells) queue-max
     && leb queued queue-max
-    && allTo (λ j. ltb j queued || eqb (getD places j 0) 0) queue-max
+    && allTo (λ j. ltb j queued || eqb (getD cells j 0) 0) queue-max
+
+unfoldable pub soundQueue : List ℕ → List ℕ → ℕ → Bool
+soundQueue places tags queued = soundRow places queued && soundRow tags queued
 
 -- "d = r + p [...] for each stream; [...] all deadlines are at most 1,000,000,000,000; each charge is at most g + 10,000,000 and at least W × the expired count; at most 16 places are queued". That the cell for g holds the granted budget is part of it, and since "What a later request adds to the state joins this rule", a charge is at least what its job started with and W × the expired count.
 unfoldable pub soundCells : ℕ → ℕ → Stream → Bool
@@ -143,7 +149,7 @@ soundCells worst k x =
     && leb (x .deadline .0) session-end
     && leb (x .charge .0) (x .granted .0 + duration-max)
     && leb (x .start .0 + worst * x .expired) (x .charge .0)
-    && soundQueue (x .places) (x .queued)
+    && soundQueue (x .places) (x .tags) (x .queued)
 
 -- "and r ≤ h for each stream"
 unfoldable pub soundStream : ℕ → ℕ → ℕ → Stream → Bool
@@ -166,5 +172,5 @@ unusedStream x =
     && eqb (x .expired) 0
     && eqb (x .start .0) 0
     && eqb (x .queued) 0
-    && soundQueue (x .places) 0
+    && soundQueue (x .places) (x .tags) 0
     && zeroJob (x .last)

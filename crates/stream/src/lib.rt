@@ -30,7 +30,7 @@ pub struct Job {
     pub start: Charge,
 }
 
-// The first `queued` of the sixteen places are used, in order of arrival.
+// The first `queued` of the sixteen places are used, in order of arrival, and each place has its tag at the same index.
 #[repr(C)]
 pub struct Stream {
     pub reserved: u32,
@@ -43,7 +43,14 @@ pub struct Stream {
     pub start: Charge,
     pub queued: usize,
     pub places: [u64; Stream::QUEUE_MAX],
+    pub tags: [u32; Stream::QUEUE_MAX],
     pub last: Job,
+}
+
+// The rows of a queue: its places, and their tags.
+struct Rows {
+    places: [u64; Stream::QUEUE_MAX],
+    tags: [u32; Stream::QUEUE_MAX],
 }
 
 impl Stream {
@@ -68,6 +75,7 @@ impl Stream {
         let budget = Charge::of(granted);
         let deadline = Clock::at(period as u64);
         let places = [0u64; Stream::QUEUE_MAX];
+        let tags = [0u32; Stream::QUEUE_MAX];
         Stream {
             reserved: reserved,
             period: period,
@@ -79,6 +87,7 @@ impl Stream {
             start: nothing,
             queued: 0,
             places: places,
+            tags: tags,
             last: last,
         }
     }
@@ -121,7 +130,8 @@ impl Stream {
         }
         let covered = self.charge.covers(self.start, worst, self.expired);
         let places = self.places;
-        let queue = queue_is_sound(places, self.queued);
+        let tags = self.tags;
+        let queue = queue_is_sound(places, tags, self.queued);
         covered & queue
     }
 
@@ -154,7 +164,8 @@ impl Stream {
         let charge = self.charge.is(nothing);
         let from_nothing = self.start.is(nothing);
         let places = self.places;
-        let queue = queue_is_sound(places, 0);
+        let tags = self.tags;
+        let queue = queue_is_sound(places, tags, 0);
         let last = self.last.is_zero();
         table
             & granted
@@ -168,14 +179,15 @@ impl Stream {
             & last
     }
 
-    // With a place at the queue's end.
-    pub fn arrived(self, place: u64) -> Stream
+    // With a place and its tag at the queue's end.
+    pub fn arrived(self, place: u64, tag: u32) -> Stream
         requires { ⌜ self .queued < queue-max ⌝ }
-        ensures { λ r. ⌜ r ≡ arrived place self ⌝ }
+        ensures { λ r. ⌜ r ≡ arrived place tag self ⌝ }
     {
         let n = self.queued;
         let mut x = self;
         x.places[n] = place;
+        x.tags[n] = tag;
         x.queued = n + 1;
         x
     }
@@ -186,9 +198,13 @@ impl Stream {
         ensures { λ r. ⌜ r ≡ without j self ⌝ }
     {
         let places = self.places;
-        let left = closed_up(places, j);
+        let tags = self.tags;
+        let left = closed_up(places, tags, j);
+        let places_left = left.places;
+        let tags_left = left.tags;
         let mut x = self;
-        x.places = left;
+        x.places = places_left;
+        x.tags = tags_left;
         x.queued = self.queued - 1;
         x
     }
@@ -291,30 +307,40 @@ fn room_left(room: u64, used: u64) -> u64
     room - used
 }
 
-// At most sixteen places are queued, and the cells past them are 0.
-fn queue_is_sound(places: [u64; Stream::QUEUE_MAX], queued: usize) -> bool
-    ensures { λ r. ⌜ r ≡ soundQueue places queued ⌝ }
+// At most sixteen places are queued, and the cells past them are 0, of the places and of the tags.
+fn queue_is_sound(
+    places: [u64; Stream::QUEUE_MAX],
+    tags: [u32; Stream::QUEUE_MAX],
+    queued: usize,
+) -> bool
+    ensures { λ r. ⌜ r ≡ soundQueue places tags queued ⌝ }
 {
     let mut ok = true;
     let mut j = queued;
     while j < Stream::QUEUE_MAX {
-        ok = ok & (places[j] == 0);
+        ok = ok & (places[j] == 0) & (tags[j] == 0);
         j += 1;
     }
     (queued <= Stream::QUEUE_MAX) & ok
 }
 
-// The queue without its place j: those behind it close up.
-fn closed_up(places: [u64; Stream::QUEUE_MAX], j: usize) -> [u64; Stream::QUEUE_MAX]
+// The rows of a queue without the request at j: those behind it close up.
+fn closed_up(places: [u64; Stream::QUEUE_MAX], tags: [u32; Stream::QUEUE_MAX], j: usize) -> Rows
     requires { ⌜ j < queue-max ⌝ }
-    ensures { λ r. ⌜ r ≡ closedUp j places ⌝ }
+    ensures { λ r. ⌜ (r .places ≡ closedUp j places) × (r .tags ≡ closedUp j tags) ⌝ }
 {
     let mut left = places;
+    let mut rest = tags;
     let mut i = j;
     while i < Stream::QUEUE_LAST {
         left[i] = places[i + 1];
+        rest[i] = tags[i + 1];
         i += 1;
     }
     left[Stream::QUEUE_LAST] = 0;
-    left
+    rest[Stream::QUEUE_LAST] = 0;
+    Rows {
+        places: left,
+        tags: rest,
+    }
 }

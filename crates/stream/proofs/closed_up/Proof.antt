@@ -1,4 +1,5 @@
--- `closed_up` gives the queue without its place j: the invariant is that the cells passed are those of the queue closed up.
+-- `closed_up` gives the queue without its request j: the invariant is that the cells passed are those of each row closed up.
+use mathlib.Core.List.{List}
 use lib.ListN.{length}
 use Rattle.table.proofs.Lists.{Filled}
 use Rattle.stream.proofs.Queue.{closedCell, closing-starts, closing-goes-on, closing-ends}
@@ -9,15 +10,18 @@ use Rattle.stream.proofs.closed_up.Statement.{statement}
 use Rattle.stream.proofs.closed_up.Tie as tie
 
 abbrev Inv-loop : tie.InvT-loop
-Inv-loop j places left₀ i₀ left i = (j ≤ i) × (i ≤ 15) × Filled (closedCell places j) left i 16
+Inv-loop j places tags left₀ rest₀ i₀ left rest i =
+    (j ≤ i) × (i ≤ 15) × Filled (closedCell places j) left i 16 × Filled (closedCell tags j) rest i 16
 
 abbrev μ-loop : tie.MeasureT-loop
-μ-loop j places left₀ i₀ left i = 15 - i
+μ-loop j places tags left₀ rest₀ i₀ left rest i = 15 - i
 
 loop-holds : tie.Need-loop-holds Inv-loop μ-loop
 loop-holds c =
-    let cells : length (c .args .t1) ≡ 16 = omega (arith, c .good) in
-    (omega arith, omega arith, closing-starts (c .args .t1) (c .args .j) cells (c .pre))
+    let j = c .args .j in
+    let places : length (c .args .t1) ≡ 16 = omega (arith, c .good) in
+    let tags : length (c .args .t2) ≡ 16 = omega (arith, c .good) in
+    (omega arith, omega arith, closing-starts (c .args .t1) j places (c .pre), closing-starts (c .args .t2) j tags (c .pre))
 
 add-left : tie.Need-add-left Inv-loop μ-loop
 add-left c = omega arith
@@ -34,6 +38,21 @@ mul-left-2 c = omega arith
 array-write-left : tie.Need-array-write-left Inv-loop μ-loop
 array-write-left c = omega arith
 
+add-rest : tie.Need-add-rest Inv-loop μ-loop
+add-rest c = omega arith
+
+mul-rest : tie.Need-mul-rest Inv-loop μ-loop
+mul-rest c = omega arith
+
+array-read-rest : tie.Need-array-read-rest Inv-loop μ-loop
+array-read-rest c = omega arith
+
+mul-rest-2 : tie.Need-mul-rest-2 Inv-loop μ-loop
+mul-rest-2 c = omega arith
+
+array-write-rest : tie.Need-array-write-rest Inv-loop μ-loop
+array-write-rest c = omega arith
+
 add-i : tie.Need-add-i Inv-loop μ-loop
 add-i c = omega arith
 
@@ -44,20 +63,29 @@ loop-again : tie.Need-loop-again Inv-loop μ-loop
 loop-again c =
     let start = c .before .before in
     let at = c .before .loop in
-    let cells : length (start .args .t1) ≡ 16 = omega (arith, start .good) in
-    (omega arith, omega arith, closing-goes-on (start .args .t1) (start .args .j) cells (start .pre) (at .left) (at .i) (at .inv .0) (omega arith) (at .inv .2))
+    let places : length (start .args .t1) ≡ 16 = omega (arith, start .good) in
+    let tags : length (start .args .t2) ≡ 16 = omega (arith, start .good) in
+    let on : (row now : List ℕ) → length row ≡ 16 → Filled (closedCell row (start .args .j)) now (at .i) 16 → _ =
+    λ row now sixteen. closing-goes-on row (start .args .j) sixteen (start .pre) now (at .i) (at .inv .0) (omega arith) in
+    (omega arith, omega arith, on (start .args .t1) (at .left) places (at .inv .2), on (start .args .t2) (at .rest) tags (at .inv .3))
 
 array-write-left-2 : tie.Need-array-write-left-2 Inv-loop μ-loop
 array-write-left-2 c = omega arith
+
+array-write-rest-2 : tie.Need-array-write-rest-2 Inv-loop μ-loop
+array-write-rest-2 c = omega arith
 
 returns : tie.Need-returns Inv-loop μ-loop
 returns c =
     let start = c .before .before in
     let at = c .before .loop in
-    let cells : length (start .args .t1) ≡ 16 = omega (arith, start .good) in
-    let e : at .i ≡ 15 = omega arith in
-    closing-ends (start .args .t1) (start .args .j) cells (start .pre) (at .left)
-    (subst (λ (n : ℕ). Filled (closedCell (start .args .t1) (start .args .j)) (at .left) n 16) e (at .inv .2))
+    let j = start .args .j in
+    let places : length (start .args .t1) ≡ 16 = omega (arith, start .good) in
+    let tags : length (start .args .t2) ≡ 16 = omega (arith, start .good) in
+    let e : at .i ≡ 15 = omega arith in (
+      closing-ends (start .args .t1) j places (start .pre) (at .left) (subst (λ (n : ℕ). Filled (closedCell (start .args .t1) j) (at .left) n 16) e (at .inv .2)),
+      closing-ends (start .args .t2) j tags (start .pre) (at .rest) (subst (λ (n : ℕ). Filled (closedCell (start .args .t2) j) (at .rest) n 16) e (at .inv .3)),
+    )
 
 pub closed-up-spec : {M : Type 1} → statement M
 closed-up-spec =
@@ -71,8 +99,14 @@ closed-up-spec =
     array-read-left
     mul-left-2
     array-write-left
+    add-rest
+    mul-rest
+    array-read-rest
+    mul-rest-2
+    array-write-rest
     add-i
     loop-less
     loop-again
     array-write-left-2
+    array-write-rest-2
     returns)

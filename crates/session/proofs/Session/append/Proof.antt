@@ -26,7 +26,7 @@ add-number : tie.Need-add-number
 add-number c = next-fits _ (can-append (c .before .before .pre) .0)
 
 returns : tie.Need-returns
-returns c = appends _ _ _ _ (c .arrived .ensures)
+returns c = appends _ _ _ _ _ (c .arrived .ensures)
 
 pub append-spec : {M : Type 1} → statement M
 append-spec =

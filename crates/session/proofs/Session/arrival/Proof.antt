@@ -30,7 +30,7 @@ refuse-requires-2 c κs = tt
 
 returns-2 : tie.Need-returns-2
 unfolding noSuchStream
-returns-2 c = answers _ _ (c .refuse2 .ensures) (arrival-nowhere _ _ _ (ok (c .before .before)) (c .before .if2 .taken))
+returns-2 c = answers _ _ (c .refuse2 .ensures) (arrival-nowhere _ _ _ _ (ok (c .before .before)) (c .before .if2 .taken))
 
 -- past 8 the stream is one of its own
 own : (c : tie.Else2) → let a = c .before .before .before .args in noSuchStream (a .t1) (a .stream) ≡ false
@@ -53,11 +53,11 @@ refuse-requires-3 : tie.Need-refuse-requires-3
 refuse-requires-3 c κs = tt
 
 returns-3 : tie.Need-returns-3
-returns-3 c = answers _ _ (c .refuse3 .ensures) (arrival-full _ _ _ (ok (c .before .before .before .before .before)) (own (c .before .before .before .before)) (c .before .if3 .taken))
+returns-3 c = answers _ _ (c .refuse3 .ensures) (arrival-full _ _ _ _ (ok (c .before .before .before .before .before)) (own (c .before .before .before .before)) (c .before .if3 .taken))
 
 -- past 9 the request joins the queue
-joins : (c : tie.Else3) → let a = c .before .before .before .before .before .before .args in verdict (a .t1) (Call.Arrival (a .stream) (a .place)) ≡ append (a .stream - 1) (a .place)
-joins c = arrival-joins _ _ _ (ok (c .before .before .before .before)) (own (c .before .before .before)) (c .if3 .left)
+joins : (c : tie.Else3) → let a = c .before .before .before .before .before .before .args in verdict (a .t1) (Call.Arrival (a .stream) (a .place) (a .tag)) ≡ append (a .stream - 1) (a .place) (a .tag)
+joins c = arrival-joins _ _ _ _ (ok (c .before .before .before .before)) (own (c .before .before .before)) (c .if3 .left)
 
 append-requires : tie.Need-append-requires
 append-requires c κs = record { ok = ok (c .before .before .before .before); call = _; is = joins c }

@@ -82,7 +82,7 @@ queue-is-sound-requires c κs = search needs
 
 returns-2 : tie.Need-returns-2
 unfolding soundCells
-returns-2 c = rw (passed (c .before .before .before), c .before .before .covers .ensures, c .queue-is-sound .ensures)
+returns-2 c = rw (passed (c .before .before .before .before), c .before .before .before .covers .ensures, c .queue-is-sound .ensures)
 
 pub is-sound-spec : {M : Type 1} → statement M
 is-sound-spec =

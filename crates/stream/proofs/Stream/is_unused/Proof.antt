@@ -37,13 +37,13 @@ returns c =
     rw (
       c .is-zero .ensures,
       c .before .queue-is-sound .ensures,
-      c .before .before .before .is5 .ensures,
-      c .before .before .before .before .is4 .ensures,
-      c .before .before .before .before .before .is3 .ensures,
-      c .before .before .before .before .before .before .is2 .ensures,
-      c .before .before .before .before .before .before .before .is .ensures,
-      c .before .before .before .before .before .before .before .before .of .ensures,
-      c .before .before .before .before .before .before .before .before .before .at .ensures,
+      c .before .before .before .before .is5 .ensures,
+      c .before .before .before .before .before .is4 .ensures,
+      c .before .before .before .before .before .before .is3 .ensures,
+      c .before .before .before .before .before .before .before .is2 .ensures,
+      c .before .before .before .before .before .before .before .before .is .ensures,
+      c .before .before .before .before .before .before .before .before .before .of .ensures,
+      c .before .before .before .before .before .before .before .before .before .before .at .ensures,
     )
 
 pub is-unused-spec : {M : Type 1} → statement M

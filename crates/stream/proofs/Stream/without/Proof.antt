@@ -12,7 +12,9 @@ sub-x c = search needs
 
 returns : tie.Need-returns
 unfolding without
-returns c = rw (c .before .closed-up .ensures)
+returns c =
+    let rows = c .before .before .before .closed-up .ensures in
+    rw (rows .0, rows .1)
 
 pub without-spec : {M : Type 1} → statement M
 without-spec = tie.close (tie.spec closed-up-requires sub-x returns)

@@ -16,11 +16,12 @@ use Rattle.cells.proofs.Numbers.{number-lt}
 use Rattle.file.specs.File.{table-start, fileOf}
 use Rattle.file.specs.Reading.{eventsIn, tableLength, part, countAt, traceStart, traceEnd, traceIn, tableAt, tableIn, isLaidOut}
 use Rattle.file.specs.Writing.{isWritable, writeRefusal, writeOf, writtenOn}
-use Rattle.file.specs.Laws.{trimmed, WrittenIsWithin, WrittenReadsBack, RefusedChangesNothing, RestIsUnchanged, TableReadIsTrimmed, AcceptedWritesBack, AcceptedAreTheWritten, Within, AcceptedIsWithin, LongestFile}
+use Rattle.file.specs.Laws.{trimmed, WrittenIsWithin, WrittenReadsBack, RefusedChangesNothing, RestIsUnchanged, TableReadIsTrimmed, AcceptedWritesBack, AcceptedAreTheWritten, Within, AcceptedIsWithin, LongestFile, OldFileReads}
 use Rattle.file.specs.declared.Writing.the-variants.{Written, Refused}
 use Rattle.file.proofs.Columns.{column-lt, column-again}
 use Rattle.file.proofs.Lengths.{length-file}
 use Rattle.file.proofs.Trace.{trace-of}
+use Rattle.file.proofs.Traces.{old-trace-reads}
 use Rattle.file.proofs.Accepted.{accepted-of, answered, read-accepted}
 use Rattle.file.proofs.Writes.{writable-of, room-decides, write-done}
 use Rattle.file.proofs.WriteBack.{length-trace, write-back}
@@ -55,6 +56,10 @@ writable-back file h =
 
 pub accepted-are-the-written : AcceptedAreTheWritten
 accepted-are-the-written = (λ t trace q w. laid-back t trace q w, λ file b h. (writable-back file h, sym (write-back file b h)))
+
+pub old-file-reads : OldFileReads
+unfolding isWritable
+old-file-reads t trace q c old = laid-back t trace q (rw (le-leb _ _ c, old-trace-reads trace old .0))
 
 -- ---- what was written reads back
 

@@ -65,19 +65,22 @@ stream-stored out at t i =
     ∙ sets-next (streamCells t i) (e ++ p) out at (8 * i) (length-streams t i)
 
 -- the cells of an event
-pub event-stored : (out : List ℕ) (at kind stream value : ℕ)
-    → sets (sets (sets (sets out at (cell 1 kind)) (at + 1) (cell 1 stream)) (at + 2) (cell 6 0)) (at + 8) (cell 8 value)
-    ≡ sets out at (eventCells kind stream value)
+pub event-stored : (out : List ℕ) (at kind stream tag value : ℕ)
+    → sets (sets (sets (sets (sets out at (cell 1 kind)) (at + 1) (cell 1 stream)) (at + 2) (cell 4 tag)) (at + 6) (cell 2 0)) (at + 8) (cell 8 value)
+    ≡ sets out at (eventCells kind stream tag value)
 unfolding eventCells
-event-stored out at kind stream value =
+event-stored out at kind stream tag value =
     let a = cell 1 kind ++ cell 1 stream in
+    let b = a ++ cell 4 tag in
     let two : length a ≡ 2 = simp (length-append, length-cell) in
-    let eight : length (a ++ cell 6 0) ≡ 8 = simp (length-append, length-cell) in
+    let six : length b ≡ 6 = simp (length-append, length-cell) in
+    let eight : length (b ++ cell 2 0) ≡ 8 = simp (length-append, length-cell) in
     rw (
       sets-next (cell 1 kind) (cell 1 stream) out at 1 (length-cell 1 kind),
-      sets-next a (cell 6 0) out at 2 two,
+      sets-next a (cell 4 tag) out at 2 two,
+      sets-next b (cell 2 0) out at 6 six,
     )
-    (sets-next (a ++ cell 6 0) (cell 8 value) out at 8 eight)
+    (sets-next (b ++ cell 2 0) (cell 8 value) out at 8 eight)
 
 -- what is not stored: an event without bytes, and one past the last whole one
 pub refused-unstorable : (trace : List ℕ) (i : ℕ) (e : Event) → isStorable e ≡ false → (16 ≡ putRefusal trace i e) × (trace ≡ withEvent trace i e)

@@ -5,29 +5,29 @@ use mathlib.Core.List.{List, [], _∷_, _++_, append-assoc, append-nil}
 use Prim.Native.Nat.{ℕ, zero, suc, _+_, _*_, _%_, _≤_, _<_}
 use native.Mathlib.Omega.{arith}
 use native.Mathlib.Nat.{not-suc-le-zero, add-zero}
-use borrow.Author.Tests.{eq-eqb, le-leb}
+use borrow.Author.Tests.{eq-eqb, le-leb, lt-ltb}
 use lib.ListN.{length, getD, take, drop, length-append}
 use lib.Seq.{take-add, take-all, length-take-le, sets-eq, length-sets}
-use Rattle.table.specs.Fold.{listTo}
+use Rattle.table.specs.Fold.{if, listTo}
 use Rattle.table.proofs.Folds.{all-of}
 use Rattle.table.proofs.Lists.{relisted}
 use Rattle.cells.specs.Cells.{cell, Bytes}
 use Rattle.file.specs.File.{event-size, eventCells, bytesOf, traceOf}
 use Rattle.file.specs.Reading.{eventsIn, eventAt, formed, isTrace}
 use Rattle.file.specs.Writing.{isStorable}
-use Rattle.file.specs.Laws.{Coded, StoredReadsBack, AllCoded, TraceReadsBack, TraceWritesBack}
+use Rattle.file.specs.Laws.{Coded, StoredReadsBack, AllCoded, TraceReadsBack, TraceWritesBack, untagged, OldTraceReads}
 use Rattle.file.specs.declared.event.Event.{Event}
 use Rattle.file.specs.declared.event.Event.the-variants.{Arrival, Turn, OwnTurn, Done, Clock, Malformed}
 use Rattle.file.proofs.Columns.{list-agree}
 use Rattle.file.proofs.Trace.{trace-of}
-use Rattle.file.proofs.Events.{event-reads-back, event-writes-back}
+use Rattle.file.proofs.Events.{event-reads-back, event-writes-back, six-zeros-read-as-before}
 use Rattle.file.proofs.Stores.{stored-there}
 
 -- ---- from events to a trace and back
 
 pub length-event : (e : Event) → Coded e → length (bytesOf e) ≡ event-size
 unfolding bytesOf eventCells cell
-length-event (Arrival stream place) c = refl
+length-event (Arrival stream place tag) c = refl
 length-event Turn c = refl
 length-event (OwnTurn stream index) c = refl
 length-event (Done duration) c = refl
@@ -37,7 +37,7 @@ length-event Malformed c = absurd c
 -- what has room in its cells has bytes
 pub coded-storable : (e : Event) → Coded e → isStorable e ≡ true
 unfolding isStorable
-coded-storable (Arrival stream place) c = le-leb stream 255 (omega (arith, c .0))
+coded-storable (Arrival stream place tag) c = le-leb stream 255 (omega (arith, c .0))
 coded-storable Turn c = refl
 coded-storable (OwnTurn stream index) c = le-leb stream 255 (omega (arith, c .0))
 coded-storable (Done duration) c = refl
@@ -55,7 +55,7 @@ stored-reads-back trace i e c h =
     (sym (stored .0), ap (λ l. eventAt l i) parts ∙ event-reads-back e (take at trace) (drop (at + length (bytesOf e)) trace) i c front, length-sets trace at (bytesOf e))
 
 coded-formed : (e : Event) → Coded e → formed e ≡ true
-coded-formed (Arrival stream place) c = refl
+coded-formed (Arrival stream place tag) c = refl
 coded-formed Turn c = refl
 coded-formed (OwnTurn stream index) c = refl
 coded-formed (Done duration) c = refl
@@ -123,3 +123,13 @@ trace-writes-back trace b h =
     let whole = trace-of trace h .whole in
     let f = front trace b h (eventsIn trace) (omega arith) in
     (f .0, f .1 ∙ take-all (event-size * eventsIn trace) trace (omega (arith, whole)))
+
+-- ---- traces of before there were tags
+
+pub old-trace-reads : OldTraceReads
+unfolding isTrace eventAt if
+old-trace-reads trace old =
+    let at : (i : ℕ) → i < eventsIn trace → eventAt trace i ≡ untagged trace (event-size * i)
+    = λ i l. rw (lt-ltb i (eventsIn trace) l) (six-zeros-read-as-before trace (event-size * i) (old .six-zeros i l)) in
+    let all = all-of (λ i. formed (eventAt trace i)) (eventsIn trace) (λ i l. ap formed (at i l) ∙ old .of-a-kind i l) in
+    (rw (eq-eqb _ _ (old .whole-events), le-leb _ _ (old .events-high), all), at)

@@ -37,17 +37,17 @@ events-max = 4_000
 abbrev pub event-size : ℕ
 event-size = 16
 
--- "Event: kind, stream, six zero bytes, eight bytes of value."
-unfoldable pub eventCells : ℕ → ℕ → ℕ → List ℕ
-eventCells kind stream value = cell 1 kind ++ cell 1 stream ++ cell 6 0 ++ cell 8 value
+-- "Event: kind, stream, six zero bytes, eight bytes of value." But "an arrival's tag fills the first four of the six zero bytes; other events keep zeros".
+unfoldable pub eventCells : ℕ → ℕ → ℕ → ℕ → List ℕ
+eventCells kind stream tag value = cell 1 kind ++ cell 1 stream ++ cell 4 tag ++ cell 2 0 ++ cell 8 value
 
 -- "Kinds: 1 arrival, 2 turn, 3 own turn, 4 done, 5 clock. Turn has stream 0 and value 0; done and clock have stream 0." What is malformed has no bytes.
 unfoldable pub bytesOf : Event → List ℕ
-bytesOf (Arrival stream place) = eventCells 1 stream place
-bytesOf Turn = eventCells 2 0 0
-bytesOf (OwnTurn stream index) = eventCells 3 stream index
-bytesOf (Done duration) = eventCells 4 0 duration
-bytesOf (Clock time) = eventCells 5 0 time
+bytesOf (Arrival stream place tag) = eventCells 1 stream tag place
+bytesOf Turn = eventCells 2 0 0 0
+bytesOf (OwnTurn stream index) = eventCells 3 stream 0 index
+bytesOf (Done duration) = eventCells 4 0 0 duration
+bytesOf (Clock time) = eventCells 5 0 0 time
 bytesOf Malformed = []
 
 -- a trace body: its events, one after the other

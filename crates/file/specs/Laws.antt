@@ -2,15 +2,15 @@
 use mathlib.Core.Bool.{true}
 use mathlib.Core.Path.{_≡_}
 use mathlib.Core.List.{List, [], _∷_, _++_}
-use Prim.Native.Nat.{ℕ, _+_, _*_, _^_, _≤_, _<_}
+use Prim.Native.Nat.{ℕ, _+_, _*_, _%_, _^_, _≤_, _<_}
 use lib.ListN.{length, take, drop}
 use Rattle.table.specs.Fold.{listTo}
 use Rattle.table.specs.Ranges.{streams-max}
 use Rattle.table.specs.Admission.{reservedAt, periodAt}
 use Rattle.table.specs.declared.Table.{Table}
-use Rattle.cells.specs.Cells.{Bytes}
+use Rattle.cells.specs.Cells.{numberAt, Bytes}
 use Rattle.file.specs.File.{event-size, events-max, bytesOf, traceOf, table-start, fileOf}
-use Rattle.file.specs.Reading.{eventsIn, eventAt, formed, isTrace, tableLength, part, tableIn, traceIn, column, isLaidOut, readOf}
+use Rattle.file.specs.Reading.{eventOf, eventFrom, eventsIn, eventAt, formed, isTrace, tableLength, part, tableIn, traceIn, column, isLaidOut, readOf}
 use Rattle.file.specs.Writing.{isWritable, writeOf, writtenOn, putRefusal, withEvent}
 use Rattle.file.specs.Listing.{listing-table, listing-events, listing-file}
 use Rattle.file.specs.declared.Reading.the-variants.{LaidOut}
@@ -96,7 +96,7 @@ LongestFile = (file : List ℕ) (count start end events : ℕ) → readOf file �
 
 -- an event whose numbers have room in its cells
 abbrev pub Coded : Event → Type 0
-Coded (Arrival stream place) = (stream < 256) × (place < 2 ^ 64)
+Coded (Arrival stream place tag) = (stream < 256) × (place < 2 ^ 64) × (tag < 2 ^ 32)
 Coded Turn = Unit
 Coded (OwnTurn stream index) = (stream < 256) × (index < 2 ^ 64)
 Coded (Done duration) = duration < 2 ^ 64
@@ -114,6 +114,19 @@ abbrev pub EventWritesBack : Type 0
 EventWritesBack =
     (trace : List ℕ) (i : ℕ) → Bytes trace → formed (eventAt trace i) ≡ true
     → Coded (eventAt trace i) × (bytesOf (eventAt trace i) ≡ take event-size (drop (event-size * i) trace))
+
+-- what kind, stream and value make of an event without a tag: before there were tags, nothing else was read of its 16 bytes but that six of them are 0
+abbrev pub untagged : List ℕ → ℕ → Event
+untagged trace at = eventOf (numberAt 1 trace at) (numberAt 1 trace (at + 1)) 0 (numberAt 8 trace (at + 8))
+
+-- "so old files read with tag 0": where the six bytes are 0, the event is what it was
+abbrev pub SixZerosReadAsBefore : Type 0
+SixZerosReadAsBefore = (trace : List ℕ) (at : ℕ) → numberAt 6 trace (at + 2) ≡ 0 → eventFrom trace at ≡ untagged trace at
+
+-- "other events keep zeros": where the six bytes are not 0, there is an arrival or nothing
+abbrev pub OthersKeepZeros : Type 0
+OthersKeepZeros =
+    (trace : List ℕ) (at : ℕ) → formed (eventFrom trace at) ≡ true → (numberAt 1 trace at ≡ 1 → ⊥) → numberAt 6 trace (at + 2) ≡ 0
 
 -- an event that was stored in a trace is read from it, and the trace is as long as before; one that has room in its cells is stored wherever the trace has a place
 abbrev pub StoredReadsBack : Type 0
@@ -136,6 +149,23 @@ abbrev pub TraceWritesBack : Type 0
 TraceWritesBack =
     (trace : List ℕ) → Bytes trace → isTrace trace ≡ true
     → let es = listTo (eventAt trace) (eventsIn trace) in AllCoded es × (traceOf es ≡ trace)
+
+-- a trace as it was accepted before there were tags
+pub record OldTrace (trace : List ℕ) : Type 0 where
+  pub whole-events : length trace % event-size ≡ 0
+  pub events-high : eventsIn trace ≤ events-max
+  pub six-zeros : (i : ℕ) → i < eventsIn trace → numberAt 6 trace (event-size * i + 2) ≡ 0
+  pub of-a-kind : (i : ℕ) → i < eventsIn trace → formed (untagged trace (event-size * i)) ≡ true
+
+-- It is accepted as before, and its events are what they were.
+abbrev pub OldTraceReads : Type 0
+OldTraceReads =
+    (trace : List ℕ) → OldTrace trace
+    → (isTrace trace ≡ true) × ((i : ℕ) → i < eventsIn trace → eventAt trace i ≡ untagged trace (event-size * i))
+
+-- So its file is accepted as before, and by `AcceptedWritesBack` written again byte for byte.
+abbrev pub OldFileReads : Type 0
+OldFileReads = (t : Table) (trace : List ℕ) → Words t → t .count ≤ streams-max → OldTrace trace → isLaidOut (fileOf t trace) ≡ true
 
 -- Listing (P) is read as document 01 gives it, and it is the file of its table and its events.
 abbrev pub ListingReads : Type 0

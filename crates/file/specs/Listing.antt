@@ -17,10 +17,10 @@ listing-table =
       period = 250_000 ∷ 500_000 ∷ 0 ∷ 0 ∷ 0 ∷ 0 ∷ 0 ∷ 0 ∷ [];
     }
 
--- "arrival 1 place 100; turn; done 5,000; turn; clock 105,000; turn; arrival 2 place 900; turn; clock 106,000; done 25,000; clock 160,000"
+-- "arrival 1 place 100; turn; done 5,000; turn; clock 105,000; turn; arrival 2 place 900; turn; clock 106,000; done 25,000; clock 160,000"; it has no tags
 abbrev pub listing-events : List Event
 listing-events =
-    Arrival 1 100 ∷ Turn ∷ Done 5_000 ∷ Turn ∷ Clock 105_000 ∷ Turn ∷ Arrival 2 900 ∷ Turn ∷ Clock 106_000 ∷ Done 25_000 ∷ Clock 160_000 ∷ []
+    Arrival 1 100 0 ∷ Turn ∷ Done 5_000 ∷ Turn ∷ Clock 105_000 ∷ Turn ∷ Arrival 2 900 0 ∷ Turn ∷ Clock 106_000 ∷ Done 25_000 ∷ Clock 160_000 ∷ []
 
 -- the number of entries, an entry to a line, the table body in four lines, an event to a line
 abbrev pub listing-file : List ℕ

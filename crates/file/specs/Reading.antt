@@ -1,5 +1,5 @@
 -- What reading makes of any bytes.
-use mathlib.Core.Bool.{Bool, true, false, _&&_}
+use mathlib.Core.Bool.{Bool, true, false, not, _&&_}
 use mathlib.Core.List.{List}
 use Prim.Native.Nat.{ℕ, _+_, _-_, _*_, _/_, _%_}
 use lib.Dec.{leb, ltb, eqb}
@@ -16,20 +16,23 @@ use Rattle.file.specs.declared.event.Event.the-variants.{Arrival, Turn, 
 
 -- ---- events
 
--- "Kinds: 1 arrival, 2 turn, 3 own turn, 4 done, 5 clock. Turn has stream 0 and value 0; done and clock have stream 0."
-unfoldable pub eventOf : ℕ → ℕ → ℕ → Event
-eventOf kind stream value =
-    if (eqb kind 1) (Arrival stream value)
+-- "Kinds: 1 arrival, 2 turn, 3 own turn, 4 done, 5 clock. Turn has stream 0 and value 0; done and clock have stream 0." An arrival alone has a tag: "other events keep zeros".
+unfoldable pub eventOf : ℕ → ℕ → ℕ → ℕ → Event
+eventOf kind stream tag value =
+    if (eqb kind 1) (Arrival stream value tag)
+    (if (not (eqb tag 0)) Malformed
     (if (eqb kind 2 && eqb stream 0 && eqb value 0) Turn
     (if (eqb kind 3) (OwnTurn stream value)
     (if (eqb kind 4 && eqb stream 0) (Done value)
     (if (eqb kind 5 && eqb stream 0) (Clock value)
-    Malformed))))
+    Malformed)))))
 
--- "Event: kind, stream, six zero bytes, eight bytes of value": the event in the 16 bytes from an index on
+-- "Event: kind, stream, six zero bytes, eight bytes of value", where "an arrival's tag fills the first four of the six zero bytes": the event in the 16 bytes from an index on
 unfoldable pub eventFrom : List ℕ → ℕ → Event
 eventFrom trace at =
-    if (eqb (numberAt 6 trace (at + 2)) 0) (eventOf (numberAt 1 trace at) (numberAt 1 trace (at + 1)) (numberAt 8 trace (at + 8))) Malformed
+    if (eqb (numberAt 2 trace (at + 6)) 0)
+    (eventOf (numberAt 1 trace at) (numberAt 1 trace (at + 1)) (numberAt 4 trace (at + 2)) (numberAt 8 trace (at + 8)))
+    Malformed
 
 -- how many whole events a trace has
 abbrev pub eventsIn : List ℕ → ℕ
@@ -40,7 +43,7 @@ unfoldable pub eventAt : List ℕ → ℕ → Event
 eventAt trace i = if (ltb i (eventsIn trace)) (eventFrom trace (event-size * i)) Malformed
 
 abbrev pub formed : Event → Bool
-formed (Arrival stream place) = true
+formed (Arrival stream place tag) = true
 formed Turn = true
 formed (OwnTurn stream index) = true
 formed (Done duration) = true

@@ -42,7 +42,7 @@ stream-byte-max = 255
 
 -- an event that has bytes: it is not malformed, and its stream has room in one byte
 unfoldable pub isStorable : Event → Bool
-isStorable (Arrival stream place) = leb stream stream-byte-max
+isStorable (Arrival stream place tag) = leb stream stream-byte-max
 isStorable Turn = true
 isStorable (OwnTurn stream index) = leb stream stream-byte-max
 isStorable (Done duration) = true

@@ -1,5 +1,6 @@
 // The table body.
-use cells::number_at;
+use crate::word::put_word;
+use crate::word::word_at;
 use cells::put_number;
 use table::Table;
 ghost use mathlib.Core.Path.{_≡_};
@@ -8,7 +9,7 @@ ghost use lib.Dec.{ltb};
 ghost use lib.Seq.{sets};
 ghost use Rattle.table.specs.Fold.{if};
 ghost use Rattle.table.specs.Ranges.{streams-max};
-ghost use Rattle.cells.specs.Cells.{cell, numberAt};
+ghost use Rattle.cells.specs.Cells.{numberAt};
 ghost use Rattle.file.specs.File.{table-start, streamCells, tableBody};
 ghost use Rattle.file.specs.Reading.{tableLength, column, tableAt};
 
@@ -71,13 +72,6 @@ fn used_at(file: &[u8], from: usize, count: usize, i: usize) -> u32
     }
 }
 
-// The number in the four bytes from an index on.
-fn word_at(bytes: &[u8], at: usize) -> u32
-    ensures { λ r. ⌜ r ≡ numberAt 4 (now (bytes .entry)) at ⌝ }
-{
-    number_at(bytes, at, 4) as u32
-}
-
 // Stores a table body from an index on.
 pub(crate) fn put_table(out: &mut [u8], at: usize, table: Table)
     requires { ⌜ (at ≤ table-start) × (table .count ≤ streams-max) ⌝ }
@@ -104,11 +98,4 @@ fn put_streams(out: &mut [u8], at: usize, table: Table)
         put_word(out, cell + 4, period[i]);
         i += 1;
     }
-}
-
-// Stores a number in the four bytes from an index on.
-fn put_word(out: &mut [u8], at: usize, word: u32)
-    ensures { λ _. ⌜ now (out .exit) ≡ sets (now (out .entry)) at (cell 4 word) ⌝ }
-{
-    put_number(out, at, 4, word as u64);
 }

@@ -1,4 +1,6 @@
 // The events of a trace.
+use crate::word::put_word;
+use crate::word::word_at;
 use cells::number_at;
 use cells::put_number;
 ghost use mathlib.Core.Path.{_≡_};
@@ -11,7 +13,7 @@ ghost use Rattle.file.specs.Writing.{isStorable, putRefusal, withEvent};
 
 // What an event asks for. Streams are counted from 1, a queue's places from 0.
 pub enum Event {
-    Arrival { stream: u64, place: u64 },
+    Arrival { stream: u64, place: u64, tag: u32 },
     Turn,
     OwnTurn { stream: u64, index: u64 },
     Done { duration: u64 },
@@ -36,25 +38,30 @@ pub fn event_at(trace: &[u8], i: usize) -> Event
         return Event::Malformed;
     }
     let at = Event::SIZE * i;
-    if number_at(trace, at + 2, 6) != 0 {
+    if number_at(trace, at + 6, 2) != 0 {
         return Event::Malformed;
     }
     event_of(
         number_at(trace, at, 1),
         number_at(trace, at + 1, 1),
+        word_at(trace, at + 2),
         number_at(trace, at + 8, 8),
     )
 }
 
-// The event of a kind, a stream and a value.
-fn event_of(kind: u64, stream: u64, value: u64) -> Event
-    ensures { λ r. ⌜ r ≡ eventOf kind stream value ⌝ }
+// The event of a kind, a stream, a tag and a value; only an arrival has a tag.
+fn event_of(kind: u64, stream: u64, tag: u32, value: u64) -> Event
+    ensures { λ r. ⌜ r ≡ eventOf kind stream tag value ⌝ }
 {
     if kind == 1 {
         return Event::Arrival {
             stream,
             place: value,
+            tag,
         };
+    }
+    if tag != 0 {
+        return Event::Malformed;
     }
     if (kind == 2) & (stream == 0) & (value == 0) {
         return Event::Turn;
@@ -94,7 +101,11 @@ fn is_storable(event: Event) -> bool
     ensures { λ r. ⌜ r ≡ isStorable event ⌝ }
 {
     match event {
-        Event::Arrival { stream, place: _ } => stream <= Event::STREAM_MAX,
+        Event::Arrival {
+            stream,
+            place: _,
+            tag: _,
+        } => stream <= Event::STREAM_MAX,
         Event::OwnTurn { stream, index: _ } => stream <= Event::STREAM_MAX,
         Event::Turn | Event::Done { duration: _ } | Event::Clock { time: _ } => true,
         Event::Malformed => false,
@@ -107,23 +118,24 @@ fn put_bytes_of(trace: &mut [u8], at: usize, event: Event)
     ensures { λ _. ⌜ now (trace .exit) ≡ sets (now (trace .entry)) at (bytesOf event) ⌝ }
 {
     match event {
-        Event::Arrival { stream, place } => put_cells(trace, at, 1, stream, place),
-        Event::Turn => put_cells(trace, at, 2, 0, 0),
-        Event::OwnTurn { stream, index } => put_cells(trace, at, 3, stream, index),
-        Event::Done { duration } => put_cells(trace, at, 4, 0, duration),
-        Event::Clock { time } => put_cells(trace, at, 5, 0, time),
+        Event::Arrival { stream, place, tag } => put_cells(trace, at, 1, stream, tag, place),
+        Event::Turn => put_cells(trace, at, 2, 0, 0, 0),
+        Event::OwnTurn { stream, index } => put_cells(trace, at, 3, stream, 0, index),
+        Event::Done { duration } => put_cells(trace, at, 4, 0, 0, duration),
+        Event::Clock { time } => put_cells(trace, at, 5, 0, 0, time),
         Event::Malformed => {}
     }
 }
 
 // Stores the cells of an event from an index on.
-fn put_cells(trace: &mut [u8], at: usize, kind: u64, stream: u64, value: u64)
+fn put_cells(trace: &mut [u8], at: usize, kind: u64, stream: u64, tag: u32, value: u64)
     requires { ⌜ at + event-size ≤ 2 ^ 63 ⌝ }
-    ensures { λ _. ⌜ now (trace .exit) ≡ sets (now (trace .entry)) at (eventCells kind stream value) ⌝ }
+    ensures { λ _. ⌜ now (trace .exit) ≡ sets (now (trace .entry)) at (eventCells kind stream tag value) ⌝ }
 {
     put_number(trace, at, 1, kind);
     put_number(trace, at + 1, 1, stream);
-    put_number(trace, at + 2, 6, 0);
+    put_word(trace, at + 2, tag);
+    put_number(trace, at + 6, 2, 0);
     put_number(trace, at + 8, 8, value);
 }
 

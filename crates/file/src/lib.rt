@@ -2,6 +2,7 @@
 mod body;
 mod contents;
 mod event;
+mod word;
 
 use body::put_table;
 use body::table_at;

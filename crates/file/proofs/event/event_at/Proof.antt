@@ -34,6 +34,12 @@ add-number-at-2 c = omega arith
 number-at-requires-3 : tie.Need-number-at-requires-3
 number-at-requires-3 c κs = tt
 
+add-word-at : tie.Need-add-word-at
+add-word-at c = omega arith
+
+word-at-requires : tie.Need-word-at-requires
+word-at-requires c κs = tt
+
 add-number-at-3 : tie.Need-add-number-at-3
 add-number-at-3 c = omega arith
 
@@ -45,15 +51,16 @@ event-of-requires c κs = tt
 
 returns-3 : tie.Need-returns-3
 returns-3 c =
-    let b = c .before .before .before .before in
+    let b = c .before .before .before .before .before in
     let a = b .before .before .before .before .args in
     let zero = sym (b .before .number-at .ensures) ∙ b .if2 .left in
     rw (
       event-there (a .trace .now) (a .i) (b .before .before .if1 .left) zero,
       c .event-of .ensures,
       c .before .number-at4 .ensures,
-      c .before .before .number-at3 .ensures,
-      c .before .before .before .number-at2 .ensures,
+      c .before .before .word-at .ensures,
+      c .before .before .before .number-at3 .ensures,
+      c .before .before .before .before .number-at2 .ensures,
     )
 
 pub event-at-spec : {M : Type 1} → statement M
@@ -68,6 +75,8 @@ event-at-spec =
     number-at-requires-2
     add-number-at-2
     number-at-requires-3
+    add-word-at
+    word-at-requires
     add-number-at-3
     number-at-requires-4
     event-of-requires

@@ -13,7 +13,7 @@ use Rattle.file.proofs.event.is_formed.Statement.{statement}
 use Rattle.file.proofs.event.is_formed.Tie as tie
 
 others-formed : (event : Event) → OneOf (0 ∷ 1 ∷ 2 ∷ 3 ∷ 4 ∷ []) (tagOf the-type event) → true ≡ formed event
-others-formed (Arrival stream place) is = refl
+others-formed (Arrival stream place tag) is = refl
 others-formed Turn is = refl
 others-formed (OwnTurn stream index) is = refl
 others-formed (Done duration) is = refl

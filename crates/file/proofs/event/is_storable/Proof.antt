@@ -14,7 +14,7 @@ use Rattle.file.proofs.event.is_storable.Tie as tie
 
 without-stream : (event : Event) → OneOf (1 ∷ 3 ∷ 4 ∷ []) (tagOf the-type event) → true ≡ isStorable event
 unfolding isStorable
-without-stream (Arrival stream place) is = absurd (miss (1 ∷ 3 ∷ 4 ∷ []) 0 tt is)
+without-stream (Arrival stream place tag) is = absurd (miss (1 ∷ 3 ∷ 4 ∷ []) 0 tt is)
 without-stream Turn is = refl
 without-stream (OwnTurn stream index) is = absurd (miss (1 ∷ 3 ∷ 4 ∷ []) 2 tt is)
 without-stream (Done duration) is = refl

@@ -1,8 +1,8 @@
 -- `word_at` gives a number of four bytes, which fits 32 bits.
 use borrow.Author.Needs.{needs}
 use Rattle.cells.proofs.Numbers.{number-lt}
-use Rattle.file.proofs.body.word_at.Statement.{statement}
-use Rattle.file.proofs.body.word_at.Tie as tie
+use Rattle.file.proofs.word.word_at.Statement.{statement}
+use Rattle.file.proofs.word.word_at.Tie as tie
 
 number-at-requires : tie.Need-number-at-requires
 number-at-requires c κs = tt

@@ -143,7 +143,7 @@ newline-ends (field ∷ rest) p = newline-after field (onward rest) (field-newli
 
 header-fields : Each Field headerFields
 unfolding Each ascii headerFields
-header-fields = (omega arith, (omega arith, (omega arith, (omega arith, (omega arith, tt)))))
+header-fields = (omega arith, (omega arith, (omega arith, (omega arith, (omega arith, (omega arith, tt))))))
 
 tally-header-fields : Each Field tallyHeaderFields
 unfolding Each ascii tallyHeaderFields

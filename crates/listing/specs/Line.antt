@@ -46,13 +46,13 @@ unfoldable pub rendered : List (List ℕ) → List ℕ
 rendered [] = newline ∷ []
 rendered (field ∷ rest) = field ++ onward rest
 
--- "a header"
+-- "a header", and "the header gets the word `tag`"
 unfoldable pub headerFields : List (List ℕ)
-headerFields = map ascii ("event" ∷ "answer" ∷ "stream" ∷ "value" ∷ "clock" ∷ [])
+headerFields = map ascii ("event" ∷ "answer" ∷ "stream" ∷ "value" ∷ "clock" ∷ "tag" ∷ [])
 
--- a line per event: "its number from 1, the reply, the stream, .. the value, .. the clock afterwards"
-unfoldable pub eventFields : ℕ → ℕ → ℕ → ℕ → ℕ → List (List ℕ)
-eventFields number answer stream value clock = map decimal (number ∷ answer ∷ stream ∷ value ∷ clock ∷ [])
+-- a line per event: "its number from 1, the reply, the stream, .. the value, .. the clock afterwards", and "a last field, the tag of the request sent or done, else 0"
+unfoldable pub eventFields : ℕ → ℕ → ℕ → ℕ → ℕ → ℕ → List (List ℕ)
+eventFields number answer stream value clock tag = map decimal (number ∷ answer ∷ stream ∷ value ∷ clock ∷ tag ∷ [])
 
 -- a word, and numbers behind it: the first 20 bytes of the word and the first five numbers, since a text has room for no more
 unfoldable pub wordedFields : List ℕ → List ℕ → List (List ℕ)

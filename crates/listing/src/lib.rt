@@ -27,16 +27,16 @@ pub fn header() -> Text
     ensures { λ r. ⌜ r ≡ textOf headerFields ⌝ }
     ensures { λ r. ⌜ Within r ⌝ }
 {
-    let words = b"event answer stream value clock\n";
+    let words = b"event answer stream value clock tag\n";
     holding(words)
 }
 
-// The line of an event: its number, the reply, the stream, the value and the clock afterwards.
-pub fn line(number: u64, answer: u64, stream: u64, value: u64, clock: u64) -> Text
-    ensures { λ r. ⌜ r ≡ textOf (eventFields number answer stream value clock) ⌝ }
+// The line of an event: its number, the reply, the stream, the value, the clock afterwards and the tag.
+pub fn line(number: u64, answer: u64, stream: u64, value: u64, clock: u64, tag: u64) -> Text
+    ensures { λ r. ⌜ r ≡ textOf (eventFields number answer stream value clock tag) ⌝ }
     ensures { λ r. ⌜ Within r ⌝ }
 {
-    let others = [answer, stream, value, clock];
+    let others = [answer, stream, value, clock, tag];
     numbered(number, &others)
 }
 

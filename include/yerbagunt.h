@@ -24,8 +24,8 @@
 /* The version of this header and of its library. Another major number: the layout of a struct changed, or the answer to some input; read what
  * changed, and compile anew. Another minor number: something was added, and programs go on as they are. Another patch: neither.
  * The numbers of replies keep their meaning through all of them. */
-#define YERBAGUNT_VERSION "5.0.0"
-#define YERBAGUNT_VERSION_MAJOR 5
+#define YERBAGUNT_VERSION "6.0.0"
+#define YERBAGUNT_VERSION_MAJOR 6
 #define YERBAGUNT_VERSION_MINOR 0
 #define YERBAGUNT_VERSION_PATCH 0
 
@@ -72,12 +72,12 @@ enum yerbagunt_number {
     YERBAGUNT_LAYOUT = 16,     /* file or event not as laid out */
     YERBAGUNT_ROOM = 17,       /* output buffer shorter than the file */
     YERBAGUNT_ARRIVED = 20,    /* value: queue length */
-    YERBAGUNT_SENT = 21,       /* value: place */
+    YERBAGUNT_SENT = 21,       /* value: place; with the request's tag */
     YERBAGUNT_EXPIRED = 22,    /* value: charge after */
     YERBAGUNT_MOVED = 23,      /* value: new horizon */
     YERBAGUNT_WAIT = 24,       /* value: latest safe moment */
-    YERBAGUNT_DONE = 25,       /* value: charge after */
-    YERBAGUNT_OVERLONG = 26,   /* value: charge after */
+    YERBAGUNT_DONE = 25,       /* value: charge after; with the request's tag */
+    YERBAGUNT_OVERLONG = 26,   /* value: charge after; with the request's tag */
     YERBAGUNT_CLOCK = 27,      /* value: time */
     YERBAGUNT_LATE = 28,       /* value: time */
     YERBAGUNT_UNSOUND = 31     /* the session handed to a call is not sound; of yerbagunt_latest: there is no such moment */
@@ -93,46 +93,50 @@ struct yerbagunt_stream {
     uint32_t reserved, period;
     uint64_t granted, release, deadline, charge, expired;
     uint64_t start;  /* of the charge, what the open job started with: what the one before it was charged above `granted`, or 0 */
-    uint64_t queued; /* the first so many places are used, in order of arrival */
+    uint64_t queued; /* the first so many places and tags are used, in order of arrival; the others are 0 */
     uint64_t places[YERBAGUNT_QUEUE_MAX];
+    uint32_t tags[YERBAGUNT_QUEUE_MAX]; /* of the requests for these places */
     struct yerbagunt_job last;
 };
 
 /* A session. Read its cells as you like; a call answers 31 to one whose cells were changed into what no session is. Only yerbagunt_latest, and
- * what is made of it below, looks at a few cells and judges no other. */
+ * what is made of it below, looks at a few cells and judges no other. No byte of it is padding. */
 struct yerbagunt_session {
     uint32_t worst, span;
     uint32_t padding; /* k as it was given; 0 stands for 3 */
-    uint32_t order;   /* 0, nearest first; any other number is answered 31 */
+    uint32_t tag;     /* the tag of the request at the disk, or 0 */
+    uint64_t order;   /* 0, nearest first; any other number is answered 31 */
     uint64_t count;
     int64_t margin;     /* H less the load, 0 or more; it follows from the table and never changes, and any other number is answered 31 */
     uint64_t horizon;   /* the smallest deadline; any other number is answered 31 */
     int64_t remainders; /* the disk time that all streams are owed up to the horizon, times H; any other number is answered 31 */
     uint64_t clock, head;
     uint64_t served; /* the stream whose request is at the disk, or 0 */
-    uint64_t place;  /* and the place of that request */
+    uint64_t place;  /* and the place of that request, or 0; its tag stands above */
     struct yerbagunt_stream streams[YERBAGUNT_STREAMS_MAX];
 };
 
 YERBAGUNT_ASSERT(sizeof(size_t) == 8, "a target with 64-bit sizes");
 YERBAGUNT_ASSERT(sizeof(struct yerbagunt_job) == 40, "job");
-YERBAGUNT_ASSERT(sizeof(struct yerbagunt_stream) == 232, "stream");
+YERBAGUNT_ASSERT(sizeof(struct yerbagunt_stream) == 296, "stream");
 YERBAGUNT_ASSERT(offsetof(struct yerbagunt_stream, granted) == 8, "stream.granted");
 YERBAGUNT_ASSERT(offsetof(struct yerbagunt_stream, start) == 48, "stream.start");
 YERBAGUNT_ASSERT(offsetof(struct yerbagunt_stream, queued) == 56, "stream.queued");
 YERBAGUNT_ASSERT(offsetof(struct yerbagunt_stream, places) == 64, "stream.places");
-YERBAGUNT_ASSERT(offsetof(struct yerbagunt_stream, last) == 192, "stream.last");
-YERBAGUNT_ASSERT(sizeof(struct yerbagunt_session) == 1936, "session");
-YERBAGUNT_ASSERT(offsetof(struct yerbagunt_session, order) == 12, "session.order");
-YERBAGUNT_ASSERT(offsetof(struct yerbagunt_session, count) == 16, "session.count");
-YERBAGUNT_ASSERT(offsetof(struct yerbagunt_session, margin) == 24, "session.margin");
-YERBAGUNT_ASSERT(offsetof(struct yerbagunt_session, horizon) == 32, "session.horizon");
-YERBAGUNT_ASSERT(offsetof(struct yerbagunt_session, remainders) == 40, "session.remainders");
-YERBAGUNT_ASSERT(offsetof(struct yerbagunt_session, clock) == 48, "session.clock");
-YERBAGUNT_ASSERT(offsetof(struct yerbagunt_session, head) == 56, "session.head");
-YERBAGUNT_ASSERT(offsetof(struct yerbagunt_session, served) == 64, "session.served");
-YERBAGUNT_ASSERT(offsetof(struct yerbagunt_session, place) == 72, "session.place");
-YERBAGUNT_ASSERT(offsetof(struct yerbagunt_session, streams) == 80, "session.streams");
+YERBAGUNT_ASSERT(offsetof(struct yerbagunt_stream, tags) == 192, "stream.tags");
+YERBAGUNT_ASSERT(offsetof(struct yerbagunt_stream, last) == 256, "stream.last");
+YERBAGUNT_ASSERT(sizeof(struct yerbagunt_session) == 2456, "session");
+YERBAGUNT_ASSERT(offsetof(struct yerbagunt_session, tag) == 12, "session.tag");
+YERBAGUNT_ASSERT(offsetof(struct yerbagunt_session, order) == 16, "session.order");
+YERBAGUNT_ASSERT(offsetof(struct yerbagunt_session, count) == 24, "session.count");
+YERBAGUNT_ASSERT(offsetof(struct yerbagunt_session, margin) == 32, "session.margin");
+YERBAGUNT_ASSERT(offsetof(struct yerbagunt_session, horizon) == 40, "session.horizon");
+YERBAGUNT_ASSERT(offsetof(struct yerbagunt_session, remainders) == 48, "session.remainders");
+YERBAGUNT_ASSERT(offsetof(struct yerbagunt_session, clock) == 56, "session.clock");
+YERBAGUNT_ASSERT(offsetof(struct yerbagunt_session, head) == 64, "session.head");
+YERBAGUNT_ASSERT(offsetof(struct yerbagunt_session, served) == 72, "session.served");
+YERBAGUNT_ASSERT(offsetof(struct yerbagunt_session, place) == 80, "session.place");
+YERBAGUNT_ASSERT(offsetof(struct yerbagunt_session, streams) == 88, "session.streams");
 
 struct yerbagunt_reservation {
     uint32_t reserved, period;
@@ -154,9 +158,10 @@ struct yerbagunt_buffer {
     size_t length;
 };
 
-/* A reply: its number, the stream that it is about (a refused call's own), and its value (0 for a refusal). */
+/* A reply: its number, the stream that it is about (a refused call's own), and its value (0 for a refusal). Four bytes of padding follow the tag. */
 struct yerbagunt_reply {
     uint64_t number, stream, value;
+    uint32_t tag; /* with 21, 25 and 26 the tag of the request, as it was given on arrival; else 0 */
 };
 
 /* number 0 and a session; or 1 to 7 and the all-zero session, which is not sound. */
@@ -177,7 +182,9 @@ struct yerbagunt_moment {
     uint64_t number, at;
 };
 
-YERBAGUNT_ASSERT(sizeof(struct yerbagunt_opening) == 1952, "opening");
+YERBAGUNT_ASSERT(sizeof(struct yerbagunt_reply) == 32, "reply");
+YERBAGUNT_ASSERT(offsetof(struct yerbagunt_reply, tag) == 24, "reply.tag");
+YERBAGUNT_ASSERT(sizeof(struct yerbagunt_opening) == 2472, "opening");
 YERBAGUNT_ASSERT(offsetof(struct yerbagunt_opening, margin) == 8, "opening.margin");
 YERBAGUNT_ASSERT(offsetof(struct yerbagunt_opening, session) == 16, "opening.session");
 YERBAGUNT_ASSERT(sizeof(struct yerbagunt_view) == 40, "view");
@@ -216,8 +223,9 @@ struct yerbagunt_written {
  * over the streams, plus W * (H / smallest p), and the margin is H less the load. Both are exact. */
 struct yerbagunt_opening yerbagunt_open(uint32_t worst, uint32_t span, uint32_t padding, struct yerbagunt_reservations table);
 
-/* Puts a request at the end of a stream's queue: 31, 8, 9; 20. */
-struct yerbagunt_reply yerbagunt_arrival(struct yerbagunt_session *session, uint64_t stream, uint64_t place);
+/* Puts a request for a place at the end of a stream's queue: 31, 8, 9; 20. The tag is your own number for it, any of 32 bits, and comes back
+ * when the request is sent and when it is done. What is sent, and when, does not depend on it, and two requests may have the same. */
+struct yerbagunt_reply yerbagunt_arrival(struct yerbagunt_session *session, uint64_t stream, uint64_t place, uint32_t tag);
 
 /* What the house does next: 31, 10, 14; 21 sent, 23 moved, 24 wait, 22 expired. */
 struct yerbagunt_reply yerbagunt_turn(struct yerbagunt_session *session);

@@ -8,7 +8,7 @@
 use core::mem::offset_of;
 
 /// The version of this wrapper and its library, that of `yerbagunt.h`.
-pub const VERSION: &str = "5.0.0";
+pub const VERSION: &str = "6.0.0";
 
 pub const STREAMS_MAX: usize = 8;
 pub const QUEUE_MAX: usize = 16;
@@ -71,6 +71,8 @@ pub struct Stream {
     pub start: u64,
     pub queued: u64,
     pub places: [u64; QUEUE_MAX],
+    /// Of the requests for these places.
+    pub tags: [u32; QUEUE_MAX],
     pub last: Job,
 }
 
@@ -82,7 +84,9 @@ pub struct Session {
     pub span: u32,
     /// k as it was given; 0 stands for 3.
     pub padding: u32,
-    pub order: u32,
+    /// The tag of the request at the disk, or 0.
+    pub tag: u32,
+    pub order: u64,
     pub count: u64,
     /// H less the load, 0 or more; it follows from the table and never changes, and any other number is answered 31.
     pub margin: i64,
@@ -97,9 +101,10 @@ pub struct Session {
     pub streams: [Stream; STREAMS_MAX],
 }
 
-const _: () = assert!(size_of::<Stream>() == 232 && size_of::<Session>() == 1936);
-const _: () = assert!(offset_of!(Session, margin) == 24 && offset_of!(Session, horizon) == 32 && offset_of!(Session, remainders) == 40);
-const _: () = assert!(offset_of!(Session, clock) == 48 && offset_of!(Session, streams) == 80);
+const _: () = assert!(size_of::<Stream>() == 296 && size_of::<Session>() == 2456);
+const _: () = assert!(offset_of!(Stream, tags) == 192 && offset_of!(Session, tag) == 12 && offset_of!(Session, order) == 16);
+const _: () = assert!(offset_of!(Session, margin) == 32 && offset_of!(Session, horizon) == 40 && offset_of!(Session, remainders) == 48);
+const _: () = assert!(offset_of!(Session, clock) == 56 && offset_of!(Session, streams) == 88);
 
 #[repr(C)]
 #[derive(Clone, Copy, Debug, PartialEq, Eq)]
@@ -123,7 +128,11 @@ pub struct Reply {
     pub number: u64,
     pub stream: u64,
     pub value: u64,
+    /// With 21, 25 and 26 the tag of the request, as it was given on arrival; else 0.
+    pub tag: u32,
 }
+
+const _: () = assert!(size_of::<Reply>() == 32 && offset_of!(Reply, tag) == 24);
 
 #[repr(C)]
 #[derive(Clone, Copy, Debug, PartialEq, Eq)]
@@ -167,7 +176,7 @@ struct Opening {
     session: Session,
 }
 
-const _: () = assert!(size_of::<Opening>() == 1952 && offset_of!(Opening, margin) == 8);
+const _: () = assert!(size_of::<Opening>() == 2472 && offset_of!(Opening, margin) == 8);
 
 #[repr(C)]
 struct Moment {
@@ -215,7 +224,7 @@ fn lent<T>(slice: &[T]) -> Lent<T> {
 #[link(name = "shelf", kind = "static")]
 unsafe extern "C" {
     fn yerbagunt_open(worst: u32, span: u32, padding: u32, table: Lent<Reservation>) -> Opening;
-    fn yerbagunt_arrival(session: &mut Session, stream: u64, place: u64) -> Reply;
+    fn yerbagunt_arrival(session: &mut Session, stream: u64, place: u64, tag: u32) -> Reply;
     fn yerbagunt_turn(session: &mut Session) -> Reply;
     fn yerbagunt_own_turn(session: &mut Session, stream: u64, index: u64) -> Reply;
     fn yerbagunt_done(session: &mut Session, duration: u64) -> Reply;
@@ -238,8 +247,9 @@ impl Session {
         if opening.number == number::OK { Ok(opening.session) } else { Err(Refusal { number: opening.number, margin: opening.margin }) }
     }
 
-    pub fn arrival(&mut self, stream: u64, place: u64) -> Reply {
-        unsafe { yerbagunt_arrival(self, stream, place) }
+    /// The tag is the caller's own number for the request, and comes back when it is sent and when it is done.
+    pub fn arrival(&mut self, stream: u64, place: u64, tag: u32) -> Reply {
+        unsafe { yerbagunt_arrival(self, stream, place, tag) }
     }
 
     pub fn turn(&mut self) -> Reply {

@@ -8,7 +8,7 @@ use Rattle.table.specs.declared.Table.{Table}
 use Rattle.time.specs.Latest.{latestOf, askedNumber, askedMoment}
 use Rattle.time.specs.declared.remainders.Latest.{Latest}
 use Rattle.session.specs.Opening.{zeroSession, openingOf}
-use Rattle.calls.specs.Replies.{numberOf, valueOf, streamOf}
+use Rattle.calls.specs.Replies.{numberOf, valueOf, streamOf, tagOf}
 use Rattle.session.specs.Calls.{answerTo}
 use Rattle.view.specs.View.{viewOf, stateOf, closingOf}
 use Rattle.session.specs.declared.Session.{Session}
@@ -33,6 +33,7 @@ imageOf s =
       worst = s .worst;
       span = s .span;
       padding = s .padding;
+      tag = s .tag;
       order = nearest-first;
       count = s .count;
       margin = s .margin;
@@ -60,6 +61,7 @@ sessionOf i =
       head = i .head;
       served = i .served;
       place = i .place;
+      tag = i .tag;
       streams = i .streams;
     }
 
@@ -72,9 +74,9 @@ openedAs t =
       session = imageOf (openingOf t .session);
     }
 
--- a reply to a call as three numbers
+-- a reply to a call as four numbers
 unfoldable pub toldAs : Call → Reply → Told
-toldAs k r = record { number = numberOf r; stream = streamOf k r; value = valueOf r }
+toldAs k r = record { number = numberOf r; stream = streamOf k r; value = valueOf r; tag = tagOf r }
 
 -- What a call is answered. An image whose order stands for none is refused 31, and is what it was.
 unfoldable pub answeredAs : Image → Call → Answered

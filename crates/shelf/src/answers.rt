@@ -46,6 +46,7 @@ fn told(reply: Reply, call: Call) -> Told
         number: reply.number(),
         stream: reply.stream(call),
         value: reply.value(),
+        tag: reply.tag(),
     }
 }
 
@@ -73,15 +74,15 @@ fn in_numbers(answer: Answer, call: Call) -> Answered
     }
 }
 
-pub(crate) fn arrival(image: Image, stream: u64, place: u64) -> Answered
-    ensures { λ r. ⌜ r ≡ answeredAs image (Call.Arrival stream place) ⌝ }
+pub(crate) fn arrival(image: Image, stream: u64, place: u64, tag: u32) -> Answered
+    ensures { λ r. ⌜ r ≡ answeredAs image (Call.Arrival stream place tag) ⌝ }
 {
-    let call = Call::Arrival { stream, place };
+    let call = Call::Arrival { stream, place, tag };
     if image.order != Image::NEAREST {
         return refused(image, call);
     }
     let session = image.session();
-    let answer = session.arrival(stream, place);
+    let answer = session.arrival(stream, place, tag);
     in_numbers(answer, call)
 }
 

@@ -8,13 +8,14 @@ use table::Table;
 use time::Clock;
 use time::Remainders;
 
-// A session. The order of choice is 0, nearest first; another number stands for none.
+// A session. The order of choice is 0, nearest first; another number stands for none. The four numbers of 32 bits come first, so that no byte is padding.
 #[repr(C)]
 pub struct Image {
     pub worst: u32,
     pub span: u32,
     pub padding: u32,
-    pub order: u32,
+    pub tag: u32,
+    pub order: u64,
     pub count: usize,
     pub margin: Margin,
     pub horizon: Clock,
@@ -26,12 +27,13 @@ pub struct Image {
     pub streams: [Stream; Table::STREAMS_MAX],
 }
 
-// A reply: its number, the stream that it is about, and its value.
+// A reply: its number, the stream that it is about, its value, and the tag of the request sent or done.
 #[repr(C)]
 pub struct Told {
     pub number: u64,
     pub stream: u64,
     pub value: u64,
+    pub tag: u32,
 }
 
 // What a call comes to.
@@ -73,7 +75,7 @@ pub struct Wrote {
 }
 
 impl Image {
-    pub const NEAREST: u32 = 0;
+    pub const NEAREST: u64 = 0;
 
     pub fn of(s: Session) -> Image
         ensures { λ r. ⌜ r ≡ imageOf s ⌝ }
@@ -87,6 +89,7 @@ impl Image {
             worst: s.worst,
             span: s.span,
             padding: s.padding,
+            tag: s.tag,
             order: Self::NEAREST,
             count: s.count,
             margin: margin,
@@ -121,6 +124,7 @@ impl Image {
             head: self.head,
             served: self.served,
             place: self.place,
+            tag: self.tag,
             streams: streams,
         }
     }

@@ -49,10 +49,10 @@ pub extern "C" fn yerbagunt_open(
 }
 
 #[no_mangle]
-pub extern "C" fn yerbagunt_arrival(session: &mut Image, stream: u64, place: u64) -> Told
-    ensures { λ r. ⌜ (r ≡ answeredAs (now (session .entry)) (Call.Arrival stream place) .reply) × (now (session .exit) ≡ answeredAs (now (session .entry)) (Call.Arrival stream place) .session) ⌝ }
+pub extern "C" fn yerbagunt_arrival(session: &mut Image, stream: u64, place: u64, tag: u32) -> Told
+    ensures { λ r. ⌜ (r ≡ answeredAs (now (session .entry)) (Call.Arrival stream place tag) .reply) × (now (session .exit) ≡ answeredAs (now (session .entry)) (Call.Arrival stream place tag) .session) ⌝ }
 {
-    let a = arrival(*session, stream, place);
+    let a = arrival(*session, stream, place, tag);
     *session = a.session;
     a.reply
 }

@@ -1,6 +1,6 @@
 -- `yerbagunt_arrival` answers as `arrival` does and leaves its image, by the law of a thin call.
 use mathlib.Core.List.{[], _∷_}
-use mir.Syntax.{w64}
+use mir.Syntax.{w32, w64}
 use contract.Running.{givenOf, tables, tablesOf}
 use denote.Triple.Spec.{tripleOf}
 use denote.Triple.Table.{entered, cited}
@@ -23,5 +23,5 @@ unfolding code.routine tablesOf
 yerbagunt-arrival-spec 𝓤 H 𝓜 𝓖 𝓡 =
     entered 𝓤 H (tripleOf 𝓤 H (𝓖 .A) f.signature (f.spec 𝓤 H (𝓖 .A) (𝓜 .mem) (𝓡 .run)))
     (tables 𝓤 H 𝓜 𝓡 code.env .C) (tables 𝓤 H 𝓜 𝓡 code.env .Λ) #f code.function (code.unfolded 𝓤 H 𝓜 𝓡)
-    (lent by-image (uint w64 ∷ uint w64 ∷ []) (λ i a. answeredAs i (Call.Arrival (a .0) (a .1 .0))) 𝓤 H (𝓖 .A) (givenOf 𝓤 H 𝓜 𝓖) (tablesOf 𝓤 H 𝓜 (tables 𝓤 H 𝓜 𝓡 code.env)) #g
+    (lent by-image (uint w64 ∷ uint w64 ∷ uint w32 ∷ []) (λ i a. answeredAs i (Call.Arrival (a .0) (a .1 .0) (a .1 .1 .0))) 𝓤 H (𝓖 .A) (givenOf 𝓤 H 𝓜 𝓖) (tablesOf 𝓤 H 𝓜 (tables 𝓤 H 𝓜 𝓡 code.env)) #g
     (cited 𝓤 H (tripleOf 𝓤 H (𝓖 .A) g.signature (g.spec 𝓤 H (𝓖 .A) (𝓜 .mem) (𝓡 .run))) 𝓜 𝓡 code.env #g g-def.routine code.calls-shelf·answers·arrival (g-thm.met 𝓤 H 𝓜 𝓖 𝓡)))

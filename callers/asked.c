@@ -10,7 +10,7 @@
 #define STACK 16384 /* what the header says that a call takes */
 
 static const struct yerbagunt_table table = {25000, 1000000, 1, 2, {25000, 175000}, {250000, 500000}};
-static const uint8_t trace[32] = {1, 1, 0, 0, 0, 0, 0, 0, 100, 0, 0, 0, 0, 0, 0, 0, 2};
+static const uint8_t trace[32] = {1, 1, 255, 255, 255, 255, 0, 0, 100, 0, 0, 0, 0, 0, 0, 0, 2};
 #define FILE_LENGTH 90
 
 static struct yerbagunt_written written(const uint8_t *from, size_t length, uint8_t *out, size_t room)
@@ -55,7 +55,7 @@ static struct yerbagunt_reply asked(const struct yerbagunt_session *session, str
 /* Makes a call or two on a session, and answers the last reply. Another pick makes another call; some run over so far that less than nothing is owed. */
 static struct yerbagunt_reply stepped(struct yerbagunt_session *session, uint64_t pick)
 {
-    struct yerbagunt_reply r = asked(session, pick % 4 == 0 ? yerbagunt_arrival(session, pick % 3, pick % 1000) : yerbagunt_turn(session));
+    struct yerbagunt_reply r = asked(session, pick % 4 == 0 ? yerbagunt_arrival(session, pick % 3, pick % 1000, (uint32_t)pick) : yerbagunt_turn(session));
     if (r.number == YERBAGUNT_SENT)
         return asked(session, yerbagunt_done(session, 1 + pick % (pick % 32 == 1 ? 900000 : 30000)));
     if (r.number == YERBAGUNT_WAIT)
@@ -74,7 +74,7 @@ static uint64_t worked(struct yerbagunt_session *session, uint64_t seed)
     uint64_t sum = 0;
     for (uint64_t n = 0; n < 2000; n++) {
         struct yerbagunt_reply r = stepped(session, picked(seed + n));
-        sum = sum * 31 + r.number * 7 + r.stream * 5 + r.value;
+        sum = sum * 31 + r.number * 7 + r.stream * 5 + r.value + r.tag;
     }
     return sum;
 }

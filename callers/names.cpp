@@ -12,13 +12,15 @@ static void calls()
     hold(opening.number == YERBAGUNT_OK, "the table is admitted", 0);
     session = opening.session;
     hold(opening.margin == 300000 && session.margin == 300000, "opening and the session tell the margin", 0);
-    hold(yerbagunt_arrival(&session, 1, 100).number == YERBAGUNT_ARRIVED, "a request arrives", 0);
-    hold(yerbagunt_arrival(&session, 2, 900).number == YERBAGUNT_ARRIVED, "another arrives", 0);
+    hold(yerbagunt_arrival(&session, 1, 100, 7).number == YERBAGUNT_ARRIVED, "a request arrives", 0);
+    hold(yerbagunt_arrival(&session, 2, 900, UINT32_MAX).number == YERBAGUNT_ARRIVED, "another arrives", 0);
     yerbagunt_reply reply = yerbagunt_own_turn(&session, 2, 0);
-    hold(reply.number == YERBAGUNT_SENT && reply.value == 900, "it is sent first", 0);
-    hold(yerbagunt_done(&session, 5000).number == YERBAGUNT_DONE, "it is done", 0);
+    hold(reply.number == YERBAGUNT_SENT && reply.value == 900 && reply.tag == UINT32_MAX, "it is sent first, with its tag", 0);
+    hold(session.tag == UINT32_MAX && session.streams[0].tags[0] == 7, "a session has the tags", 0);
+    reply = yerbagunt_done(&session, 5000);
+    hold(reply.number == YERBAGUNT_DONE && reply.tag == UINT32_MAX, "it is done, with its tag", 0);
     hold(yerbagunt_turn(&session).value == 100, "the house sends the other", 0);
-    hold(yerbagunt_done(&session, 5000).number == YERBAGUNT_DONE, "that is done", 0);
+    hold(yerbagunt_done(&session, 5000).tag == 7, "that is done", 0);
     hold(yerbagunt_clock(&session, 20000).number == YERBAGUNT_CLOCK, "the time is reported", 0);
 }
 

@@ -20,7 +20,10 @@ fn main() {
 
     let mut late = session;
     late.clock(25001);
-    session.arrival(1, 100);
-    session.turn();
+    session.arrival(1, 100, u32::MAX);
+    let sent = session.turn();
     println!("nothing fits {:?}", [late, session, without_span].map(|unfit| unfit.fits(0)));
+    let at_disk = session.tag;
+    let done = session.done(5000);
+    println!("tags {:?}", [sent.tag, at_disk, done.tag, session.tag]);
 }

@@ -26,6 +26,7 @@ static int to_second(const struct yerbagunt_session *i, struct session *s)
     s->head = i->head;
     s->disk_stream = i->served;
     s->disk_place = i->place;
+    s->disk_tag = i->tag;
     for (int n = 0; n < STREAM_MAX; n++) {
         const struct yerbagunt_stream *x = &i->streams[n];
         s->table.reservations[n] = (struct reservation){x->reserved, x->period};
@@ -33,6 +34,7 @@ static int to_second(const struct yerbagunt_session *i, struct session *s)
         *y = (struct stream){.granted = x->granted, .release = x->release, .deadline = x->deadline, .charge = x->charge, .expired = x->expired, .start = x->start, .length = x->queued};
         y->last = (struct record){.charge = x->last.charge, .clock = x->last.closed, .deadline = x->last.deadline, .expired = x->last.expired, .start = x->last.start};
         memcpy(y->places, x->places, sizeof x->places);
+        memcpy(y->tags, x->tags, sizeof x->tags);
     }
     return 1;
 }
@@ -41,13 +43,14 @@ static int to_second(const struct yerbagunt_session *i, struct session *s)
 struct trial {
     int kind;
     uint64_t stream, value;
+    uint32_t tag;
 };
 
 static const struct trial trials[] = {
-    {1, 0, 5}, {1, 1, 0}, {1, 2, UINT64_MAX}, {1, 255, 1}, {1, UINT64_MAX, 1},
-    {2, 0, 0}, {3, 0, 0}, {3, 1, 0}, {3, 2, 1}, {3, 255, UINT64_MAX},
-    {4, 0, 0}, {4, 0, 1}, {4, 0, 10000000}, {4, 0, 10000001}, {4, 0, UINT64_MAX},
-    {5, 0, 0}, {5, 0, 200000}, {5, 0, 1000000000000}, {5, 0, 1000000000001}, {5, 0, UINT64_MAX},
+    {1, 0, 5, 1}, {1, 1, 0, 0}, {1, 2, UINT64_MAX, UINT32_MAX}, {1, 255, 1, UINT32_MAX}, {1, UINT64_MAX, 1, 1},
+    {2, 0, 0, 0}, {3, 0, 0, 0}, {3, 1, 0, 0}, {3, 2, 1, 0}, {3, 255, UINT64_MAX, 0},
+    {4, 0, 0, 0}, {4, 0, 1, 0}, {4, 0, 10000000, 0}, {4, 0, 10000001, 0}, {4, 0, UINT64_MAX, 0},
+    {5, 0, 0, 0}, {5, 0, 200000, 0}, {5, 0, 1000000000000, 0}, {5, 0, 1000000000001, 0}, {5, 0, UINT64_MAX, 0},
 };
 #define TRIALS (sizeof trials / sizeof trials[0])
 
@@ -55,7 +58,7 @@ static struct yerbagunt_reply called(struct yerbagunt_session *s, const struct t
 {
     switch (t->kind) {
     case 1:
-        return yerbagunt_arrival(s, t->stream, t->value);
+        return yerbagunt_arrival(s, t->stream, t->value, t->tag);
     case 2:
         return yerbagunt_turn(s);
     case 3:
@@ -71,7 +74,7 @@ static struct reply second(struct session *s, const struct trial *t)
 {
     switch (t->kind) {
     case 1:
-        return session_arrival(s, t->stream, t->value);
+        return session_arrival(s, t->stream, t->value, t->tag);
     case 2:
         return session_turn(s);
     case 3:
@@ -119,7 +122,7 @@ static void ask_session(const struct yerbagunt_session *s, int sound, unsigned l
 static void try_shown(const struct yerbagunt_session *given, unsigned long at)
 {
     struct yerbagunt_session probe = *given;
-    int sound = yerbagunt_arrival(&probe, 0, 0).number != YERBAGUNT_UNSOUND;
+    int sound = yerbagunt_arrival(&probe, 0, 0, 0).number != YERBAGUNT_UNSOUND;
     struct yerbagunt_view v = yerbagunt_view(*given);
     hold(v.number == (sound ? YERBAGUNT_OK : YERBAGUNT_UNSOUND), "a session is shown exactly if it is sound", at);
     hold(sound ? v.clock == given->clock && v.margin == given->margin : (v.clock | v.horizon | v.latest | (uint64_t)v.margin) == 0, "what is shown of an unsound session is 0", at);
@@ -154,12 +157,12 @@ static void try_all(const struct yerbagunt_session *given, unsigned long at)
         met[r.number & 31]++;
         if (is_refusal(r.number)) {
             hold(memcmp(&s, given, sizeof s) == 0, "a refusal left every byte as it was", at);
-            hold(r.value == 0 && r.stream == trials[k].stream, "a refusal has value 0 and the call's own stream", at);
+            hold(r.value == 0 && r.tag == 0 && r.stream == trials[k].stream, "a refusal has value 0, tag 0 and the call's own stream", at);
         }
         if (to_second(given, &other)) {
             struct reply q = second(&other, &trials[k]);
             hold(q.number == r.number, "the number is the second engine's", at);
-            hold(is_refusal(r.number) || (q.stream == r.stream && q.value == r.value), "the stream and the value are the second engine's", at);
+            hold(is_refusal(r.number) || (q.stream == r.stream && q.value == r.value && q.tag == r.tag), "the stream, the value and the tag are the second engine's", at);
             hold(to_second(&s, &after) && memcmp(&other, &after, sizeof after) == 0, "the session is the second engine's", at);
         } else {
             hold(r.number == YERBAGUNT_UNSOUND, "numbers that stand for no session are refused 31", at);
@@ -206,6 +209,25 @@ static unsigned long try_cells(const struct yerbagunt_session *given)
         + try_cell(given, offsetof(struct yerbagunt_session, remainders));
 }
 
+/* Copies of one session with a tag where no request is: in a cell past a queue's end, or at the disk while nothing is there. Answers how many. */
+static unsigned long try_tags(const struct yerbagunt_session *given)
+{
+    unsigned long many = 0;
+    for (size_t n = 0; n < YERBAGUNT_STREAMS_MAX; n++)
+        for (size_t j = given->streams[n].queued; j < YERBAGUNT_QUEUE_MAX; j++, many++) {
+            struct yerbagunt_session s = *given;
+            s.streams[n].tags[j] = j % 2 == 0 ? 1 : UINT32_MAX;
+            try_wrong(&s, (size_t)((uint8_t *)&s.streams[n].tags[j] - (uint8_t *)&s));
+        }
+    if (given->served == 0) {
+        struct yerbagunt_session s = *given;
+        s.tag = UINT32_MAX;
+        try_wrong(&s, offsetof(struct yerbagunt_session, tag));
+        many++;
+    }
+    return many;
+}
+
 /* Gives a session the horizon and the sum that its streams have; a sum that does not fit wraps. */
 static void mend(struct yerbagunt_session *s)
 {
@@ -248,7 +270,7 @@ static void go_on(struct yerbagunt_session *s)
 /* A request of stream 1 takes 60,000 more than that stream's budget. */
 static void overrun(struct yerbagunt_session *s)
 {
-    yerbagunt_arrival(s, 1, 100);
+    yerbagunt_arrival(s, 1, 100, 0);
     yerbagunt_turn(s);
     hold(yerbagunt_done(s, 110000).number == YERBAGUNT_OVERLONG, "a request took 60,000 more than its budget of 50,000", 0);
 }
@@ -266,8 +288,8 @@ static void sessions(struct yerbagunt_session made[MADE])
     for (int i = 0; i < MADE; i++)
         made[i] = o.session;
     for (int i = 0; i < YERBAGUNT_QUEUE_MAX; i++)
-        yerbagunt_arrival(&made[1], 1, 100 + i);
-    yerbagunt_arrival(&made[2], 2, 900);
+        yerbagunt_arrival(&made[1], 1, 100 + i, UINT32_MAX - i);
+    yerbagunt_arrival(&made[2], 2, 900, 0x80000001);
     hold(yerbagunt_turn(&made[2]).number == YERBAGUNT_SENT, "a request is sent", 0);
     for (int i = 0; i < 60; i++)
         go_on(&made[3]);
@@ -282,6 +304,33 @@ static void sessions(struct yerbagunt_session made[MADE])
     for (int i = 0; i < 60 && !moves(made[5]); i++)
         go_on(&made[5]);
     hold(moves(made[5]) && made[5].streams[0].charge == 110000, "the next turn moves, and carries 60,000", 0);
+}
+
+/* A reply that hands a request of stream 2 back. */
+static void hold_back(struct yerbagunt_reply r, uint64_t number, uint64_t value, uint32_t tag)
+{
+    hold(r.number == number && r.stream == 2 && r.value == value && r.tag == tag, "a request comes back with its own tag", tag);
+}
+
+/* Three requests for one place: the caller's own turn takes the second, and the house's the first and then the last. */
+static void one_place(void)
+{
+    static const struct yerbagunt_reservation table[2] = {{25000, 250000}, {175000, 500000}};
+    static const uint32_t tags[3] = {7, UINT32_MAX, 0x01020304};
+    struct yerbagunt_session s = yerbagunt_open(25000, 1000000, 1, (struct yerbagunt_reservations){table, 2}).session;
+    const struct yerbagunt_stream *two = &s.streams[1];
+    for (int i = 0; i < 3; i++)
+        hold(yerbagunt_arrival(&s, 2, 900, tags[i]).tag == 0 && two->tags[i] == tags[i], "an arrival keeps the tag, and its reply has none", i);
+    hold_back(yerbagunt_own_turn(&s, 2, 1), YERBAGUNT_SENT, 900, tags[1]);
+    hold(s.tag == tags[1] && two->tags[0] == tags[0] && two->tags[1] == tags[2] && two->tags[2] == 0, "tags close up as places do", 0);
+    hold_back(yerbagunt_done(&s, 5000), YERBAGUNT_DONE, 5000, tags[1]);
+    hold(s.tag == 0 && s.place == 0 && yerbagunt_clock(&s, 6000).tag == 0, "an idle disk has no tag, and a clock report none", 0);
+    hold_back(yerbagunt_turn(&s), YERBAGUNT_SENT, 900, tags[0]);
+    hold_back(yerbagunt_done(&s, 25001), YERBAGUNT_OVERLONG, 30001, tags[0]);
+    hold_back(yerbagunt_turn(&s), YERBAGUNT_SENT, 900, tags[2]);
+    hold_back(yerbagunt_done(&s, 1), YERBAGUNT_DONE, 30002, tags[2]);
+    struct yerbagunt_reply wait = yerbagunt_turn(&s);
+    hold(wait.number == YERBAGUNT_WAIT && wait.tag == 0, "a wait has no tag", 0);
 }
 
 /* A table to open, the first record and the others, and what opening answers. */
@@ -346,6 +395,7 @@ static void files(void)
     static uint8_t trace[16 * YERBAGUNT_EVENTS_MAX + 16], out[70000], before[70000];
     struct yerbagunt_table t = {25000, 1000000, 1, 2, {25000, 175000}, {250000, 500000}};
     trace[0] = 1, trace[1] = 1, trace[8] = 100, trace[16] = 2;
+    memset(trace + 2, 0xff, 4); /* the arrival's tag */
     memset(out, 0xa5, sizeof out);
     memcpy(before, out, sizeof out);
     hold(yerbagunt_read((struct yerbagunt_bytes){out, 0}).number == YERBAGUNT_LAYOUT, "no bytes are no file", 0);
@@ -356,12 +406,17 @@ static void files(void)
     t.count = 2;
     hold(yerbagunt_write(t, (struct yerbagunt_bytes){trace, 31}, (struct yerbagunt_buffer){out, sizeof out}).number == YERBAGUNT_LAYOUT, "part of an event is not written", 0);
     hold(yerbagunt_write(t, (struct yerbagunt_bytes){trace, sizeof trace}, (struct yerbagunt_buffer){out, sizeof out}).number == YERBAGUNT_LAYOUT, "4,001 events are not written", 0);
+    for (size_t at = 6; at < 24; at = at == 7 ? 18 : at + 1) {
+        trace[at] = 1;
+        hold(yerbagunt_write(t, (struct yerbagunt_bytes){trace, 32}, (struct yerbagunt_buffer){out, sizeof out}).number == YERBAGUNT_LAYOUT, "of an arrival the two bytes after the tag are 0, of a turn all six", at);
+        trace[at] = 0;
+    }
     hold(memcmp(out, before, sizeof out) == 0, "a refused writing left every byte as it was", 0);
     struct yerbagunt_written w = yerbagunt_write(t, (struct yerbagunt_bytes){trace, 32}, (struct yerbagunt_buffer){out, sizeof out});
     hold(w.number == YERBAGUNT_OK && w.length == 90, "the file is written", 0);
     hold(memcmp(out + 90, before + 90, sizeof out - 90) == 0, "the bytes after the file are as they were", 0);
     struct yerbagunt_file f = yerbagunt_read((struct yerbagunt_bytes){out, 90});
-    hold(f.number == YERBAGUNT_OK && f.count == 2 && f.start == 58 && f.end == 90 && f.events == 2, "it reads back", 0);
+    hold(f.number == YERBAGUNT_OK && f.count == 2 && f.start == 58 && f.end == 90 && f.events == 2 && memcmp(out + 58, trace, 32) == 0, "it reads back, with its tag", 0);
     struct yerbagunt_table u = yerbagunt_table((struct yerbagunt_bytes){out, 90});
     hold(u.worst == t.worst && u.span == t.span && u.padding == t.padding && u.count == t.count && memcmp(u.reserved, t.reserved, sizeof t.reserved) == 0 && memcmp(u.period, t.period, sizeof t.period) == 0, "the table reads back", 0);
     for (size_t length = 0; length < 90; length++)
@@ -450,10 +505,11 @@ int main(void)
     unsigned long tried = 0;
     openings();
     files();
+    one_place();
     sessions(made);
     for (int m = 0; m < MADE; m++) {
         try_all(&made[m], 0);
-        tried += try_cells(&made[m]);
+        tried += try_cells(&made[m]) + try_tags(&made[m]);
         for (size_t at = 0; at < sizeof made[m]; at++)
             for (size_t f = 0; f < sizeof flips; f++)
                 tried += try_byte(&made[m], at, flips[f]);

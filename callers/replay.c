@@ -1,4 +1,4 @@
-/* Replays a session file from standard input by the lent calls of the library, and prints the listing of document 01, or `refused 7 N` as document 02 has it. With the word `latest` it prints the latest safe moment instead, asked for after opening and after each event. */
+/* Replays a session file from standard input by the lent calls of the library, and prints the listing of document 01, with the tags and the `refused 7 N` of document 02. With the word `latest` it prints the latest safe moment instead, asked for after opening and after each event. */
 #include <stddef.h>
 #include <stdio.h>
 #include <string.h>
@@ -24,7 +24,7 @@ static struct yerbagunt_reply call(struct yerbagunt_session *session, size_t eve
     uint64_t stream = file[event + 1], value = number_at(event + 8, 8);
     switch (file[event]) {
     case 1:
-        return yerbagunt_arrival(session, stream, value);
+        return yerbagunt_arrival(session, stream, value, (uint32_t)number_at(event + 2, 4));
     case 2:
         return yerbagunt_turn(session);
     case 3:
@@ -38,11 +38,11 @@ static struct yerbagunt_reply call(struct yerbagunt_session *session, size_t eve
 
 static void print_listing(struct yerbagunt_session *session, const struct yerbagunt_file *parts)
 {
-    puts("event answer stream value clock");
+    puts("event answer stream value clock tag");
     for (size_t i = 0; i < parts->events; i++) {
         struct yerbagunt_reply r = call(session, parts->start + YERBAGUNT_EVENT_SIZE * i);
-        printf("%llu %llu %llu %llu %llu\n", (unsigned long long)i + 1, (unsigned long long)r.number, (unsigned long long)r.stream,
-               (unsigned long long)r.value, (unsigned long long)session->clock);
+        printf("%llu %llu %llu %llu %llu %lu\n", (unsigned long long)i + 1, (unsigned long long)r.number, (unsigned long long)r.stream,
+               (unsigned long long)r.value, (unsigned long long)session->clock, (unsigned long)r.tag);
     }
 }
 

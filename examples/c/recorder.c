@@ -1,4 +1,4 @@
-/* A recorder of two channels: opens a table, queues requests, runs turns and reports what the disk took. While no channel asks, it copies. */
+/* A recorder of two channels: opens a table, queues requests, each with a tag of its own, runs turns and reports what the disk took. While no channel asks, it copies. */
 #include <stdio.h>
 
 #include "yerbagunt.h"
@@ -10,8 +10,8 @@ static struct yerbagunt_session session;
 
 static void show(const char *call, struct yerbagunt_reply r)
 {
-    printf("%-8s answer %2llu stream %llu value %llu clock %llu\n", call, (unsigned long long)r.number, (unsigned long long)r.stream,
-           (unsigned long long)r.value, (unsigned long long)session.clock);
+    printf("%-8s answer %2llu stream %llu value %llu clock %llu tag %lu\n", call, (unsigned long long)r.number, (unsigned long long)r.stream,
+           (unsigned long long)r.value, (unsigned long long)session.clock, (unsigned long)r.tag);
 }
 
 /* The disk: here each request takes 5,000 microseconds, and the seek from one place to another as long again. */
@@ -41,10 +41,10 @@ int main(void)
     session = opening.session;
     printf("admitted, margin %lld of the span %lu\n", (long long)session.margin, (unsigned long)session.span);
 
-    show("arrival", yerbagunt_arrival(&session, 1, 100));
-    show("arrival", yerbagunt_arrival(&session, 2, 900));
-    show("arrival", yerbagunt_arrival(&session, 2, 900));
-    show("arrival", yerbagunt_arrival(&session, 3, 7)); /* there is no channel 3 */
+    show("arrival", yerbagunt_arrival(&session, 1, 100, 41));
+    show("arrival", yerbagunt_arrival(&session, 2, 900, 42));
+    show("arrival", yerbagunt_arrival(&session, 2, 900, 43)); /* the same place: the tag tells which one is done */
+    show("arrival", yerbagunt_arrival(&session, 3, 7, 44));   /* there is no channel 3 */
 
     for (int left = 3; left > 0 || yerbagunt_fits(&session, PIECE);) {
         struct yerbagunt_reply turn = yerbagunt_turn(&session);

@@ -1,4 +1,4 @@
-//! A recorder of two channels: opens a table, queues requests, runs turns and reports what the disk took. While no channel asks, it copies.
+//! A recorder of two channels: opens a table, queues requests, each with a tag of its own, runs turns and reports what the disk took. While no channel asks, it copies.
 // In a product the wrapper is copied beside this file, and the path left out.
 #[path = "../../../include/yerbagunt.rs"]
 mod yerbagunt;
@@ -10,7 +10,7 @@ const WORST: u32 = 25000;
 const PIECE: u64 = 2 * WORST as u64;
 
 fn show(call: &str, session: &Session, r: Reply) {
-    println!("{call:<8} answer {:2} stream {} value {} clock {}", r.number, r.stream, r.value, session.clock);
+    println!("{call:<8} answer {:2} stream {} value {} clock {} tag {}", r.number, r.stream, r.value, session.clock, r.tag);
 }
 
 /// The disk: here each request takes 5,000 microseconds, and the seek from one place to another as long again.
@@ -37,9 +37,9 @@ fn main() {
     };
     println!("admitted, margin {} of the span {}", session.margin, session.span);
 
-    // There is no channel 3.
-    for (stream, place) in [(1, 100), (2, 900), (2, 900), (3, 7)] {
-        let reply = session.arrival(stream, place);
+    // Two requests are for the same place: the tag tells which one is done. There is no channel 3.
+    for (stream, place, tag) in [(1, 100, 41), (2, 900, 42), (2, 900, 43), (3, 7, 44)] {
+        let reply = session.arrival(stream, place, tag);
         show("arrival", &session, reply);
     }
 

@@ -75,7 +75,7 @@ refused-adds-nothing file some = go (isLaidOut file) (eqb (admissionOf (tableIn 
 
 pub calls-agree : CallsAgree
 unfolding applied called after
-calls-agree s n (Event.Arrival stream place) = refl
+calls-agree s n (Event.Arrival stream place tag) = refl
 calls-agree s n Event.Turn = refl
 calls-agree s n (Event.OwnTurn stream index) = refl
 calls-agree s n (Event.Done duration) = refl

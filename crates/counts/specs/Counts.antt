@@ -52,7 +52,7 @@ both a b = if (a .over || b .over) passed (counts (bothRows a b))
 
 -- the call of an event; an event that is not as laid out is none, and no file that was read has one
 abbrev pub callsOf : Event → List Call
-callsOf (Event.Arrival stream place) = Call.Arrival stream place ∷ []
+callsOf (Event.Arrival stream place tag) = Call.Arrival stream place tag ∷ []
 callsOf Event.Turn = Call.Turn ∷ []
 callsOf (Event.OwnTurn stream index) = Call.OwnTurn stream index ∷ []
 callsOf (Event.Done duration) = Call.Done duration ∷ []

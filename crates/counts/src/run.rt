@@ -54,7 +54,11 @@ impl Step {
         ensures { λ r. ⌜ r ≡ stepsBy self (callsOf event) ⌝ }
     {
         match event {
-            Event::Arrival { stream, place } => self.with_call(Call::Arrival { stream, place }),
+            Event::Arrival { stream, place, tag } => self.with_call(Call::Arrival {
+                stream,
+                place,
+                tag,
+            }),
             Event::Turn => self.with_call(Call::Turn),
             Event::OwnTurn { stream, index } => self.with_call(Call::OwnTurn { stream, index }),
             Event::Done { duration } => self.with_call(Call::Done { duration }),
@@ -140,17 +144,11 @@ fn duration_of(call: Call) -> u64
     ensures { λ r. ⌜ r ≡ durationOf call ⌝ }
 {
     match call {
-        Call::Arrival {
-            stream: _,
-            place: _,
-        } => 0,
+        Call::Arrival { .. } => 0,
         Call::Turn => 0,
-        Call::OwnTurn {
-            stream: _,
-            index: _,
-        } => 0,
+        Call::OwnTurn { .. } => 0,
         Call::Done { duration } => duration,
-        Call::Clock { time: _ } => 0,
+        Call::Clock { .. } => 0,
     }
 }
 

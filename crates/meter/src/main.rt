@@ -80,7 +80,7 @@ fn run(opened: Session, trace: &[u8], events: usize) -> Session {
 
 fn repeated(session: Session, event: Event, times: u64) -> Tally {
     match event {
-        Event::Arrival { stream, place } => arrivals(session, stream, place, times),
+        Event::Arrival { stream, place, tag } => arrivals(session, stream, place, tag, times),
         Event::Turn => turns(session, times),
         Event::OwnTurn { stream, index } => own_turns(session, stream, index, times),
         Event::Done { duration } => completions(session, duration, times),
@@ -114,7 +114,7 @@ fn openings(table: Table, times: u64) -> Tally {
     Tally { number, mixed }
 }
 
-fn arrivals(session: Session, stream: u64, place: u64, times: u64) -> Tally {
+fn arrivals(session: Session, stream: u64, place: u64, tag: u32, times: u64) -> Tally {
     let mut number: u64 = 0;
     let mut mixed: u64 = 0;
     let mut kept = session;
@@ -122,7 +122,7 @@ fn arrivals(session: Session, stream: u64, place: u64, times: u64) -> Tally {
     let mut i: u64 = 0;
     while i < times {
         kept.head = kept.head ^ zero;
-        let answer = kept.arrival(stream, place);
+        let answer = kept.arrival(stream, place, tag);
         let reply = answer.reply;
         let clock = answer.session.clock;
         number = reply.number();
@@ -205,7 +205,7 @@ fn clock_reports(session: Session, time: u64, times: u64) -> Tally {
 }
 
 fn tell(times: u64, tally: Tally) {
-    print(listing::line(times, tally.number, 0, 0, tally.mixed));
+    print(listing::line(times, tally.number, 0, 0, tally.mixed, 0));
 }
 
 fn print(text: Text)

@@ -31,7 +31,7 @@ unfoldable nextCall : ℕ → Reply → Call
 nextCall n r =
     if (eqb (numberOf r) 21) (Done (n + 400))
     (if (eqb (numberOf r) 24) (Clock (valueOf r))
-    (if (eqb (n % 3) 0) (Arrival (n % 8 + 1) n) Turn))
+    (if (eqb (n % 3) 0) (Arrival (n % 8 + 1) n n) Turn))
 
 unfoldable callsFrom : ℕ → Session → Reply → List Call
 callsFrom zero s r = []

@@ -28,17 +28,17 @@ called s n k =
 
 -- "Kinds: 1 arrival, 2 turn, 3 own turn, 4 done, 5 clock." An event that is not as laid out gives 16 and changes nothing; no file that was read has one.
 unfoldable pub applied : Session → ℕ → Event → Outcome
-applied s n (Event.Arrival stream place) = called s n (Call.Arrival stream place)
+applied s n (Event.Arrival stream place tag) = called s n (Call.Arrival stream place tag)
 applied s n Event.Turn = called s n Call.Turn
 applied s n (Event.OwnTurn stream index) = called s n (Call.OwnTurn stream index)
 applied s n (Event.Done duration) = called s n (Call.Done duration)
 applied s n (Event.Clock time) = called s n (Call.Clock time)
 applied s n Event.Malformed =
-    record { session = s; line = record { event = n; answer = 16; stream = 0; value = 0; clock = s .clock .0 } }
+    record { session = s; line = record { event = n; answer = 16; stream = 0; value = 0; clock = s .clock .0; tag = 0 } }
 
--- "its number from 1, the reply, the stream [...], the value [...], the clock afterwards"
+-- "its number from 1, the reply, the stream [...], the value [...], the clock afterwards", and "a last field, the tag of the request sent or done, else 0"
 abbrev pub fieldsOf : Line → List (List ℕ)
-fieldsOf l = eventFields (l .event) (l .answer) (l .stream) (l .value) (l .clock)
+fieldsOf l = eventFields (l .event) (l .answer) (l .stream) (l .value) (l .clock) (l .tag)
 
 -- an outcome as the code hands it over
 unfoldable pub handed : Outcome → Stepped

@@ -19,10 +19,10 @@ pub fn step(session: Session, number: u64, event: Event) -> Stepped
     ensures { λ r. ⌜ Within (r .text) ⌝ }
 {
     match event {
-        Event::Arrival { stream, place } => called(
+        Event::Arrival { stream, place, tag } => called(
             session,
             number,
-            Call::Arrival { stream, place },
+            Call::Arrival { stream, place, tag },
         ),
         Event::Turn => called(session, number, Call::Turn),
         Event::OwnTurn { stream, index } => called(
@@ -33,7 +33,7 @@ pub fn step(session: Session, number: u64, event: Event) -> Stepped
         Event::Done { duration } => called(session, number, Call::Done { duration }),
         Event::Clock { time } => called(session, number, Call::Clock { time }),
         Event::Malformed => {
-            let text = listing::line(number, 16, 0, 0, session.clock.micros());
+            let text = listing::line(number, 16, 0, 0, session.clock.micros(), 0);
             Stepped { session, text }
         }
     }
@@ -53,6 +53,7 @@ fn called(session: Session, number: u64, call: Call) -> Stepped
         reply.stream(call),
         reply.value(),
         after.clock.micros(),
+        reply.tag() as u64,
     );
     Stepped {
         session: after,

@@ -1,4 +1,5 @@
 -- `called` makes the call and renders its answer: each number of the line is what the definitions say of the reply.
+use borrow.Author.Needs.{needs}
 use Rattle.session.specs.Calls.{lineOf}
 use Rattle.trace.specs.Trace.{called, handed}
 use Rattle.trace.proofs.called.Statement.{statement}
@@ -19,6 +20,12 @@ value-requires c κs = tt
 micros-requires : tie.Need-micros-requires
 micros-requires c κs = tt
 
+tag-requires : tie.Need-tag-requires
+tag-requires c κs = tt
+
+cast-line : tie.Need-cast-line
+cast-line c = search needs
+
 line-requires : tie.Need-line-requires
 line-requires c κs = tt
 
@@ -27,11 +34,12 @@ unfolding called handed lineOf
 returns c = (
   rw (
     c .line .ensures .0,
-    c .before .micros .ensures,
-    c .before .before .value .ensures,
-    c .before .before .before .stream .ensures,
-    c .before .before .before .before .number .ensures,
-    c .before .before .before .before .before .before .call .ensures,
+    c .before .tag .ensures,
+    c .before .before .micros .ensures,
+    c .before .before .before .value .ensures,
+    c .before .before .before .before .stream .ensures,
+    c .before .before .before .before .before .number .ensures,
+    c .before .before .before .before .before .before .before .call .ensures,
   ),
   c .line .ensures .1,
 )
@@ -45,5 +53,7 @@ called-spec =
     stream-requires
     value-requires
     micros-requires
+    tag-requires
+    cast-line
     line-requires
     returns)

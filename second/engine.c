@@ -16,14 +16,15 @@ static bool fraction_below(struct fraction a, struct fraction b)
     return a.over * b.under < b.over * a.under;
 }
 
-static struct reply answer(enum number number, uint32_t stream, uint64_t value)
+// Document 02, Req 07: "sent and done hand the tag back"; every other reply has the tag 0.
+static struct reply answer(enum number number, uint32_t stream, uint64_t value, uint32_t tag)
 {
-    return (struct reply){number, stream, value};
+    return (struct reply){number, stream, value, tag};
 }
 
 static struct reply refusal(enum number number)
 {
-    return answer(number, 0, 0);
+    return answer(number, 0, 0, 0);
 }
 
 // --- Reservation table ---
@@ -198,14 +199,14 @@ uint64_t session_filled(const struct session *s, uint64_t stream)
 
 // --- Soundness ---
 
-// "queue places past the length"
+// "queue places past the length"; the tags of Req 07 join the rule
 static bool queue_sound(const struct stream *m)
 {
     if (m->length > QUEUE_MAX)
         return false;
     uint64_t rest = 0;
     for (uint64_t j = m->length; j < QUEUE_MAX; j++)
-        rest |= m->places[j];
+        rest |= m->places[j] | m->tags[j];
     return rest == 0;
 }
 
@@ -233,11 +234,11 @@ static bool stream_zero(const struct session *s, uint32_t i)
         && queue_sound(m);
 }
 
-// "the stream at the disk, if any, exists and has a slot", "the place while nothing is at the disk" is 0
+// "the stream at the disk, if any, exists and has a slot", "the place while nothing is at the disk" is 0, and its tag is
 static bool disk_sound(const struct session *s, uint64_t horizon)
 {
     if (s->disk_stream == 0)
-        return s->disk_place == 0;
+        return (s->disk_place | s->disk_tag) == 0;
     return s->disk_stream <= s->table.count && slot_fits(s, (uint32_t)s->disk_stream - 1, horizon, 1);
 }
 
@@ -298,8 +299,8 @@ static bool stream_bad(const struct session *s, uint64_t stream)
     return stream == 0 || stream > s->table.count;
 }
 
-// "Arrival (stream, place): put at the queue's end."
-struct reply session_arrival(struct session *s, uint64_t stream, uint64_t place)
+// "Arrival (stream, place): put at the queue's end."; document 02, Req 07: "Arrival takes both", place and tag
+struct reply session_arrival(struct session *s, uint64_t stream, uint64_t place, uint32_t tag)
 {
     uint64_t horizon;
     if (!sound(s, &horizon))
@@ -309,23 +310,30 @@ struct reply session_arrival(struct session *s, uint64_t stream, uint64_t place)
     struct stream *m = &s->streams[stream - 1];
     if (m->length == QUEUE_MAX)
         return refusal(QUEUE_FULL);
-    m->places[m->length++] = place;
-    return answer(ARRIVED, (uint32_t)stream, m->length);
+    m->places[m->length] = place;
+    m->tags[m->length] = tag;
+    m->length++;
+    return answer(ARRIVED, (uint32_t)stream, m->length, 0);
 }
 
-// "The request leaves its queue, the others keep their order, the head becomes its place."
+// "The request leaves its queue, the others keep their order, the head becomes its place." Each keeps its own tag.
 static struct reply send(struct session *s, uint32_t i, uint64_t index)
 {
     struct stream *m = &s->streams[i];
     uint64_t place = m->places[index];
+    uint32_t tag = m->tags[index];
     m->length--;
-    for (uint64_t j = index; j < m->length; j++)
+    for (uint64_t j = index; j < m->length; j++) {
         m->places[j] = m->places[j + 1];
+        m->tags[j] = m->tags[j + 1];
+    }
     m->places[m->length] = 0;
+    m->tags[m->length] = 0;
     s->head = place;
     s->disk_stream = i + 1;
     s->disk_place = place;
-    return answer(SENT, i + 1, place);
+    s->disk_tag = tag;
+    return answer(SENT, i + 1, place, tag);
 }
 
 static uint64_t distance(uint64_t a, uint64_t b)
@@ -341,7 +349,8 @@ struct choice {
 };
 
 // "Take the earliest deadline among streams with a filled slot; of the set's requests from streams with that deadline,
-// the place nearest the head; ties go to the lower stream, then the earlier arrival."
+// the place nearest the head; ties go to the lower stream, then the earlier arrival."; document 02, Req 07: "The queue, its
+// order and the choice rule do not look at tags."
 static struct choice choose(const struct session *s, uint64_t horizon)
 {
     struct choice best = {STREAM_MAX, 0, 0};
@@ -388,7 +397,7 @@ static struct reply move(struct session *s, uint64_t horizon)
         if (s->streams[i].deadline == horizon)
             close_job(&s->streams[i], s->clock, s->table.reservations[i].period);
     keep_remainders(s);
-    return answer(MOVED, 0, session_horizon(s));
+    return answer(MOVED, 0, session_horizon(s), 0);
 }
 
 // "of the stream whose r + c × p / g is least among those with a slot; ties go to the earlier deadline, then the lower
@@ -417,7 +426,7 @@ static struct reply expire(struct session *s, uint32_t i)
     m->charge += s->table.worst;
     m->expired++;
     keep_remainders(s);
-    return answer(EXPIRED, i + 1, m->charge);
+    return answer(EXPIRED, i + 1, m->charge, 0);
 }
 
 // "Turn, the first that applies": a send, b move, c wait, d expire.
@@ -436,7 +445,7 @@ struct reply session_turn(struct session *s)
         return move(s, horizon);
     uint64_t latest = latest_safe(s, horizon);
     if (s->clock < latest)
-        return answer(WAIT, 0, latest);
+        return answer(WAIT, 0, latest, 0);
     return expire(s, next);
 }
 
@@ -455,7 +464,8 @@ struct reply session_own_turn(struct session *s, uint64_t stream, uint64_t index
     return send(s, (uint32_t)stream - 1, index);
 }
 
-// "Done (duration a): clock and charge of the stream served both grow by a. Overlong if a > W."
+// "Done (duration a): clock and charge of the stream served both grow by a. Overlong if a > W." The tag of the request that
+// was at the disk is handed back.
 struct reply session_done(struct session *s, uint64_t duration)
 {
     uint64_t horizon;
@@ -468,13 +478,15 @@ struct reply session_done(struct session *s, uint64_t duration)
     if (s->clock + duration > SESSION_END)
         return refusal(PAST_END);
     uint32_t stream = (uint32_t)s->disk_stream;
+    uint32_t tag = (uint32_t)s->disk_tag;
     struct stream *m = &s->streams[stream - 1];
     s->clock += duration;
     m->charge += duration;
     s->disk_stream = 0;
     s->disk_place = 0;
+    s->disk_tag = 0;
     keep_remainders(s);
-    return answer(duration > s->table.worst ? DONE_OVERLONG : DONE, stream, m->charge);
+    return answer(duration > s->table.worst ? DONE_OVERLONG : DONE, stream, m->charge, tag);
 }
 
 // "Clock (time): the clock becomes that time. Late exactly if it is above L and above the clock."
@@ -491,5 +503,5 @@ struct reply session_clock(struct session *s, uint64_t time)
         return refusal(PAST_END);
     bool late = time > latest_safe(s, horizon) && time > s->clock;
     s->clock = time;
-    return answer(late ? CLOCK_LATE : CLOCK, 0, time);
+    return answer(late ? CLOCK_LATE : CLOCK, 0, time, 0);
 }

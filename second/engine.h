@@ -77,7 +77,8 @@ struct record {
     uint64_t start;
 };
 
-// The start is what the open job started with, 0 at first.
+// The start is what the open job started with, 0 at first. Document 02, Req 07: "A queued request becomes a place with a tag
+// of 32 bits", both at the same index.
 struct stream {
     uint64_t granted;
     uint64_t release;
@@ -87,12 +88,14 @@ struct stream {
     uint64_t start;
     uint64_t length;
     uint64_t places[QUEUE_MAX];
+    uint32_t tags[QUEUE_MAX];
     struct record last;
 };
 
 // Streams are numbered from 1; stream 0 at the disk stands for none. The margin is H less the load of the table; document
 // 02, Req 05: "the session keeps it when admitted". The horizon and the remainders are what Req 06 asks by: "The session
-// keeps the sum of remainders, scaled by the span so that it is whole". No member leaves a gap, so each byte is a cell's.
+// keeps the sum of remainders, scaled by the span so that it is whole". No member leaves a gap, so each byte is a cell's;
+// for this the tag at the disk, of 32 bits, has a cell of 64.
 struct session {
     struct table table;
     int64_t margin;
@@ -102,21 +105,23 @@ struct session {
     uint64_t head;
     uint64_t disk_stream;
     uint64_t disk_place;
+    uint64_t disk_tag;
     struct stream streams[STREAM_MAX];
 };
 
-// A refusal has stream 0 and value 0.
+// A refusal has stream 0 and value 0. The tag is that of the request sent or done, and else 0.
 struct reply {
     enum number number;
     uint32_t stream;
     uint64_t value;
+    uint32_t tag;
 };
 
 // ADMITTED, or the refusal; a refused opening leaves the all-zero session. Through the pointer goes the margin: not
 // negative if admitted, negative with 7, and 0 with every other refusal.
 enum number session_open(struct session *s, const struct table *t, int64_t *margin);
 
-struct reply session_arrival(struct session *s, uint64_t stream, uint64_t place);
+struct reply session_arrival(struct session *s, uint64_t stream, uint64_t place, uint32_t tag);
 struct reply session_turn(struct session *s);
 struct reply session_own_turn(struct session *s, uint64_t stream, uint64_t index);
 struct reply session_done(struct session *s, uint64_t duration);

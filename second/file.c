@@ -24,17 +24,20 @@ static uint32_t four_at(const uint8_t *bytes)
     return (uint32_t)number_at(bytes, 4);
 }
 
-// "Event: kind, stream, six zero bytes, eight bytes of value."
+// "Event: kind, stream, six zero bytes, eight bytes of value."; document 02, Req 07: "In the file an arrival's tag fills the
+// first four of the six zero bytes; other events keep zeros, so old files read with tag 0."
 static struct event event_at(const uint8_t *bytes)
 {
-    return (struct event){bytes[0], bytes[1], number_at(bytes + 8, 8)};
+    return (struct event){bytes[0], bytes[1], four_at(bytes + 2), number_at(bytes + 8, 8)};
 }
 
 // "Kinds: 1 arrival, 2 turn, 3 own turn, 4 done, 5 clock. Turn has stream 0 and value 0; done and clock have stream 0."
 static bool event_sound(const uint8_t *bytes)
 {
     struct event e = event_at(bytes);
-    if (number_at(bytes + 2, 6) != 0)
+    if (e.kind != EVENT_ARRIVAL && e.tag != 0)
+        return false;
+    if (number_at(bytes + 6, 2) != 0)
         return false;
     switch (e.kind) {
     case EVENT_ARRIVAL:
@@ -117,7 +120,7 @@ struct reply run_event(struct session *s, struct event e)
 {
     switch (e.kind) {
     case EVENT_ARRIVAL:
-        return session_arrival(s, e.stream, e.value);
+        return session_arrival(s, e.stream, e.value, e.tag);
     case EVENT_TURN:
         return session_turn(s);
     case EVENT_OWN_TURN:

@@ -14,9 +14,11 @@
 #define EVENT_MAX 4000
 #define FILE_MAX (CONTENTS_BYTES + TABLE_BYTES + STREAM_MAX * RESERVATION_BYTES + EVENT_MAX * EVENT_BYTES)
 
+// The tag is an arrival's, and 0 in every other event.
 struct event {
     uint8_t kind;
     uint8_t stream;
+    uint32_t tag;
     uint64_t value;
 };
 

@@ -12,11 +12,12 @@ static bool refused(struct reply r)
 }
 
 // "its number from 1, the reply, the stream (.. a refused call shows the event's own stream byte), the value (0 for a
-// refusal), the clock afterwards"
+// refusal), the clock afterwards"; document 02, Req 07: "The printed line gets a last field, the tag of the request sent or
+// done, else 0, and the header gets the word `tag`."
 static void print_line(size_t number, struct event e, struct reply r, uint64_t clock)
 {
     uint32_t stream = refused(r) ? e.stream : r.stream;
-    printf("%zu %d %" PRIu32 " %" PRIu64 " %" PRIu64 "\n", number, (int)r.number, stream, r.value, clock);
+    printf("%zu %d %" PRIu32 " %" PRIu64 " %" PRIu64 " %" PRIu32 "\n", number, (int)r.number, stream, r.value, clock, r.tag);
 }
 
 // The number and the margin that opening answers, or reading: of an admitted table the margin that "the session keeps".
@@ -27,7 +28,7 @@ static void print_opening(struct opening o, const struct session *s)
 
 static void print_listing(struct run *run)
 {
-    puts("event answer stream value clock");
+    puts("event answer stream value clock tag");
     for (size_t i = 0; i < run->count; i++) {
         struct event e = run_event_at(run, i);
         struct reply r = run_event(&run->session, e);

@@ -47,9 +47,10 @@ static void take_table(void)
 static uint64_t repeat(size_t event, uint64_t times)
 {
     uint64_t stream = input[event + 1], value = number_at(event + 8, 8), number = 0;
+    uint32_t tag = (uint32_t)number_at(event + 2, 4);
     switch (input[event]) {
     case 1:
-        REPEAT(arrival(&work, stream, value));
+        REPEAT(arrival(&work, stream, value, tag));
         break;
     case 2:
         REPEAT(turn(&work));

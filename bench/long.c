@@ -11,6 +11,7 @@ enum kind { ARRIVAL = 1, TURN, OWN_TURN, FINISHED, TIME };
 
 struct event {
     uint8_t kind, stream;
+    uint32_t tag;
     uint64_t value;
 };
 
@@ -27,12 +28,16 @@ static uint64_t below(uint64_t limit)
 static struct event for_a_stream(const struct session *s, enum kind kind, uint64_t limit)
 {
     uint8_t stream = (uint8_t)(1 + below(s->table.count));
-    return (struct event){(uint8_t)kind, stream, below(limit)};
+    return (struct event){(uint8_t)kind, stream, 0, below(limit)};
 }
 
+// Each request has a tag that no other has.
 static struct event arrival(const struct session *s)
 {
-    return for_a_stream(s, ARRIVAL, 1000000);
+    static uint32_t tag;
+    struct event e = for_a_stream(s, ARRIVAL, 1000000);
+    e.tag = ++tag;
+    return e;
 }
 
 // While a request is at the disk most calls are its completion, one in fifty of them overlong, and the rest arrivals; a turn is refused.
@@ -41,8 +46,8 @@ static struct event while_busy(const struct session *s)
     uint64_t dice = below(100);
     bool overlong = below(50) == 0;
     if (dice < 72)
-        return (struct event){FINISHED, 0, overlong ? s->table.worst + 1 : 1 + below(s->table.worst)};
-    return dice < 98 ? arrival(s) : (struct event){TURN, 0, 0};
+        return (struct event){FINISHED, 0, 0, overlong ? s->table.worst + 1 : 1 + below(s->table.worst)};
+    return dice < 98 ? arrival(s) : (struct event){TURN, 0, 0, 0};
 }
 
 // A caller that was told to wait comes back at the latest safe moment or before; the others ask, choose or queue.
@@ -51,19 +56,19 @@ static struct event while_idle(const struct session *s, bool waiting)
     uint64_t dice = below(100);
     uint64_t latest = session_latest_safe(s);
     if (waiting && s->clock < latest)
-        return dice < 30 ? arrival(s) : (struct event){TIME, 0, dice < 65 ? latest : s->clock + below(latest - s->clock)};
+        return dice < 30 ? arrival(s) : (struct event){TIME, 0, 0, dice < 65 ? latest : s->clock + below(latest - s->clock)};
     if (dice < 20)
         return arrival(s);
     if (dice < 30)
         return for_a_stream(s, OWN_TURN, 2);
-    return (struct event){TURN, 0, 0};
+    return (struct event){TURN, 0, 0, 0};
 }
 
 static struct reply call(struct session *s, struct event e)
 {
     switch (e.kind) {
     case ARRIVAL:
-        return session_arrival(s, e.stream, e.value);
+        return session_arrival(s, e.stream, e.value, e.tag);
     case TURN:
         return session_turn(s);
     case OWN_TURN:
@@ -101,7 +106,9 @@ int main(int words, char **word)
         if (e.kind == TURN)
             waiting = number == WAIT;
         put(e.kind, 1);
-        put(e.stream, 7);
+        put(e.stream, 1);
+        put(e.tag, 4);
+        put(0, 2);
         put(e.value, 8);
     }
     return 0;

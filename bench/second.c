@@ -30,9 +30,9 @@ static uint64_t open_again(void)
     return session_open(&session, &table, &margin);
 }
 
-static uint64_t arrival(image *session, uint64_t stream, uint64_t place)
+static uint64_t arrival(image *session, uint64_t stream, uint64_t place, uint32_t tag)
 {
-    return session_arrival(session, stream, place).number;
+    return session_arrival(session, stream, place, tag).number;
 }
 
 static uint64_t turn(image *session)

@@ -10,17 +10,17 @@ from session_file import padding_meant, parts
 ARRIVAL, TURN, OWN_TURN, DONE, CLOCK = range(1, 6)
 CALLS = {ARRIVAL: "arrival", TURN: "turn", OWN_TURN: "own turn", DONE: "done", CLOCK: "clock"}
 ARRIVED, SENT, EXPIRED, MOVED, WAIT, FINISHED, OVERLONG, TOLD, LATE = range(20, 29)
-HEADER = "event answer stream value clock"
+HEADER = "event answer stream value clock tag"
 # So many times the clock is far away.
 FAR = 20
 
 
 class Line:
-    """An event with its answer, and the clock before and after."""
+    """An event with its answer, and the clock before and after; the tag of an arrival is the event's, any other the answer's."""
 
     def __init__(self, event, numbers, before):
-        self.kind, self.named, self.given = event
-        self.number, self.answer, self.stream, self.value, self.after = numbers
+        self.kind, self.named, self.given_tag, self.given = event
+        self.number, self.answer, self.stream, self.value, self.after, self.tag = numbers
         self.before = before
 
     def refused(self):
@@ -148,23 +148,24 @@ def story(data, listing):
         raise ValueError("the file has no table that it could be of")
     if len(listing) - 1 != len(events):
         raise ValueError(f"it has {len(listing) - 1} lines for {len(events)} events")
-    lines, busy = [], False
+    lines, sent = [], None
     for event, printed in zip(events, listing[1:]):
         words = printed.split(" ")
         before = lines[-1].after if lines else 0
-        if len(words) != 5 or not all(word.isascii() and word.isdigit() for word in words):
-            raise ValueError(f"line {len(lines) + 2} is not five numbers")
+        if len(words) != 6 or not all(word.isascii() and word.isdigit() for word in words):
+            raise ValueError(f"line {len(lines) + 2} is not six numbers")
         line = Line(event, tuple(map(int, words)), before)
-        if not fits(line, len(lines) + 1, len(streams), busy):
+        if not fits(line, len(lines) + 1, len(streams), sent):
             raise ValueError(f"line {len(lines) + 2} cannot follow the one before it")
-        busy = line.answer == SENT or busy and line.answer not in (FINISHED, OVERLONG)
+        sent = line if line.answer == SENT else None if line.answer in (FINISHED, OVERLONG) else sent
         lines.append(line)
     return Session(table, streams, lines)
 
 
-def fits(line, number, count, busy):
-    """Whether a line may stand here: its number, its clock, its stream, and what is at the disk."""
+def fits(line, number, count, sent):
+    """Whether a line may stand here: its number, its clock, its stream, and what is at the disk, whose tag a completion has."""
     of_a_stream = line.answer in (ARRIVED, SENT, EXPIRED, FINISHED, OVERLONG)
     needs_disk, needs_none = line.answer in (FINISHED, OVERLONG), line.answer in (SENT, EXPIRED, MOVED, WAIT, TOLD, LATE)
+    tag = line.tag if line.answer == SENT else sent.tag if sent and needs_disk else 0
     return (line.number == number and line.after >= line.before and (1 <= line.stream <= count or not of_a_stream)
-            and (busy or not needs_disk) and not (busy and needs_none))
+            and (sent or not needs_disk) and not (sent and needs_none) and line.tag == tag)

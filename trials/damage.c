@@ -41,23 +41,35 @@ static void spoil_event(struct chance *c, uint8_t *file, size_t size)
     uint8_t *any = find_event(c, file, size, 0, 0);
     uint8_t *turn = find_event(c, file, size, EVENT_TURN, EVENT_TURN);
     uint8_t *plain = find_event(c, file, size, EVENT_DONE, EVENT_CLOCK);
-    switch (below(c, 5)) {
+    uint8_t *arrival = find_event(c, file, size, EVENT_ARRIVAL, EVENT_ARRIVAL);
+    uint8_t other = (uint8_t)(EVENT_TURN + below(c, 4));
+    uint8_t *untagged = find_event(c, file, size, other, other);
+    switch (below(c, 8)) {
     case 0:
         if (any != NULL)
             any[0] = percent(c, 80) ? ONE_OF(c, kinds) : (uint8_t)draw(c);
         break;
     case 1:
-    case 2:
+        // One of the six bytes, in the first four of which an arrival has its tag.
         if (any != NULL)
             change_byte(c, any + 2 + below(c, 6));
+        break;
+    case 2:
+        if (arrival != NULL)
+            change_byte(c, arrival + 6 + below(c, 2));
         break;
     case 3:
         if (turn != NULL)
             change_byte(c, percent(c, 40) ? turn + 1 : turn + 8 + below(c, 8));
         break;
-    default:
+    case 4:
         if (plain != NULL)
             change_byte(c, plain + 1);
+        break;
+    default:
+        // A tag where none belongs, or a byte beside it.
+        if (untagged != NULL)
+            change_byte(c, untagged + 2 + below(c, 6));
     }
 }
 
@@ -131,7 +143,7 @@ static void damage_length(struct chance *c, uint8_t *file, size_t *size, size_t 
 
 void damage(struct chance *c, uint8_t *file, size_t *size, size_t room)
 {
-    switch (below(c, 12)) {
+    switch (below(c, 14)) {
     case 0:
     case 1:
     case 2:
@@ -148,12 +160,14 @@ void damage(struct chance *c, uint8_t *file, size_t *size, size_t room)
     case 6:
     case 7:
     case 8:
+    case 9:
+    case 10:
         spoil_event(c, file, *size);
         break;
-    case 9:
+    case 11:
         change_byte(c, file + below(c, *size));
         break;
-    case 10:
+    case 12:
         *size = below(c, 300);
         for (size_t i = 0; i < *size; i++)
             file[i] = (uint8_t)draw(c);

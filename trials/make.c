@@ -38,6 +38,7 @@ size_t lay_out(const struct table *t, const struct trace *trace, uint8_t *file)
         memset(at, 0, 16);
         at[0] = trace->events[i].kind;
         at[1] = trace->events[i].stream;
+        put(at + 2, trace->events[i].tag, 4);
         put(at + 8, trace->events[i].value, 8);
     }
     return 26 + table_length + trace_length;

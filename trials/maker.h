@@ -14,6 +14,7 @@ enum { EVENT_ARRIVAL = 1, EVENT_TURN, EVENT_OWN_TURN, EVENT_DONE, EVENT_CLOCK };
 struct event {
     uint8_t kind;
     uint8_t stream;
+    uint32_t tag;
     uint64_t value;
 };
 

@@ -19,8 +19,11 @@ struct leaning {
     uint64_t end_at;
 };
 
+// Tags have a chance of their own: what else a file has does not depend on them.
 struct run {
     struct chance *c;
+    struct chance tags;
+    unsigned tag_mode;
     struct session s;
     struct trace *trace;
     struct leaning lean;
@@ -55,6 +58,25 @@ static uint64_t pick_place(struct run *r)
         return other;
     default:
         return 2 * r->s.head - other;
+    }
+}
+
+// In one file of four all tags are 0, as in files from before there were tags; in the others most are few, at the ends of a
+// byte and of its multiples, or any.
+static uint32_t pick_tag(struct run *r)
+{
+    static const uint32_t ends[] = {0, 1, UINT8_MAX, UINT8_MAX + 1, UINT16_MAX, UINT16_MAX + 1, INT32_MAX,
+        (uint32_t)INT32_MAX + 1, UINT32_MAX - 1, UINT32_MAX};
+    unsigned mode = r->tag_mode == 0 || percent(&r->tags, 75) ? r->tag_mode : (unsigned)below(&r->tags, 4);
+    switch (mode) {
+    case 0:
+        return 0;
+    case 1:
+        return (uint32_t)below(&r->tags, 4);
+    case 2:
+        return ONE_OF(&r->tags, ends);
+    default:
+        return (uint32_t)draw(&r->tags);
     }
 }
 
@@ -141,10 +163,11 @@ static uint64_t bad_time(struct run *r)
 
 static struct reply step(struct run *r, uint8_t kind, uint64_t stream, uint64_t value)
 {
-    r->trace->events[r->trace->count++] = (struct event){kind, (uint8_t)stream, value};
+    uint32_t tag = kind == EVENT_ARRIVAL ? pick_tag(r) : 0;
+    r->trace->events[r->trace->count++] = (struct event){kind, (uint8_t)stream, tag, value};
     switch (kind) {
     case EVENT_ARRIVAL:
-        return session_arrival(&r->s, stream, value);
+        return session_arrival(&r->s, stream, value, tag);
     case EVENT_TURN:
         return session_turn(&r->s);
     case EVENT_OWN_TURN:
@@ -329,7 +352,8 @@ static void any_events(struct chance *c, size_t most, struct trace *trace)
         bool own = kind == EVENT_ARRIVAL || kind == EVENT_OWN_TURN;
         uint8_t stream = own ? (uint8_t)below(c, 10) : 0;
         uint64_t value = kind == EVENT_TURN ? 0 : below(c, 100000);
-        trace->events[trace->count++] = (struct event){kind, stream, value};
+        uint32_t tag = kind == EVENT_ARRIVAL ? (uint32_t)draw(c) : 0;
+        trace->events[trace->count++] = (struct event){kind, stream, tag, value};
     }
 }
 
@@ -372,6 +396,8 @@ static void follow(struct run *r, size_t most)
 static bool opened(struct run *r, const struct table *t)
 {
     int64_t margin;
+    r->tags = (struct chance){~r->c->state};
+    r->tag_mode = (unsigned)below(&r->tags, 4);
     return session_open(&r->s, t, &margin) == ADMITTED;
 }
 

@@ -16,7 +16,7 @@ FAR = 20
 
 
 class Line:
-    """An event with its answer, and the clock before and after; the tag of an arrival is the event's, any other the answer's."""
+    """An event with its answer, and the clock before and after."""
 
     def __init__(self, event, numbers, before):
         self.kind, self.named, self.given_tag, self.given = event
@@ -128,6 +128,10 @@ class Session:
     def carries(self):
         """Whether some job starts with what the one before it was charged above its granted budget."""
         return any(job.start for job in (*self.closed, *self.jobs))
+
+    def tagged(self):
+        """Whether some request that was sent has a tag other than 0."""
+        return any(sent.tag for sent, _, _ in self.requests)
 
     def end(self):
         """The last moment worth drawing: the first deadline that is not past, or what reaches beyond it, unless that is far away."""

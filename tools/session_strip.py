@@ -125,8 +125,9 @@ class Strip:
         classes = "request" + (" unfinished" if group[-1][1] is None else " overlong" if any(map(overlong, group)) else "")
         self.draw(tag("rect", several([request_title(*request) for request in group]), x=x, y=y, width=width, height=height, rx=2,
                       fill=colour(sent.stream), class_=classes, data_request=len(here), data_overlong=sum(map(overlong, here))))
-        if len(group) == 1 and width > wide(str(sent.value)) + 2:
-            self.draw(text(x + width / 2, y + 11, str(sent.value), class_="place"))
+        words = next((words for words in request_words(sent) if width > wide(words) + 2), "")
+        if len(group) == 1 and words:
+            self.draw(text(x + width / 2, y + 11, words, class_="place"))
         if any(sent.kind == OWN_TURN for sent, _, _ in here):
             self.draw(tag("circle", "the caller's own choice", cx=x, cy=y + height, r=2.4, class_="own"))
 
@@ -267,8 +268,18 @@ def job_title(job):
     return title + f"; requests done {job.requests}, slots expired {job.expired}"
 
 
+def with_tag(tag):
+    """What is said of a request's tag behind its place: nothing of 0, which a request has whose host gives none."""
+    return f" tag {tag}" if tag else ""
+
+
+def request_words(sent):
+    """What stands in the box of a request: its place, and its tag where there is room."""
+    return f"{sent.value}{with_tag(sent.tag)}", str(sent.value)
+
+
 def request_title(sent, finished, _):
-    title = f"event {sent.number}: stream {sent.stream}, place {sent.value}, sent at {millis(sent.before)} ms"
+    title = f"event {sent.number}: stream {sent.stream}, place {sent.value}{with_tag(sent.tag)}, sent at {millis(sent.before)} ms"
     title += ", the caller's own choice" if sent.kind == OWN_TURN else ""
     if finished is None:
         return title + ", still at the disk"
@@ -280,9 +291,9 @@ def expired_title(line):
 
 
 def arrival_title(line):
-    return f"event {line.number}: place {line.given} queued at {millis(line.before)} ms, queue {line.value}"
+    return f"event {line.number}: place {line.given}{with_tag(line.given_tag)} queued at {millis(line.before)} ms, queue {line.value}"
 
 
 def refusal_title(line):
-    words = " ".join(str(word) for word in (CALLS[line.kind], line.named or "", line.given) if word != "")
+    words = " ".join(str(word) for word in (CALLS[line.kind], line.named or "", line.given) if word != "") + with_tag(line.given_tag)
     return f"event {line.number}: {words} refused, {line.answer}"

@@ -102,8 +102,10 @@ fn say_count(word: Field, takes: u64) {
         say_of(word, b" takes no number");
     } else if takes == 1 {
         say_of(word, b" takes one number");
-    } else {
+    } else if takes == 2 {
         say_of(word, b" takes two numbers");
+    } else {
+        say_of(word, b" takes two or three numbers");
     }
 }
 

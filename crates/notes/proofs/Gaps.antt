@@ -20,7 +20,7 @@ use Rattle.notes.specs.declared.heard.Heard.{Heard}
 use Rattle.notes.specs.declared.fault.Fault.{Fault}
 use Rattle.notes.specs.Draft.{tab, carriage-return, afterGap, afterField, continued, withByte}
 use Rattle.notes.specs.Line.{fieldsLine, lineOf}
-use Rattle.notes.specs.Numbers.{fits, roomAt}
+use Rattle.notes.specs.Numbers.{fits, firstOf, roomAt}
 use Rattle.notes.specs.Heard.{heardOf, heardWith}
 use Rattle.notes.specs.Fault.{numberFault, faultOf, faultBy}
 use Rattle.notes.specs.Notes.{stopped, afterNumber, afterStream, beganBy, afterEvent, after, expectedBy, Read, read, lineRefusal, refusedBy, traceAfter, lineEnded, byteRead, bytesRead, Filed, filed, filedBy}
@@ -71,7 +71,7 @@ abbrev returned : Notes → Notes
 returned n = with-draft n (withByte (n .draft) carriage-return) (heardWith (n .heard) (n .draft) carriage-return)
 
 return-fault : (place : Place) (n : Notes) → (place ≡ Returned → ⊥) → n .draft .place ≡ place → faultBy (stopped (returned n)) ≡ faultBy (stopped n)
-unfolding afterGap afterField fieldsLine fits roomAt heardWith numberFault faultOf if
+unfolding afterGap afterField fieldsLine fits firstOf roomAt heardWith numberFault faultOf if
 return-fault Between n other is = rw is
 return-fault Within n other is = rw is
 return-fault Comment n other is = rw is

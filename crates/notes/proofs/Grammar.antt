@@ -1,12 +1,13 @@
 -- Reading a line byte by byte is reading its words: word by word, each against its kind.
 use mathlib.Core.Bool.{Bool, true, false, _&&_, _||_, false≢true}
 use mathlib.Core.Path.{_≡_, refl, sym, ap, _∙_}
-use mathlib.Core.List.{List, [], _∷_, _++_, append-assoc, append-nil}
+use mathlib.Core.List.{List, [], _∷_, _++_, map, append-assoc, append-nil}
 use mathlib.Core.Logic.{_⊎_, inl, inr}
-use Prim.Native.Nat.{ℕ, suc, _+_, _-_, _*_, _^_, _≤_}
+use Prim.Native.Nat.{ℕ, suc, _+_, _-_, _*_, _^_, _≤_, _<_}
 use native.Mathlib.Omega.{arith}
+use native.Mathlib.Numerals.{add-one}
 use lib.Dec.{leb, ltb, eqb}
-use borrow.Author.Tests.{eqb-true, ltb-true, lt-ltb, ltb-false, le-ltb, leb-true}
+use borrow.Author.Tests.{eqb-true, ne-eqb, ltb-true, lt-ltb, ltb-false, le-ltb, leb-true}
 use Rattle.table.specs.Fold.{if}
 use Rattle.table.proofs.Tests.{both, same-test, by-if}
 use Rattle.listing.specs.Line.{space}
@@ -17,9 +18,9 @@ use Rattle.notes.specs.declared.line.Line.the-variants.{Wrong}
 use Rattle.notes.specs.declared.draft.Place.{Place}
 use Rattle.notes.specs.declared.draft.Place.the-variants.{Between, Within, Comment, Returned, Stray, Amiss}
 use Rattle.notes.specs.declared.draft.Draft.{Draft}
-use Rattle.notes.specs.Draft.{drafted, placed, amiss, tab, isGap, hash, carriage-return, isLetter, lettered, isDigit, longer, lengthens, firstLonger, secondLonger, inField, begun, afterGap, afterField, withByte}
+use Rattle.notes.specs.Draft.{drafted, placed, amiss, tab, isGap, hash, carriage-return, isLetter, lettered, isDigit, longer, lengthens, numbered, inField, begun, afterGap, afterField, withByte}
 use Rattle.notes.specs.Line.{heldAfter, fieldsLine, lineOf}
-use Rattle.notes.specs.Words.{unreturned, uncommented, ended-word, wordsAfter, allOf, isName, isNumber, lineOfWords}
+use Rattle.notes.specs.Words.{unreturned, uncommented, ended-word, wordsAfter, allOf, isName, isNumber, numbersLine, lineOfWords}
 use Rattle.notes.specs.Laws.{drawn, LineByWords}
 use Rattle.notes.proofs.Words.{held-append, held-grows}
 
@@ -37,7 +38,7 @@ and-assoc : (a b c : Bool) → ((a && b) && c) ≡ (a && (b && c))
 and-assoc true b c = refl
 and-assoc false b c = refl
 
-all-append : (f : ℕ → Bool) (a b : List ℕ) → allOf f (a ++ b) ≡ (allOf f a && allOf f b)
+all-append : {A : Type 0} (f : A → Bool) (a b : List A) → allOf f (a ++ b) ≡ (allOf f a && allOf f b)
 unfolding allOf
 all-append f [] b = refl
 all-append f (x ∷ a) b = ap (λ (k : Bool). f x && k) (all-append f a b) ∙ sym (and-assoc (f x) (allOf f a) (allOf f b))
@@ -185,9 +186,9 @@ word-started x w (byte ∷ rest) = go (word-started x (w ++ (byte ∷ [])) rest)
         }
 
 -- a byte behind one of a field, and a byte after a gap
-module _ (k h a b byte : ℕ) where
+module _ (k h earlier before last byte : ℕ) where
   abbrev field-at : Place → Draft
-  field-at place = drafted place k h a b
+  field-at place = drafted place k h earlier before last
 
   field-gap : isGap byte ≡ true → withByte (field-at Within) byte ≡ field-at Between
   unfolding afterField if
@@ -223,14 +224,14 @@ module _ (k h a b byte : ℕ) where
       unfolding afterGap if
       gap-on r = rw (s, c, r)
 
--- ---- a word: `done` are those before it, `ok` is what it has to be, and the line holds it as `h`, `a`, `b` say
+-- ---- a word: `done` are those before it, `ok` is what it has to be, and the line holds it as `named` and `spelt` say
 
-module _ (done : List (List ℕ)) (k h a b : ℕ) (h2 a2 b2 : List ℕ → ℕ) (ok : List ℕ → Bool) where
+module _ (done : List (List ℕ)) (k h earlier before last : ℕ) (named spelt : List ℕ → ℕ) (ok : List ℕ → Bool) where
   abbrev gap : Draft
-  gap = drafted Between k h a b
+  gap = drafted Between k h earlier before last
 
   abbrev in-word : List ℕ → Draft
-  in-word w = drafted Within (suc k) (h2 w) (a2 w) (b2 w)
+  in-word w = drafted Within (suc k) (named w) before last (spelt w)
 
   abbrev words-and : List (List ℕ) → Line
   words-and others = lineOfWords (done ++ others)
@@ -275,11 +276,11 @@ module _ (done : List (List ℕ)) (k h a b : ℕ) (h2 a2 b2 : List ℕ → ℕ) 
         → Reads (x ∷ w) (byte ∷ rest)
     unfolding drawn wordsAfter fieldsLine
     word-return x w byte [] fine s c r =
-        ap (λ (d : Draft). lineOf d) (field-return (suc k) (h2 (x ∷ w)) (a2 (x ∷ w)) (b2 (x ∷ w)) byte s c r)
+        ap (λ (d : Draft). lineOf d) (field-return (suc k) (named (x ∷ w)) before last (spelt (x ∷ w)) byte s c r)
         ∙ kind .one (x ∷ w) fine
         ∙ sym (ap (λ (u : List ℕ). words-and (wordsAfter (x ∷ w) u)) (line-ends byte r))
     word-return x w byte (next ∷ rest) fine s c r =
-        ap (λ (d : Draft). lineOf (drawn d (next ∷ rest))) (field-return (suc k) (h2 (x ∷ w)) (a2 (x ∷ w)) (b2 (x ∷ w)) byte s c r)
+        ap (λ (d : Draft). lineOf (drawn d (next ∷ rest))) (field-return (suc k) (named (x ∷ w)) before last (spelt (x ∷ w)) byte s c r)
         ∙ returned (in-word (x ∷ w)) x (w ++ (byte ∷ [])) next rest (plain (next ∷ rest))
         (ap (λ (b : ℕ). ok (x ∷ (w ++ (b ∷ [])))) (eqb-true byte carriage-return r) ∙ kind .no-return (x ∷ w))
         ∙ sym (ap (λ (u : List ℕ). words-and (wordsAfter (x ∷ w) u)) (goes-on byte c next rest) ∙ ap words-and (word-goes-on byte (plain (next ∷ rest)) (x ∷ w) s))
@@ -290,18 +291,18 @@ module _ (done : List (List ℕ)) (k h a b : ℕ) (h2 a2 b2 : List ℕ → ℕ) 
         → (eqb byte carriage-return ≡ true) ⊎ (eqb byte carriage-return ≡ false) → Reads (x ∷ w) (byte ∷ rest)
     unfolding drawn wordsAfter fieldsLine
     word-byte x w byte rest fine onward (inl s) c r =
-        ap (λ (d : Draft). lineOf (drawn d rest)) (field-gap (suc k) (h2 (x ∷ w)) (a2 (x ∷ w)) (b2 (x ∷ w)) byte s)
+        ap (λ (d : Draft). lineOf (drawn d rest)) (field-gap (suc k) (named (x ∷ w)) before last (spelt (x ∷ w)) byte s)
         ∙ kind .next (x ∷ w) rest fine
         ∙ ap lineOfWords (append-assoc done ((x ∷ w) ∷ []) (wordsAfter [] (plain rest)))
         ∙ sym (ap (λ (u : List ℕ). words-and (wordsAfter (x ∷ w) u)) (gap-goes-on byte rest s) ∙ ap words-and (word-ends byte (plain rest) (x ∷ w) s))
     word-byte x w byte rest fine onward (inr s) (inl c) r =
-        ap (λ (d : Draft). lineOf (drawn d rest)) (field-hash (suc k) (h2 (x ∷ w)) (a2 (x ∷ w)) (b2 (x ∷ w)) byte s c)
+        ap (λ (d : Draft). lineOf (drawn d rest)) (field-hash (suc k) (named (x ∷ w)) before last (spelt (x ∷ w)) byte s c)
         ∙ ap (λ (d : Draft). lineOf d) (comment-stays (in-word (x ∷ w)) rest)
         ∙ kind .one (x ∷ w) fine
         ∙ sym (ap (λ (u : List ℕ). words-and (wordsAfter (x ∷ w) u)) (comment-starts byte rest c))
     word-byte x w byte rest fine onward (inr s) (inr c) (inl r) = word-return x w byte rest fine s c r
     word-byte x w byte rest fine onward (inr s) (inr c) (inr r) =
-        ap (λ (d : Draft). lineOf (drawn d rest)) (field-on (suc k) (h2 (x ∷ w)) (a2 (x ∷ w)) (b2 (x ∷ w)) byte s c r ∙ kind .on (x ∷ w) byte fine)
+        ap (λ (d : Draft). lineOf (drawn d rest)) (field-on (suc k) (named (x ∷ w)) before last (spelt (x ∷ w)) byte s c r ∙ kind .on (x ∷ w) byte fine)
         ∙ longer-reads (kind .bad (x ∷ w)) x (w ++ (byte ∷ [])) rest onward
         ∙ sym (ap (λ (u : List ℕ). words-and (wordsAfter (x ∷ w) u)) (no-comment byte c rest r) ∙ ap words-and (word-goes-on byte (plain rest) (x ∷ w) s))
 
@@ -315,11 +316,11 @@ module _ (done : List (List ℕ)) (k h a b : ℕ) (h2 a2 b2 : List ℕ → ℕ) 
         → lineOf (drawn gap (byte ∷ rest)) ≡ words-and (wordsAfter [] (plain (byte ∷ rest)))
     unfolding drawn wordsAfter fieldsLine
     gap-carriage byte [] s c r =
-        ap (λ (d : Draft). lineOf d) (gap-return k h a b byte s c r)
+        ap (λ (d : Draft). lineOf d) (gap-return k h earlier before last byte s c r)
         ∙ kind .none
         ∙ sym (ap (λ (u : List ℕ). words-and (wordsAfter [] u)) (line-ends byte r))
     gap-carriage byte (next ∷ rest) s c r =
-        ap (λ (d : Draft). lineOf (drawn d (next ∷ rest))) (gap-return k h a b byte s c r)
+        ap (λ (d : Draft). lineOf (drawn d (next ∷ rest))) (gap-return k h earlier before last byte s c r)
         ∙ returned gap byte [] next rest (plain (next ∷ rest)) (ap (λ (b : ℕ). ok (b ∷ [])) (eqb-true byte carriage-return r) ∙ kind .no-return [])
         ∙ sym (ap (λ (u : List ℕ). words-and (wordsAfter [] u)) (goes-on byte c next rest) ∙ ap words-and (word-goes-on byte (plain (next ∷ rest)) [] s))
 
@@ -329,17 +330,17 @@ module _ (done : List (List ℕ)) (k h a b : ℕ) (h2 a2 b2 : List ℕ → ℕ) 
         → lineOf (drawn gap (byte ∷ rest)) ≡ words-and (wordsAfter [] (plain (byte ∷ rest)))
     unfolding drawn wordsAfter fieldsLine
     gap-byte byte rest later (inl s) c r =
-        ap (λ (d : Draft). lineOf (drawn d rest)) (gap-gap k h a b byte s)
+        ap (λ (d : Draft). lineOf (drawn d rest)) (gap-gap k h earlier before last byte s)
         ∙ later
         ∙ sym (ap (λ (u : List ℕ). words-and (wordsAfter [] u)) (gap-goes-on byte rest s) ∙ ap words-and (word-ends byte (plain rest) [] s))
     gap-byte byte rest later (inr s) (inl c) r =
-        ap (λ (d : Draft). lineOf (drawn d rest)) (gap-hash k h a b byte s c)
+        ap (λ (d : Draft). lineOf (drawn d rest)) (gap-hash k h earlier before last byte s c)
         ∙ ap (λ (d : Draft). lineOf d) (comment-stays gap rest)
         ∙ kind .none
         ∙ sym (ap (λ (u : List ℕ). words-and (wordsAfter [] u)) (comment-starts byte rest c))
     gap-byte byte rest later (inr s) (inr c) (inl r) = gap-carriage byte rest s c r
     gap-byte byte rest later (inr s) (inr c) (inr r) =
-        ap (λ (d : Draft). lineOf (drawn d rest)) (gap-on k h a b byte s c r ∙ kind .from byte)
+        ap (λ (d : Draft). lineOf (drawn d rest)) (gap-on k h earlier before last byte s c r ∙ kind .from byte)
         ∙ longer-reads (kind .bad []) byte [] rest (word-reads byte [] rest)
         ∙ sym (ap (λ (u : List ℕ). words-and (wordsAfter [] u)) (no-comment byte c rest r) ∙ ap words-and (word-goes-on byte (plain rest) [] s))
 
@@ -347,23 +348,6 @@ module _ (done : List (List ℕ)) (k h a b : ℕ) (h2 a2 b2 : List ℕ → ℕ) 
     unfolding drawn unreturned uncommented wordsAfter
     gap-reads [] = kind .none
     gap-reads (byte ∷ rest) = gap-byte byte rest (gap-reads rest) (test (isGap byte)) (test (eqb byte hash)) (test (eqb byte carriage-return))
-
--- ---- what a line with so many right words is
-
-module _ (name : List ℕ) (n : isName name ≡ true) where
-  one-word : (place : Place) → fieldsLine (drafted place 1 (heldAfter 0 name) 0 0) ≡ lineOfWords (name ∷ [])
-  unfolding fieldsLine if
-  one-word place = rw n
-
-  module _ (first : List ℕ) (f : isNumber first ≡ true) where
-    two-words : (place : Place) → fieldsLine (drafted place 2 (heldAfter 0 name) (speltAfter 0 first) 0) ≡ lineOfWords (name ∷ first ∷ [])
-    unfolding fieldsLine if
-    two-words place = rw (n, f)
-
-    three-words : (place : Place) (second : List ℕ) → isNumber second ≡ true
-        → fieldsLine (drafted place 3 (heldAfter 0 name) (speltAfter 0 first) (speltAfter 0 second)) ≡ lineOfWords (name ∷ first ∷ second ∷ [])
-    unfolding fieldsLine if
-    three-words place second s = rw (n, f, s)
 
 -- ---- a byte more in a number, and in a name
 
@@ -384,12 +368,12 @@ module _ (number : ℕ → Draft) (bad : Draft) (w : List ℕ) (byte : ℕ) (fin
       ∙ ap (λ (t : Bool). if t (number (speltAfter 0 (w ++ (byte ∷ [])))) bad) (sym (digit-more w byte fine))
 
 module _ (bad : Draft) (w : List ℕ) (byte : ℕ) (fine : isName w ≡ true) where
-  letter-on : if (isLetter byte && ltb (heldAfter 0 w) (256 ^ 7)) (drafted Within 1 (heldAfter 0 w * 256 + byte) 0 0) bad
-      ≡ if (isName (w ++ (byte ∷ []))) (drafted Within 1 (heldAfter 0 (w ++ (byte ∷ []))) 0 0) bad
+  letter-on : if (isLetter byte && ltb (heldAfter 0 w) (256 ^ 7)) (drafted Within 1 (heldAfter 0 w * 256 + byte) 0 0 0) bad
+      ≡ if (isName (w ++ (byte ∷ []))) (drafted Within 1 (heldAfter 0 (w ++ (byte ∷ []))) 0 0 0) bad
   unfolding heldAfter
   letter-on =
-      ap (λ (v : ℕ). if (isLetter byte && ltb (heldAfter 0 w) (256 ^ 7)) (drafted Within 1 v 0 0) bad) (sym (held-append w (byte ∷ []) 0))
-      ∙ ap (λ (t : Bool). if t (drafted Within 1 (heldAfter 0 (w ++ (byte ∷ []))) 0 0) bad) (sym (letter-more w byte fine))
+      ap (λ (v : ℕ). if (isLetter byte && ltb (heldAfter 0 w) (256 ^ 7)) (drafted Within 1 v 0 0 0) bad) (sym (held-append w (byte ∷ []) 0))
+      ∙ ap (λ (t : Bool). if t (drafted Within 1 (heldAfter 0 (w ++ (byte ∷ []))) 0 0 0) bad) (sym (letter-more w byte fine))
 
 -- neither has a carriage return in it
 module _ (w : List ℕ) where
@@ -401,90 +385,112 @@ module _ (w : List ℕ) where
   unfolding isName allOf
   name-no-return = rw (all-append isLetter w (carriage-return ∷ []), and-false (allOf isLetter w))
 
+-- a number begins and goes on in any field but the first
+module _ (k h earlier before last byte : ℕ) where
+  pub number-begins : suc k < 4 → begun (drafted Between (suc k) h earlier before last) byte ≡ numbered (drafted Within (suc (suc k)) h before last 0) byte
+  unfolding begun inField if
+  number-begins few = rw (lt-ltb (suc k) 4 few, add-one, ne-eqb (suc (suc k)) 1 (λ e. omega (arith, e)))
+
+  pub number-goes-on : inField (drafted Within (suc (suc k)) h earlier before last) byte ≡ numbered (drafted Within (suc (suc k)) h earlier before last) byte
+  unfolding inField if
+  number-goes-on = rw (ne-eqb (suc (suc k)) 1 (λ e. omega (arith, e)))
+
 -- ---- the words, the last first
 
 module _ (name : List ℕ) (n : isName name ≡ true) where
-  module _ (first : List ℕ) (f : isNumber first ≡ true) where
-    -- a fourth word is too many
-    fourth : (second : List ℕ) → isNumber second ≡ true → (rest : List ℕ)
-        → lineOf (drawn (drafted Between 3 (heldAfter 0 name) (speltAfter 0 first) (speltAfter 0 second)) rest)
-        ≡ lineOfWords ((name ∷ first ∷ second ∷ []) ++ wordsAfter [] (plain rest))
-    unfolding begun if
-    fourth second s rest =
-        gap-reads (name ∷ first ∷ second ∷ []) 3 (heldAfter 0 name) (speltAfter 0 first) (speltAfter 0 second) (λ _. 0) (λ _. 0) (λ _. 0) (λ _. false)
-        (record {
-          bad = λ _. drafted Between 4 (heldAfter 0 name) (speltAfter 0 first) (speltAfter 0 second);
-          from = λ byte. refl;
-          on = λ w byte o. absurd (false≢true o);
-          none = three-words name n first f Between second s;
-          one = λ w o. absurd (false≢true o);
-          no-return = λ w. refl;
-          hopeless = λ w more others o. refl;
-          next = λ w rest2 o. absurd (false≢true o);
-        })
-        rest
+  abbrev h : ℕ
+  h = heldAfter 0 name
 
-    second-hopeless : (w more : List ℕ) (others : List (List ℕ)) → isNumber w ≡ false → lineOfWords (name ∷ first ∷ (w ++ more) ∷ others) ≡ Wrong
-    unfolding if
-    second-hopeless w more [] o = rw (number-spoilt w more o, and-false (isName name && isNumber first))
-    second-hopeless w more (x ∷ others) o = refl
+  abbrev line-of : List (List ℕ) → Line
+  line-of numbers = numbersLine h (map (speltAfter 0) numbers)
 
-    third : (rest : List ℕ)
-        → lineOf (drawn (drafted Between 2 (heldAfter 0 name) (speltAfter 0 first) 0) rest)
-        ≡ lineOfWords ((name ∷ first ∷ []) ++ wordsAfter [] (plain rest))
-    unfolding begun inField secondLonger if speltAfter
-    third =
-        gap-reads (name ∷ first ∷ []) 2 (heldAfter 0 name) (speltAfter 0 first) 0 (λ _. heldAfter 0 name) (λ _. speltAfter 0 first) (speltAfter 0) isNumber
-        (record {
-          bad = λ w. drafted Within 3 (heldAfter 0 name) (speltAfter 0 first) (speltAfter 0 w);
-          from = λ byte. digit-on (drafted Within 3 (heldAfter 0 name) (speltAfter 0 first)) (drafted Amiss 3 (heldAfter 0 name) (speltAfter 0 first) 0) [] byte no-digits;
-          on = λ w byte o. digit-on (drafted Within 3 (heldAfter 0 name) (speltAfter 0 first)) (drafted Amiss 3 (heldAfter 0 name) (speltAfter 0 first) (speltAfter 0 w)) w byte o;
-          none = two-words name n first f Between;
-          one = λ w o. three-words name n first f Within w o;
-          no-return = number-no-return;
-          hopeless = second-hopeless;
-          next = λ w rest2 o. fourth w o rest2;
-        })
-
-  first-hopeless : (w more : List ℕ) (others : List (List ℕ)) → isNumber w ≡ false → lineOfWords (name ∷ (w ++ more) ∷ others) ≡ Wrong
+  right-words : (numbers : List (List ℕ)) → allOf isNumber numbers ≡ true → line-of numbers ≡ lineOfWords (name ∷ numbers)
   unfolding if
-  first-hopeless w more [] o = rw (number-spoilt w more o, and-false (isName name))
-  first-hopeless w more (x ∷ []) o = rw (number-spoilt w more o, and-false (isName name))
-  first-hopeless w more (x ∷ y ∷ others) o = refl
+  right-words numbers all = rw (n, all)
 
-  second : (rest : List ℕ) → lineOf (drawn (drafted Between 1 (heldAfter 0 name) 0 0) rest) ≡ lineOfWords ((name ∷ []) ++ wordsAfter [] (plain rest))
-  unfolding begun inField firstLonger if speltAfter
-  second =
-      gap-reads (name ∷ []) 1 (heldAfter 0 name) 0 0 (λ _. heldAfter 0 name) (speltAfter 0) (λ _. 0) isNumber
+  -- a word that is no number leaves no hope, wherever it stands
+  no-number : (numbers : List (List ℕ)) (w more : List ℕ) (others : List (List ℕ)) → isNumber w ≡ false → lineOfWords ((name ∷ numbers) ++ ((w ++ more) ∷ others)) ≡ Wrong
+  unfolding if allOf
+  no-number numbers w more others o = rw (all-append isNumber numbers ((w ++ more) ∷ others), number-spoilt w more o, and-false (allOf isNumber numbers), and-false (isName name))
+
+  abbrev Goes-on : List (List ℕ) → Draft → Type 0
+  Goes-on numbers d = (rest : List ℕ) → lineOf (drawn d rest) ≡ lineOfWords ((name ∷ numbers) ++ wordsAfter [] (plain rest))
+
+  -- a number behind k others, which are right
+  module _ (numbers : List (List ℕ)) (all : allOf isNumber numbers ≡ true) (k earlier before last : ℕ) (few : suc k < 4)
+      (none : fieldsLine (drafted Between (suc k) h earlier before last) ≡ line-of numbers) where
+    abbrev with-number : Place → List ℕ → Draft
+    with-number place w = drafted place (suc (suc k)) h before last (speltAfter 0 w)
+
+    all-more : (w : List ℕ) → isNumber w ≡ true → allOf isNumber (numbers ++ (w ∷ [])) ≡ true
+    unfolding allOf
+    all-more w o = rw (all-append isNumber numbers (w ∷ []), all, o)
+
+    number-reads : ((w : List ℕ) → fieldsLine (with-number Within w) ≡ line-of (numbers ++ (w ∷ [])))
+        → ((w : List ℕ) → allOf isNumber (numbers ++ (w ∷ [])) ≡ true → Goes-on (numbers ++ (w ∷ [])) (with-number Between w))
+        → Goes-on numbers (drafted Between (suc k) h earlier before last)
+    unfolding numbered speltAfter
+    number-reads one next =
+        gap-reads (name ∷ numbers) (suc k) h earlier before last (λ _. h) (speltAfter 0) isNumber
+        (record {
+          bad = with-number Within;
+          from = λ byte. number-begins k h earlier before last byte few ∙ digit-on (drafted Within (suc (suc k)) h before last) (amiss (with-number Within [])) [] byte no-digits;
+          on = λ w byte o. number-goes-on k h before last (speltAfter 0 w) byte ∙ digit-on (drafted Within (suc (suc k)) h before last) (amiss (with-number Within w)) w byte o;
+          none = none ∙ right-words numbers all ∙ ap (λ (others : List (List ℕ)). lineOfWords (name ∷ others)) (sym (append-nil numbers));
+          one = λ w o. one w ∙ right-words (numbers ++ (w ∷ [])) (all-more w o);
+          no-return = number-no-return;
+          hopeless = no-number numbers;
+          next = λ w rest o. next w (all-more w o) rest;
+        })
+
+  -- a fourth number is too many
+  too-many : (b : Bool) → if b Wrong Wrong ≡ Wrong
+  unfolding if
+  too-many true = refl
+  too-many false = refl
+
+  after-three : (a b c : List ℕ) → allOf isNumber (a ∷ b ∷ c ∷ []) ≡ true → Goes-on (a ∷ b ∷ c ∷ []) (drafted Between 4 h (speltAfter 0 a) (speltAfter 0 b) (speltAfter 0 c))
+  unfolding begun fieldsLine if
+  after-three a b c all =
+      gap-reads (name ∷ a ∷ b ∷ c ∷ []) 4 h (speltAfter 0 a) (speltAfter 0 b) (speltAfter 0 c) (λ _. 0) (λ _. 0) (λ _. false)
       (record {
-        bad = λ w. drafted Within 2 (heldAfter 0 name) (speltAfter 0 w) 0;
-        from = λ byte. digit-on (λ v. drafted Within 2 (heldAfter 0 name) v 0) (drafted Amiss 2 (heldAfter 0 name) 0 0) [] byte no-digits;
-        on = λ w byte o. digit-on (λ v. drafted Within 2 (heldAfter 0 name) v 0) (drafted Amiss 2 (heldAfter 0 name) (speltAfter 0 w) 0) w byte o;
-        none = one-word name n Between;
-        one = λ w o. two-words name n w o Within;
-        no-return = number-no-return;
-        hopeless = first-hopeless;
-        next = λ w rest2 o. third w o rest2;
+        bad = λ _. drafted Between 5 h (speltAfter 0 a) (speltAfter 0 b) (speltAfter 0 c);
+        from = λ byte. refl;
+        on = λ w byte o. absurd (false≢true o);
+        none = right-words (a ∷ b ∷ c ∷ []) all;
+        one = λ w o. absurd (false≢true o);
+        no-return = λ w. refl;
+        hopeless = λ w more others o. too-many (isName name && allOf isNumber (a ∷ b ∷ c ∷ (w ++ more) ∷ others));
+        next = λ w rest o. absurd (false≢true o);
       })
+
+  after-two : (a b : List ℕ) → allOf isNumber (a ∷ b ∷ []) ≡ true → Goes-on (a ∷ b ∷ []) (drafted Between 3 h 0 (speltAfter 0 a) (speltAfter 0 b))
+  unfolding fieldsLine if
+  after-two a b all = number-reads (a ∷ b ∷ []) all 2 0 (speltAfter 0 a) (speltAfter 0 b) (omega arith) refl (λ w. refl) (after-three a b)
+
+  after-one : (a : List ℕ) → allOf isNumber (a ∷ []) ≡ true → Goes-on (a ∷ []) (drafted Between 2 h 0 0 (speltAfter 0 a))
+  unfolding fieldsLine if
+  after-one a all = number-reads (a ∷ []) all 1 0 0 (speltAfter 0 a) (omega arith) refl (λ w. refl) (after-two a)
+
+  after-name : Goes-on [] (drafted Between 1 h 0 0 0)
+  unfolding fieldsLine if allOf
+  after-name = number-reads [] refl 0 0 0 0 (omega arith) refl (λ w. refl) after-one
 
 name-hopeless : (w more : List ℕ) (others : List (List ℕ)) → isName w ≡ false → lineOfWords ((w ++ more) ∷ others) ≡ Wrong
 unfolding if
-name-hopeless w more [] o = rw (name-spoilt w more o)
-name-hopeless w more (x ∷ []) o = rw (name-spoilt w more o)
-name-hopeless w more (x ∷ y ∷ []) o = rw (name-spoilt w more o)
-name-hopeless w more (x ∷ y ∷ z ∷ others) o = refl
+name-hopeless w more others o = rw (name-spoilt w more o)
 
 pub line-by-words : LineByWords
-unfolding begun inField lettered fieldsLine if heldAfter
+unfolding begun inField lettered fieldsLine if heldAfter allOf
 line-by-words =
-    gap-reads [] 0 0 0 0 (heldAfter 0) (λ _. 0) (λ _. 0) isName
+    gap-reads [] 0 0 0 0 0 (heldAfter 0) (λ _. 0) isName
     (record {
-      bad = λ w. drafted Within 1 (heldAfter 0 w) 0 0;
-      from = λ byte. letter-on (drafted Amiss 1 0 0 0) [] byte no-letters;
-      on = λ w byte o. letter-on (drafted Amiss 1 (heldAfter 0 w) 0 0) w byte o;
+      bad = λ w. drafted Within 1 (heldAfter 0 w) 0 0 0;
+      from = λ byte. letter-on (drafted Amiss 1 0 0 0 0) [] byte no-letters;
+      on = λ w byte o. letter-on (drafted Amiss 1 (heldAfter 0 w) 0 0 0) w byte o;
       none = refl;
-      one = λ w o. one-word w o Within;
+      one = λ w o. right-words w o [] refl;
       no-return = name-no-return;
       hopeless = name-hopeless;
-      next = λ w rest o. second w o rest;
+      next = λ w rest o. after-name w o rest;
     })

@@ -6,5 +6,6 @@ pub mod Faults
 pub mod Gaps
 pub mod ReadBack
 pub mod RoundTrip
+pub mod Tags
 pub mod Worked
 pub mod Words

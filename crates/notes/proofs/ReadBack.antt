@@ -1,8 +1,8 @@
 -- A line of notes is taken as what its words say; and a line that is shown is read as that line.
 use mathlib.Core.Bool.{Bool, true, false, false≢true}
 use mathlib.Core.Path.{_≡_, refl, sym, ap, _∙_}
-use mathlib.Core.List.{List, [], _∷_, _++_}
-use Prim.Native.Nat.{ℕ, _+_, _-_, _^_, _≤_, _<_}
+use mathlib.Core.List.{List, [], _∷_, _++_, map}
+use Prim.Native.Nat.{ℕ, zero, suc, _+_, _-_, _^_, _≤_, _<_}
 use native.Mathlib.Omega.{arith}
 use native.Mathlib.Nat.{not-suc-le-zero}
 use lib.Dec.{eqb}
@@ -20,14 +20,14 @@ use Rattle.notes.specs.declared.line.Line.the-variants.{Blank, Worst, Sp
 use Rattle.notes.specs.declared.draft.Place.the-variants.{Between, Within}
 use Rattle.notes.specs.declared.draft.Draft.{Draft}
 use Rattle.notes.specs.declared.heard.Heard.{Heard}
-use Rattle.notes.specs.Draft.{drafted, blank, tab, isGap, hash, carriage-return, lettered, longer, lengthens, firstLonger, secondLonger, inField, begun, afterGap, afterField, withByte}
-use Rattle.notes.specs.Line.{heldAfter, held, wordLine, tableLine, numberLine, streamLine, pairLine, fieldsLine, lineOf}
+use Rattle.notes.specs.Draft.{drafted, blank, tab, isGap, hash, carriage-return, lettered, longer, lengthens, numbered, inField, begun, afterGap, afterField, withByte}
+use Rattle.notes.specs.Line.{heldAfter, held, wordLine, tableLine, numberLine, streamLine, pairLine, tripleLine, fieldsLine, lineOf}
 use Rattle.notes.specs.Heard.{unheard, heardWith}
 use Rattle.notes.specs.Notes.{noted, stopped, afterNumber, afterStream, beganBy, afterEvent, after, expectedBy, Read, read, lineRefusal, refusedBy, traceAfter, lineEnded, byteRead, bytesRead}
 use Rattle.notes.specs.Laws.{LineReadsBack, drawn, LineIsJudged}
 use Rattle.notes.specs.Words.{wordsOf, lineOfWords}
 use Rattle.notes.proofs.Choices.{byte-lengthens}
-use Rattle.notes.proofs.Grammar.{line-by-words}
+use Rattle.notes.proofs.Grammar.{number-begins, number-goes-on, line-by-words}
 
 -- ---- digits
 
@@ -47,48 +47,49 @@ no-hash byte d = ne-eqb byte hash (λ e. omega (arith, d .0, e))
 no-return : (byte : ℕ) → Digit byte → eqb byte carriage-return ≡ false
 no-return byte d = ne-eqb byte carriage-return (λ e. omega (arith, d .0, e))
 
-module _ (w n byte : ℕ) (d : Digit byte) (h : longer n byte < 2 ^ 64) where
-  first-on : withByte (drafted Within 2 w n 0) byte ≡ drafted Within 2 w (longer n byte) 0
-  unfolding afterField inField firstLonger if
-  first-on = rw (no-gap byte d, no-hash byte d, no-return byte d, digit-lengthens n byte d h)
+-- the next digit of a number, and the first
+module _ (k w earlier before n byte : ℕ) (d : Digit byte) where
+  number-on : longer n byte < 2 ^ 64 → withByte (drafted Within (suc (suc k)) w earlier before n) byte ≡ drafted Within (suc (suc k)) w earlier before (longer n byte)
+  unfolding afterField numbered if
+  number-on h = rw (no-gap byte d, no-hash byte d, no-return byte d, number-goes-on k w earlier before n byte, digit-lengthens n byte d h)
 
-  second-on : (a : ℕ) → withByte (drafted Within 3 w a n) byte ≡ drafted Within 3 w a (longer n byte)
-  unfolding afterField inField secondLonger if
-  second-on a = rw (no-gap byte d, no-hash byte d, no-return byte d, digit-lengthens n byte d h)
-
-module _ (w byte : ℕ) (d : Digit byte) (h : longer 0 byte < 2 ^ 64) where
-  first-from : withByte (drafted Between 1 w 0 0) byte ≡ drafted Within 2 w (longer 0 byte) 0
-  unfolding afterGap begun inField firstLonger if
-  first-from = rw (no-gap byte d, no-hash byte d, no-return byte d, digit-lengthens 0 byte d h)
-
-  second-from : (a : ℕ) → withByte (drafted Between 2 w a 0) byte ≡ drafted Within 3 w a (longer 0 byte)
-  unfolding afterGap begun inField secondLonger if
-  second-from a = rw (no-gap byte d, no-hash byte d, no-return byte d, digit-lengthens 0 byte d h)
+  number-from : suc k < 4 → longer 0 byte < 2 ^ 64 → withByte (drafted Between (suc k) w earlier before n) byte ≡ drafted Within (suc (suc k)) w before n (longer 0 byte)
+  unfolding afterGap numbered if
+  number-from few h = rw (no-gap byte d, no-hash byte d, no-return byte d, number-begins k w earlier before n byte few, digit-lengthens 0 byte d h)
 
 -- ---- digits and letters, one after the other
 
--- a number: `gap` is the line before it, `number n` the line where it is n so far
-module _ (gap : Draft) (number : ℕ → Draft)
-    (from : (byte : ℕ) → Digit byte → longer 0 byte < 2 ^ 64 → withByte gap byte ≡ number (longer 0 byte))
-    (on : (n byte : ℕ) → Digit byte → longer n byte < 2 ^ 64 → withByte (number n) byte ≡ number (longer n byte)) where
+-- a number behind k others: `gap` is the line before it, `number n` the line where it is n so far
+module _ (k w earlier before last : ℕ) (few : suc k < 4) where
+  abbrev gap : Draft
+  gap = drafted Between (suc k) w earlier before last
+
+  abbrev number : ℕ → Draft
+  number n = drafted Within (suc (suc k)) w before last n
+
   digits-on : (ds : List ℕ) (n : ℕ) → Each Digit ds → speltAfter n ds < 2 ^ 64 → drawn (number n) ds ≡ number (speltAfter n ds)
   unfolding drawn speltAfter Each
   digits-on [] n p h = refl
   digits-on (d ∷ ds) n p h =
-      ap (λ (e : Draft). drawn e ds) (on n d (p .0) (omega (arith, spelt-grows (longer n d) ds, h)))
+      ap (λ (e : Draft). drawn e ds) (number-on k w before last n d (p .0) (omega (arith, spelt-grows (longer n d) ds, h)))
       ∙ digits-on ds (longer n d) (p .1) h
 
   digits-from : (ds : List ℕ) → 1 ≤ length ds → Each Digit ds → speltAfter 0 ds < 2 ^ 64 → drawn gap ds ≡ number (speltAfter 0 ds)
   unfolding drawn speltAfter Each
   digits-from [] some p h = absurd (not-suc-le-zero some)
   digits-from (d ∷ ds) some p h =
-      ap (λ (e : Draft). drawn e ds) (from d (p .0) (omega (arith, spelt-grows (longer 0 d) ds, h)))
+      ap (λ (e : Draft). drawn e ds) (number-from k w earlier before last d (p .0) few (omega (arith, spelt-grows (longer 0 d) ds, h)))
       ∙ digits-on ds (longer 0 d) (p .1) h
 
   number-drawn : (n : ℕ) → n < 2 ^ 64 → drawn gap (decimal n) ≡ number n
   number-drawn n h =
       let back = decimal-reads-back n in
       digits-from (decimal n) (decimal-some n) (decimal-is-digits n) (rw back h) ∙ ap number back
+
+-- a line with so many numbers more
+unfoldable more : Draft → List ℕ → Draft
+more d [] = d
+more d (n ∷ ns) = more (drafted Within (suc (d .fields)) (d .word) (d .before) (d .last) n) ns
 
 -- what is heard of a line, byte after byte
 unfoldable hearing : Heard → Draft → List ℕ → Heard
@@ -119,9 +120,9 @@ module _ (line numbers : ℕ) (table : Table) (events began : ℕ) (trace : List
       ∙ bytes-drawn bytes (withByte d byte) (heardWith h d byte) (p .1) rest
 
   -- some bytes end as this line, whatever is heard of it
-  record Ends (bytes : List ℕ) (d : Draft) : Type 0 where
+  record Ends (start : Read) (bytes : List ℕ) (d : Draft) : Type 0 where
     hears : Heard
-    are : bytesRead (at-draft blank unheard) bytes ≡ lineEnded (so-far d hears) trace
+    are : bytesRead start bytes ≡ lineEnded (so-far d hears) trace
 
   number-read : (gap : Draft) (h : Heard) (n : ℕ) (d : Draft) → drawn gap (decimal n) ≡ d
       → (rest : List ℕ) → bytesRead (at-draft gap h) (decimal n ++ rest) ≡ bytesRead (at-draft d (hearing h gap (decimal n))) rest
@@ -129,67 +130,49 @@ module _ (line numbers : ℕ) (table : Table) (events began : ℕ) (trace : List
       bytes-drawn (decimal n) gap h (digits-no-newline (decimal n) (decimal-is-digits n)) rest
       ∙ ap (λ (e : Draft). bytesRead (at-draft e (hearing h gap (decimal n))) rest) is
 
-  -- a word has been read, and the space after it
-  record Word (text : List ℕ) (w : ℕ) : Type 0 where
-    heard : Heard
-    reads : (rest : List ℕ) → bytesRead (at-draft blank unheard) (text ++ (space ∷ rest)) ≡ bytesRead (at-draft (drafted Between 1 w 0 0) heard) rest
-
-  one-number : (text : List ℕ) (w n : ℕ) → Word text w → n < 2 ^ 64 → Ends (text ++ onward (decimal n ∷ [])) (drafted Within 2 w n 0)
-  unfolding onward bytesRead byteRead if
-  one-number text w n word h =
+  -- the numbers behind k others, and the newline
+  numbers-end : (ns : List ℕ) (k w earlier before last : ℕ) (h : Heard) → suc k + length ns ≤ 4 → Each (λ n. n < 2 ^ 64) ns
+      → let d = drafted Within (suc k) w earlier before last in
+      Ends (at-draft d h) (onward (map decimal ns)) (more d ns)
+  unfolding more onward bytesRead byteRead if afterField Each
+  numbers-end [] k w earlier before last h few p = record { hears = h; are = refl }
+  numbers-end (n ∷ ns) k w earlier before last h few p =
+      let between = drafted Between (suc k) w earlier before last in
+      let next = drafted Within (suc (suc k)) w before last n in
+      let heard = heardWith h (drafted Within (suc k) w earlier before last) space in
+      let others = numbers-end ns (suc k) w before last n (hearing heard between (decimal n)) (omega (arith, few)) (p .1) in
       record {
-        hears = hearing (word .heard) (drafted Between 1 w 0 0) (decimal n);
+        hears = others .hears;
         are =
-            word .reads (decimal n ++ (newline ∷ []))
-            ∙ number-read (drafted Between 1 w 0 0) (word .heard) n (drafted Within 2 w n 0)
-            (number-drawn (drafted Between 1 w 0 0) (λ m. drafted Within 2 w m 0) (first-from w) (first-on w) n h) (newline ∷ []);
-      }
-
-  two-numbers : (text : List ℕ) (w a b : ℕ) → Word text w → a < 2 ^ 64 → b < 2 ^ 64 → Ends (text ++ onward (decimal a ∷ decimal b ∷ [])) (drafted Within 3 w a b)
-  unfolding onward bytesRead byteRead if afterField
-  two-numbers text w a b word ha hb =
-      let first : Heard = hearing (word .heard) (drafted Between 1 w 0 0) (decimal a) in
-      let gap : Heard = heardWith first (drafted Within 2 w a 0) space in
-      record {
-        hears = hearing gap (drafted Between 2 w a 0) (decimal b);
-        are =
-            word .reads (decimal a ++ (space ∷ (decimal b ++ (newline ∷ []))))
-            ∙ number-read (drafted Between 1 w 0 0) (word .heard) a (drafted Within 2 w a 0)
-            (number-drawn (drafted Between 1 w 0 0) (λ m. drafted Within 2 w m 0) (first-from w) (first-on w) a ha) (space ∷ (decimal b ++ (newline ∷ [])))
-            ∙ number-read (drafted Between 2 w a 0) gap b (drafted Within 3 w a b)
-            (number-drawn (drafted Between 2 w a 0) (λ m. drafted Within 3 w a m) (λ byte d h. second-from w byte d h a) (λ m byte d h. second-on w m byte d h a) b hb) (newline ∷ []);
+            number-read between heard n next (number-drawn k w earlier before last (omega (arith, few)) n (p .0)) (onward (map decimal ns))
+            ∙ others .are;
       }
 
   -- each word, letter by letter
-  word-of : (text : List ℕ) → ((rest : List ℕ) → bytesRead (at-draft blank unheard) (text ++ (space ∷ rest)) ≡ bytesRead (at-draft (drafted Between 1 (heldAfter 0 text) 0 0) (hearing unheard blank (text ++ (space ∷ [])))) rest)
-      → Word text (heldAfter 0 text)
-  word-of text reads = record { heard = hearing unheard blank (text ++ (space ∷ [])); reads = reads }
+  abbrev named : List ℕ → Draft
+  named text = drafted Within 1 (heldAfter 0 text) 0 0 0
 
-  words : Word (ascii "worst") (held "worst")
-      × Word (ascii "span") (held "span")
-      × Word (ascii "padding") (held "padding")
-      × Word (ascii "stream") (held "stream")
-      × Word (ascii "arrival") (held "arrival")
-      × Word (ascii "own") (held "own")
-      × Word (ascii "done") (held "done")
-      × Word (ascii "clock") (held "clock")
+  abbrev Word : List ℕ → Type 0
+  Word text = (rest : List ℕ) → bytesRead (at-draft blank unheard) (text ++ rest) ≡ bytesRead (at-draft (named text) (hearing unheard blank text)) rest
+
+  words : Word (ascii "worst")
+      × Word (ascii "span")
+      × Word (ascii "padding")
+      × Word (ascii "stream")
+      × Word (ascii "arrival")
+      × Word (ascii "turn")
+      × Word (ascii "own")
+      × Word (ascii "done")
+      × Word (ascii "clock")
   unfolding ascii heldAfter bytesRead byteRead if afterGap afterField begun inField lettered hearing
-  words = (
-    word-of (ascii "worst") (λ rest. refl),
-    word-of (ascii "span") (λ rest. refl),
-    word-of (ascii "padding") (λ rest. refl),
-    word-of (ascii "stream") (λ rest. refl),
-    word-of (ascii "arrival") (λ rest. refl),
-    word-of (ascii "own") (λ rest. refl),
-    word-of (ascii "done") (λ rest. refl),
-    word-of (ascii "clock") (λ rest. refl),
-  )
+  words = (λ rest. refl, λ rest. refl, λ rest. refl, λ rest. refl, λ rest. refl, λ rest. refl, λ rest. refl, λ rest. refl, λ rest. refl)
 
-  turn-read : Ends (ascii "turn" ++ onward []) (drafted Within 1 (held "turn") 0 0)
-  unfolding ascii heldAfter onward bytesRead byteRead if afterGap afterField begun inField lettered hearing
-  turn-read = record { hears = hearing unheard blank (ascii "turn"); are = refl }
+  word-ends : (text ns : List ℕ) → Word text → length ns ≤ 3 → Each (λ n. n < 2 ^ 64) ns → Ends (at-draft blank unheard) (text ++ onward (map decimal ns)) (more (named text) ns)
+  word-ends text ns word few p =
+      let e = numbers-end ns 0 (heldAfter 0 text) 0 0 0 (hearing unheard blank text) (omega (arith, few)) p in
+      record { hears = e .hears; are = word (onward (map decimal ns)) ∙ e .are }
 
-  blank-read : Ends (onward []) blank
+  blank-read : Ends (at-draft blank unheard) (onward []) blank
   unfolding onward bytesRead byteRead if
   blank-read = record { hears = unheard; are = refl }
 
@@ -253,9 +236,14 @@ module _ (line numbers : ℕ) (table : Table) (events began : ℕ) (trace : List
   unfolding bytesRead byteRead if
   line-drawn bytes p = bytes-drawn bytes blank unheard p (newline ∷ [])
 
-  line-taken : (bytes : List ℕ) (d : Draft) (l : Line) → Ends bytes d → lineOf d ≡ l → after before l .wrong ≡ false
+  line-taken : (bytes : List ℕ) (d : Draft) (l : Line) → Ends (at-draft blank unheard) bytes d → lineOf d ≡ l → after before l .wrong ≡ false
       → bytesRead (read before trace) bytes ≡ read (refusedBy (after before l) (lineRefusal trace events l)) (traceAfter trace events l)
   line-taken bytes d l e is h = e .are ∙ taken-as d (e .hears) l is h
+
+  -- a line of a word and up to three numbers
+  worded-taken : (text ns : List ℕ) (l : Line) → Word text → length ns ≤ 3 → Each (λ n. n < 2 ^ 64) ns → lineOf (more (named text) ns) ≡ l → after before l .wrong ≡ false
+      → bytesRead (read before trace) (text ++ onward (map decimal ns)) ≡ read (refusedBy (after before l) (lineRefusal trace events l)) (traceAfter trace events l)
+  worded-taken text ns l word few p is h = line-taken _ (more (named text) ns) l (word-ends text ns word few p) is h
 
 pub line-is-judged : LineIsJudged
 unfolding expectedBy
@@ -277,40 +265,44 @@ line-is-judged i k t e g trace bytes p =
 -- ---- what each line is read as
 
 module _ (n : ℕ) where
-  worst-line : n < 2 ^ 32 → lineOf (drafted Within 2 (held "worst") n 0) ≡ Worst n
+  worst-line : n < 2 ^ 32 → lineOf (drafted Within 2 (held "worst") 0 0 n) ≡ Worst n
   unfolding ascii heldAfter fieldsLine numberLine tableLine if
   worst-line h = rw (lt-ltb n (2 ^ 32) h)
 
-  span-line : n < 2 ^ 32 → lineOf (drafted Within 2 (held "span") n 0) ≡ Span n
+  span-line : n < 2 ^ 32 → lineOf (drafted Within 2 (held "span") 0 0 n) ≡ Span n
   unfolding ascii heldAfter fieldsLine numberLine tableLine if
   span-line h = rw (lt-ltb n (2 ^ 32) h)
 
-  padding-line : n < 2 ^ 32 → lineOf (drafted Within 2 (held "padding") n 0) ≡ Padding n
+  padding-line : n < 2 ^ 32 → lineOf (drafted Within 2 (held "padding") 0 0 n) ≡ Padding n
   unfolding ascii heldAfter fieldsLine numberLine tableLine if
   padding-line h = rw (lt-ltb n (2 ^ 32) h)
 
-  done-line : lineOf (drafted Within 2 (held "done") n 0) ≡ Call (Done n)
+  done-line : lineOf (drafted Within 2 (held "done") 0 0 n) ≡ Call (Done n)
   unfolding ascii heldAfter fieldsLine numberLine if
   done-line = refl
 
-  clock-line : lineOf (drafted Within 2 (held "clock") n 0) ≡ Call (Clock n)
+  clock-line : lineOf (drafted Within 2 (held "clock") 0 0 n) ≡ Call (Clock n)
   unfolding ascii heldAfter fieldsLine numberLine if
   clock-line = refl
 
 module _ (a b : ℕ) where
-  stream-line : a < 2 ^ 32 → b < 2 ^ 32 → lineOf (drafted Within 3 (held "stream") a b) ≡ Stream a b
+  stream-line : a < 2 ^ 32 → b < 2 ^ 32 → lineOf (drafted Within 3 (held "stream") 0 a b) ≡ Stream a b
   unfolding ascii heldAfter fieldsLine pairLine streamLine if
   stream-line h k = rw (lt-ltb a (2 ^ 32) h, lt-ltb b (2 ^ 32) k)
 
-  arrival-line : a < 2 ^ 8 → lineOf (drafted Within 3 (held "arrival") a b) ≡ Call (Arrival a b)
+  arrival-line : a < 2 ^ 8 → lineOf (drafted Within 3 (held "arrival") 0 a b) ≡ Call (Arrival a b 0)
   unfolding ascii heldAfter fieldsLine pairLine if
   arrival-line h = rw (lt-ltb a (2 ^ 8) h)
 
-  own-line : a < 2 ^ 8 → lineOf (drafted Within 3 (held "own") a b) ≡ Call (OwnTurn a b)
+  tagged-line : (c : ℕ) → a < 2 ^ 8 → c < 2 ^ 32 → lineOf (drafted Within 4 (held "arrival") a b c) ≡ Call (Arrival a b c)
+  unfolding ascii heldAfter fieldsLine tripleLine if
+  tagged-line c h k = rw (lt-ltb a (2 ^ 8) h, lt-ltb c (2 ^ 32) k)
+
+  own-line : a < 2 ^ 8 → lineOf (drafted Within 3 (held "own") 0 a b) ≡ Call (OwnTurn a b)
   unfolding ascii heldAfter fieldsLine pairLine if
   own-line h = rw (lt-ltb a (2 ^ 8) h)
 
-turn-line : lineOf (drafted Within 1 (held "turn") 0 0) ≡ Call Turn
+turn-line : lineOf (drafted Within 1 (held "turn") 0 0 0) ≡ Call Turn
 unfolding ascii heldAfter fieldsLine wordLine if
 turn-line = refl
 
@@ -319,27 +311,31 @@ unfolding fieldsLine if
 blank-line = refl
 
 pub line-reads-back : LineReadsBack
-unfolding rendered wordedFields ascii
+unfolding rendered wordedFields ascii more Each
 line-reads-back i k t e g trace Blank f h = line-taken i k t e g trace (onward []) blank Blank (blank-read i k t e g trace) blank-line h
 line-reads-back i k t e g trace (Worst n) f h =
-    line-taken i k t e g trace _ _ (Worst n) (one-number i k t e g trace (ascii "worst") (held "worst") n (words i k t e g trace .0) (omega (arith, f))) (worst-line n f) h
+    worded-taken i k t e g trace (ascii "worst") (n ∷ []) (Worst n) (words i k t e g trace .0) (omega arith) (omega (arith, f), tt) (worst-line n f) h
 line-reads-back i k t e g trace (Span n) f h =
-    line-taken i k t e g trace _ _ (Span n) (one-number i k t e g trace (ascii "span") (held "span") n (words i k t e g trace .1) (omega (arith, f))) (span-line n f) h
+    worded-taken i k t e g trace (ascii "span") (n ∷ []) (Span n) (words i k t e g trace .1) (omega arith) (omega (arith, f), tt) (span-line n f) h
 line-reads-back i k t e g trace (Padding n) f h =
-    line-taken i k t e g trace _ _ (Padding n) (one-number i k t e g trace (ascii "padding") (held "padding") n (words i k t e g trace .2) (omega (arith, f))) (padding-line n f) h
+    worded-taken i k t e g trace (ascii "padding") (n ∷ []) (Padding n) (words i k t e g trace .2) (omega arith) (omega (arith, f), tt) (padding-line n f) h
 line-reads-back i k t e g trace (Stream a b) f h =
-    line-taken i k t e g trace _ _ (Stream a b)
-    (two-numbers i k t e g trace (ascii "stream") (held "stream") a b (words i k t e g trace .3) (omega (arith, f .0)) (omega (arith, f .1))) (stream-line a b (f .0) (f .1)) h
-line-reads-back i k t e g trace (Call (Arrival a b)) f h =
-    line-taken i k t e g trace _ _ (Call (Arrival a b))
-    (two-numbers i k t e g trace (ascii "arrival") (held "arrival") a b (words i k t e g trace .4) (omega (arith, f .0)) (f .1)) (arrival-line a b (f .0)) h
-line-reads-back i k t e g trace (Call Turn) f h = line-taken i k t e g trace _ _ (Call Turn) (turn-read i k t e g trace) turn-line h
+    worded-taken i k t e g trace (ascii "stream") (a ∷ b ∷ []) (Stream a b) (words i k t e g trace .3) (omega arith)
+    (omega (arith, f .0), (omega (arith, f .1), tt)) (stream-line a b (f .0) (f .1)) h
+line-reads-back i k t e g trace (Call (Arrival a b zero)) f h =
+    worded-taken i k t e g trace (ascii "arrival") (a ∷ b ∷ []) (Call (Arrival a b 0)) (words i k t e g trace .4) (omega arith)
+    (omega (arith, f .0), (f .1, tt)) (arrival-line a b (f .0)) h
+line-reads-back i k t e g trace (Call (Arrival a b (suc c))) f h =
+    worded-taken i k t e g trace (ascii "arrival") (a ∷ b ∷ suc c ∷ []) (Call (Arrival a b (suc c))) (words i k t e g trace .4) (omega arith)
+    (omega (arith, f .0), (f .1, (omega (arith, f .2), tt))) (tagged-line a b (suc c) (f .0) (f .2)) h
+line-reads-back i k t e g trace (Call Turn) f h =
+    worded-taken i k t e g trace (ascii "turn") [] (Call Turn) (words i k t e g trace .5) (omega arith) tt turn-line h
 line-reads-back i k t e g trace (Call (OwnTurn a b)) f h =
-    line-taken i k t e g trace _ _ (Call (OwnTurn a b))
-    (two-numbers i k t e g trace (ascii "own") (held "own") a b (words i k t e g trace .5) (omega (arith, f .0)) (f .1)) (own-line a b (f .0)) h
+    worded-taken i k t e g trace (ascii "own") (a ∷ b ∷ []) (Call (OwnTurn a b)) (words i k t e g trace .6) (omega arith)
+    (omega (arith, f .0), (f .1, tt)) (own-line a b (f .0)) h
 line-reads-back i k t e g trace (Call (Done n)) f h =
-    line-taken i k t e g trace _ _ (Call (Done n)) (one-number i k t e g trace (ascii "done") (held "done") n (words i k t e g trace .6) f) (done-line n) h
+    worded-taken i k t e g trace (ascii "done") (n ∷ []) (Call (Done n)) (words i k t e g trace .7) (omega arith) (f, tt) (done-line n) h
 line-reads-back i k t e g trace (Call (Clock n)) f h =
-    line-taken i k t e g trace _ _ (Call (Clock n)) (one-number i k t e g trace (ascii "clock") (held "clock") n (words i k t e g trace .7) f) (clock-line n) h
+    worded-taken i k t e g trace (ascii "clock") (n ∷ []) (Call (Clock n)) (words i k t e g trace .8) (omega arith) (f, tt) (clock-line n) h
 line-reads-back i k t e g trace (Call Malformed) f h = absurd f
 line-reads-back i k t e g trace Wrong f h = absurd f

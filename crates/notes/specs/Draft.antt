@@ -1,4 +1,4 @@
--- A line of notes, read byte by byte: up to three fields, parted by spaces or tabs, and a comment. The first field is a word of up to eight letters, the others are numbers.
+-- A line of notes, read byte by byte: up to four fields, parted by spaces or tabs, and a comment. The first field is a word of up to eight letters, the others are numbers.
 use mathlib.Core.Bool.{Bool, _&&_, _||_}
 use Prim.Native.Nat.{ℕ, _+_, _-_, _*_, _^_}
 use Prim.Native.Char.{code}
@@ -9,18 +9,18 @@ use Rattle.notes.specs.declared.draft.Place.{Place}
 use Rattle.notes.specs.declared.draft.Place.the-variants.{Between, Within, Comment, Returned, Stray, Amiss}
 use Rattle.notes.specs.declared.draft.Draft.{Draft}
 
--- a line so far: the place of its last byte, how many fields have begun, and what they hold
-abbrev pub drafted : Place → ℕ → ℕ → ℕ → ℕ → Draft
-drafted place fields word first second =
-    record { place = place; fields = fields; word = word; first = first; second = second }
+-- a line so far: the place of its last byte, how many fields have begun, the word, and the numbers of the last field and of the two before it; one that is not there is 0
+abbrev pub drafted : Place → ℕ → ℕ → ℕ → ℕ → ℕ → Draft
+drafted place fields word earlier before last =
+    record { place = place; fields = fields; word = word; earlier = earlier; before = before; last = last }
 
 -- a line before its first byte
 abbrev pub blank : Draft
-blank = drafted Between 0 0 0 0
+blank = drafted Between 0 0 0 0 0
 
 -- the same line, at another place
 abbrev pub placed : Draft → Place → Draft
-placed d place = drafted place (d .fields) (d .word) (d .first) (d .second)
+placed d place = drafted place (d .fields) (d .word) (d .earlier) (d .before) (d .last)
 
 -- the same line, of which no right one can come: the field that was begun last is not as it should be
 abbrev pub amiss : Draft → Draft
@@ -32,7 +32,7 @@ isLetter byte = leb (code "a") byte && leb byte (code "z")
 
 unfoldable pub lettered : Draft → ℕ → Draft
 lettered d byte =
-    if (isLetter byte && ltb (d .word) (256 ^ 7)) (drafted Within 1 (d .word * 256 + byte) (d .first) (d .second)) (amiss d)
+    if (isLetter byte && ltb (d .word) (256 ^ 7)) (drafted Within 1 (d .word * 256 + byte) (d .earlier) (d .before) (d .last)) (amiss d)
 
 -- a digit more in a number, which has room in 64 bits
 abbrev pub isDigit : ℕ → Bool
@@ -44,21 +44,19 @@ longer n byte = n * 10 + (byte - zero-digit)
 unfoldable pub lengthens : ℕ → ℕ → Bool
 lengthens n byte = isDigit byte && ltb (longer n byte) (2 ^ 64)
 
-unfoldable pub firstLonger : Draft → ℕ → Draft
-firstLonger d byte = if (lengthens (d .first) byte) (drafted Within 2 (d .word) (longer (d .first) byte) (d .second)) (amiss d)
+unfoldable pub numbered : Draft → ℕ → Draft
+numbered d byte =
+    if (lengthens (d .last) byte) (drafted Within (d .fields) (d .word) (d .earlier) (d .before) (longer (d .last) byte)) (amiss d)
 
-unfoldable pub secondLonger : Draft → ℕ → Draft
-secondLonger d byte = if (lengthens (d .second) byte) (drafted Within 3 (d .word) (d .first) (longer (d .second) byte)) (amiss d)
-
--- a byte more in the field that is being read: a letter in the first, a digit in the second and the third
+-- a byte more in the field that is being read: a letter in the first, a digit in the others
 unfoldable pub inField : Draft → ℕ → Draft
-inField d byte = if (eqb (d .fields) 1) (lettered d byte) (if (eqb (d .fields) 2) (firstLonger d byte) (secondLonger d byte))
+inField d byte = if (eqb (d .fields) 1) (lettered d byte) (numbered d byte)
 
--- the first byte of a field; a fourth one is too many
+-- the first byte of a field, before which the numbers so far move up; a fifth one is too many
 unfoldable pub begun : Draft → ℕ → Draft
 begun d byte =
-    if (ltb (d .fields) 3) (inField (drafted Within (d .fields + 1) (d .word) (d .first) (d .second)) byte)
-    (drafted Amiss 4 (d .word) (d .first) (d .second))
+    if (ltb (d .fields) 4) (inField (drafted Within (d .fields + 1) (d .word) (d .before) (d .last) 0) byte)
+    (drafted Amiss 5 (d .word) (d .earlier) (d .before) (d .last))
 
 -- what parts fields, what begins a comment, and what may stand before the newline
 abbrev pub tab : ℕ

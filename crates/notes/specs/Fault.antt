@@ -12,7 +12,7 @@ use Rattle.notes.specs.declared.draft.Draft.{Draft}
 use Rattle.notes.specs.declared.heard.Heard.{Heard}
 use Rattle.notes.specs.declared.line.Line.{Line}
 use Rattle.notes.specs.Line.{lineOf}
-use Rattle.notes.specs.Numbers.{isKnown, takes, fits, roomAt}
+use Rattle.notes.specs.Numbers.{isRight, isKnown, takes, fits, roomAt}
 use Rattle.notes.specs.Heard.{isMarked}
 
 abbrev pub isStray : Place → Bool
@@ -52,8 +52,8 @@ unfoldable pub numberFault : Draft → Bool → ℕ → ℕ → Fault
 numberFault d digits numbers events =
     if (isAmiss (d .place) && not digits) NoNumber
     (if (isAmiss (d .place) || not (fits d)) (TooLarge (roomAt d))
-    (if (ltb (d .fields) (takes (d .word) + 1)) (Numbers (takes (d .word)))
-    (rightFault numbers events (lineOf d))))
+    (if (isRight (lineOf d)) (rightFault numbers events (lineOf d))
+    (Numbers (takes (d .word)))))
 
 -- a carriage return within the line, a byte order mark, no word of notes, more numbers than it takes
 unfoldable pub faultOf : Draft → Heard → ℕ → ℕ → Fault

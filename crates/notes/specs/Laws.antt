@@ -64,6 +64,12 @@ LineIsJudged =
     × (after n l .wrong ≡ true
     → (r .notes .wrong ≡ true) × (r .notes .line ≡ line) × (expectedBy (r .notes) ≡ expectedBy n) × (r .trace ≡ trace))
 
+-- An arrival without a tag has tag 0.
+abbrev pub TagMayBeLeftOut : Type 0
+TagMayBeLeftOut =
+    (stream place : List ℕ)
+    → lineOfWords (ascii "arrival" ∷ stream ∷ place ∷ ascii "0" ∷ []) ≡ lineOfWords (ascii "arrival" ∷ stream ∷ place ∷ [])
+
 -- Words are told apart by the numbers as which they are held, however many letters they have.
 abbrev pub Letter : ℕ → Type 0
 Letter byte = (code "a" ≤ byte) × (byte ≤ code "z")

@@ -26,7 +26,7 @@ heldAfter n (letter ∷ rest) = heldAfter (n * 256 + letter) rest
 abbrev pub held : String → ℕ
 held word = heldAfter 0 (ascii word)
 
--- a number of the table has 32 bits, the stream of an event eight
+-- a number of the table has 32 bits, as "a tag of 32 bits" has, and the stream of an event eight
 abbrev pub inWord : ℕ → Bool
 inWord n = ltb n (2 ^ 32)
 
@@ -60,18 +60,25 @@ unfoldable pub pairLine : ℕ → ℕ → ℕ → Line
 pairLine word a b =
     if (eqb word (held "stream")) (streamLine a b)
     (if (inByte a)
-    (if (eqb word (held "arrival")) (Call (Arrival a b))
+    (if (eqb word (held "arrival")) (Call (Arrival a b 0))
     (if (eqb word (held "own")) (Call (OwnTurn a b))
     Wrong))
     Wrong)
+
+-- the line of a word and three numbers. Document 02, Req 07: "A queued request becomes a place with a tag of 32 bits. Arrival takes both"
+unfoldable pub tripleLine : ℕ → ℕ → ℕ → ℕ → Line
+tripleLine word a b c =
+    if (eqb word (held "arrival")) (if (inByte a) (if (inWord c) (Call (Arrival a b c)) Wrong) Wrong)
+    Wrong
 
 -- the line that has been read, by how many fields it has
 unfoldable pub fieldsLine : Draft → Line
 fieldsLine d =
     if (eqb (d .fields) 0) Blank
     (if (eqb (d .fields) 1) (wordLine (d .word))
-    (if (eqb (d .fields) 2) (numberLine (d .word) (d .first))
-    (pairLine (d .word) (d .first) (d .second))))
+    (if (eqb (d .fields) 2) (numberLine (d .word) (d .last))
+    (if (eqb (d .fields) 3) (pairLine (d .word) (d .before) (d .last))
+    (tripleLine (d .word) (d .earlier) (d .before) (d .last)))))
 
 abbrev pub placeLine : Place → Draft → Line
 placeLine Between d = fieldsLine d
@@ -84,9 +91,14 @@ placeLine Amiss d = Wrong
 abbrev pub lineOf : Draft → Line
 lineOf d = placeLine (d .place) d
 
+-- a tag is shown where it is not 0: "old files read with tag 0"
+abbrev pub tagShown : ℕ → List ℕ
+tagShown zero = []
+tagShown (suc n) = suc n ∷ []
+
 -- the fields of a line that is shown. What is no line of notes is shown as an empty one.
 abbrev pub eventShown : Event → List (List ℕ)
-eventShown (Arrival stream place) = wordedFields (ascii "arrival") (stream ∷ place ∷ [])
+eventShown (Arrival stream place tag) = wordedFields (ascii "arrival") (stream ∷ place ∷ tagShown tag)
 eventShown Turn = wordedFields (ascii "turn") []
 eventShown (OwnTurn stream index) = wordedFields (ascii "own") (stream ∷ index ∷ [])
 eventShown (Done duration) = wordedFields (ascii "done") (duration ∷ [])

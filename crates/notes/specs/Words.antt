@@ -1,6 +1,6 @@
 -- The notation, said of a whole line at once: its words, and the line that they make. `Laws` has that reading byte by byte comes to the same.
 use mathlib.Core.Bool.{Bool, true, _&&_}
-use mathlib.Core.List.{List, [], _∷_, _++_}
+use mathlib.Core.List.{List, [], _∷_, _++_, map}
 use Prim.Native.Nat.{ℕ, _^_}
 use lib.Dec.{ltb, eqb}
 use Rattle.table.specs.Fold.{if}
@@ -8,7 +8,7 @@ use Rattle.listing.specs.Laws.{speltAfter}
 use Rattle.notes.specs.declared.line.Line.{Line}
 use Rattle.notes.specs.declared.line.Line.the-variants.{Blank, Wrong}
 use Rattle.notes.specs.Draft.{isGap, hash, carriage-return, isLetter, isDigit}
-use Rattle.notes.specs.Line.{heldAfter, wordLine, numberLine, pairLine}
+use Rattle.notes.specs.Line.{heldAfter, wordLine, numberLine, pairLine, tripleLine}
 
 -- a line without a carriage return at its end
 unfoldable pub unreturned : List ℕ → List ℕ
@@ -35,9 +35,9 @@ abbrev pub wordsOf : List ℕ → List (List ℕ)
 wordsOf line = wordsAfter [] (uncommented (unreturned line))
 
 -- a name is letters, held in 64 bits, and so up to eight of them; a number is digits that spell one of 64 bits
-unfoldable pub allOf : (ℕ → Bool) → List ℕ → Bool
+unfoldable pub allOf : {A : Type 0} → (A → Bool) → List A → Bool
 allOf test [] = true
-allOf test (byte ∷ rest) = test byte && allOf test rest
+allOf test (x ∷ rest) = test x && allOf test rest
 
 unfoldable pub isName : List ℕ → Bool
 isName word = allOf isLetter word && ltb (heldAfter 0 word) (2 ^ 64)
@@ -45,11 +45,15 @@ isName word = allOf isLetter word && ltb (heldAfter 0 word) (2 ^ 64)
 unfoldable pub isNumber : List ℕ → Bool
 isNumber word = allOf isDigit word && ltb (speltAfter 0 word) (2 ^ 64)
 
--- the line of some words: a name, and up to two numbers
+-- the line of some words: a name, and up to three numbers
+abbrev pub numbersLine : ℕ → List ℕ → Line
+numbersLine word [] = wordLine word
+numbersLine word (a ∷ []) = numberLine word a
+numbersLine word (a ∷ b ∷ []) = pairLine word a b
+numbersLine word (a ∷ b ∷ c ∷ []) = tripleLine word a b c
+numbersLine word (a ∷ b ∷ c ∷ d ∷ more) = Wrong
+
 abbrev pub lineOfWords : List (List ℕ) → Line
 lineOfWords [] = Blank
-lineOfWords (name ∷ []) = if (isName name) (wordLine (heldAfter 0 name)) Wrong
-lineOfWords (name ∷ a ∷ []) = if (isName name && isNumber a) (numberLine (heldAfter 0 name) (speltAfter 0 a)) Wrong
-lineOfWords (name ∷ a ∷ b ∷ []) =
-    if (isName name && isNumber a && isNumber b) (pairLine (heldAfter 0 name) (speltAfter 0 a) (speltAfter 0 b)) Wrong
-lineOfWords (name ∷ a ∷ b ∷ c ∷ more) = Wrong
+lineOfWords (name ∷ numbers) =
+    if (isName name && allOf isNumber numbers) (numbersLine (heldAfter 0 name) (map (speltAfter 0) numbers)) Wrong

@@ -1,7 +1,7 @@
 // A line that is being read, byte by byte.
 ghost use mathlib.Core.Path.{_≡_};
 ghost use mathlib.Core.Bool.{true};
-ghost use Rattle.notes.specs.Draft.{blank, amiss, placed, isLetter, lettered, isDigit, longer, lengthens, firstLonger, secondLonger, inField, begun, isGap, afterGap, afterField, withByte};
+ghost use Rattle.notes.specs.Draft.{blank, amiss, placed, isLetter, lettered, isDigit, longer, lengthens, numbered, inField, begun, isGap, afterGap, afterField, withByte};
 
 // Where in a line its last byte stands: between fields, within one, in a comment, at a carriage return that may end the line,
 // after one that does not, or where no right line can follow, because of the field that was begun last.
@@ -14,13 +14,14 @@ pub enum Place {
     Amiss,
 }
 
-// A line so far: how many fields have begun, the letters of the first as digits to the base 256, and the numbers of the next two.
+// A line so far: how many fields have begun, the letters of the first as digits to the base 256, and the numbers of the last field and of the two before it.
 pub struct Draft {
     pub place: Place,
     pub fields: u64,
     pub word: u64,
-    pub first: u64,
-    pub second: u64,
+    pub earlier: u64,
+    pub before: u64,
+    pub last: u64,
 }
 
 impl Draft {
@@ -35,8 +36,9 @@ impl Draft {
             place: Place::Between,
             fields: 0,
             word: 0,
-            first: 0,
-            second: 0,
+            earlier: 0,
+            before: 0,
+            last: 0,
         }
     }
 
@@ -99,45 +101,45 @@ impl Draft {
             place,
             fields: self.fields,
             word: self.word,
-            first: self.first,
-            second: self.second,
+            earlier: self.earlier,
+            before: self.before,
+            last: self.last,
         }
     }
 
-    // The first byte of a field; a fourth one is too many.
+    // The first byte of a field, before which the numbers so far move up; a fifth one is too many.
     fn begun(self, byte: u8) -> Draft
         ensures { λ r. ⌜ r ≡ begun self byte ⌝ }
     {
-        if self.fields < 3 {
+        if self.fields < 4 {
             let next = Draft {
                 place: Place::Within,
                 fields: self.fields + 1,
                 word: self.word,
-                first: self.first,
-                second: self.second,
+                earlier: self.before,
+                before: self.last,
+                last: 0,
             };
             return next.in_field(byte);
         }
         Draft {
             place: Place::Amiss,
-            fields: 4,
+            fields: 5,
             word: self.word,
-            first: self.first,
-            second: self.second,
+            earlier: self.earlier,
+            before: self.before,
+            last: self.last,
         }
     }
 
-    // A byte of the field that is being read: a letter in the first, a digit in the second and the third.
+    // A byte of the field that is being read: a letter in the first, a digit in the others.
     fn in_field(self, byte: u8) -> Draft
         ensures { λ r. ⌜ r ≡ inField self byte ⌝ }
     {
         if self.fields == 1 {
             return self.lettered(byte);
         }
-        if self.fields == 2 {
-            return self.first_longer(byte);
-        }
-        self.second_longer(byte)
+        self.numbered(byte)
     }
 
     // A letter more in the word.
@@ -149,40 +151,26 @@ impl Draft {
                 place: Place::Within,
                 fields: 1,
                 word: self.word * 256 + byte as u64,
-                first: self.first,
-                second: self.second,
+                earlier: self.earlier,
+                before: self.before,
+                last: self.last,
             };
         }
         self.amiss()
     }
 
-    // A digit more in the first number.
-    fn first_longer(self, byte: u8) -> Draft
-        ensures { λ r. ⌜ r ≡ firstLonger self byte ⌝ }
+    // A digit more in the number that is being read.
+    fn numbered(self, byte: u8) -> Draft
+        ensures { λ r. ⌜ r ≡ numbered self byte ⌝ }
     {
-        if lengthens(self.first, byte) {
+        if lengthens(self.last, byte) {
             return Draft {
                 place: Place::Within,
-                fields: 2,
+                fields: self.fields,
                 word: self.word,
-                first: longer(self.first, byte),
-                second: self.second,
-            };
-        }
-        self.amiss()
-    }
-
-    // A digit more in the second number.
-    fn second_longer(self, byte: u8) -> Draft
-        ensures { λ r. ⌜ r ≡ secondLonger self byte ⌝ }
-    {
-        if lengthens(self.second, byte) {
-            return Draft {
-                place: Place::Within,
-                fields: 3,
-                word: self.word,
-                first: self.first,
-                second: longer(self.second, byte),
+                earlier: self.earlier,
+                before: self.before,
+                last: longer(self.last, byte),
             };
         }
         self.amiss()

@@ -7,6 +7,7 @@ use crate::line::Line;
 use crate::line::line_of;
 use crate::numbers::fits;
 use crate::numbers::is_known;
+use crate::numbers::is_right;
 use crate::numbers::room_at;
 use crate::numbers::takes;
 ghost use mathlib.Core.Path.{_≡_};
@@ -62,11 +63,11 @@ fn number_fault(draft: Draft, digits: bool, numbers: u64, events: usize) -> Faul
     if spoilt | !fits(draft) {
         return Fault::TooLarge(room_at(draft));
     }
-    let takes = takes(draft.word);
-    if draft.fields < takes + 1 {
-        return Fault::Numbers(takes);
+    let line = line_of(draft);
+    if is_right(line) {
+        return right_fault(numbers, events, line);
     }
-    right_fault(numbers, events, line_of(draft))
+    Fault::Numbers(takes(draft.word))
 }
 
 // What is wrong with a line that is right by itself.

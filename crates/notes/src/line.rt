@@ -7,8 +7,9 @@ use listing::worded;
 use table::Table;
 ghost use mathlib.Core.Path.{_≡_};
 ghost use mathlib.Core.List.{[], _∷_};
+ghost use Rattle.file.specs.declared.event.Event.the-variants.{Arrival};
 ghost use Rattle.listing.specs.Line.{wordedFields, textOf, Within};
-ghost use Rattle.notes.specs.Line.{wordLine, tableLine, numberLine, streamLine, pairLine, fieldsLine, lineOf, eventShown, lineShown, streamAt, afterNumbers, lineAt};
+ghost use Rattle.notes.specs.Line.{wordLine, tableLine, numberLine, streamLine, pairLine, tripleLine, fieldsLine, lineOf, eventShown, lineShown, streamAt, afterNumbers, lineAt};
 
 // A line: nothing, a number of the table, a stream, an event, or none of these.
 pub enum Line {
@@ -40,7 +41,7 @@ const DONE: u64 = 0x64_6f_6e_65;
 
 const CLOCK: u64 = 0x63_6c_6f_63_6b;
 
-// The most that a number of the table may be, and the stream of an event.
+// The most that a number of the table or a tag may be, and the stream of an event.
 const WORD_MAX: u64 = 0xffff_ffff;
 
 const BYTE_MAX: u64 = 0xff;
@@ -57,7 +58,7 @@ pub(crate) fn line_of(draft: Draft) -> Line
 }
 
 // The line of the fields, by how many there are.
-fn fields_line(draft: Draft) -> Line
+pub(crate) fn fields_line(draft: Draft) -> Line
     ensures { λ r. ⌜ r ≡ fieldsLine draft ⌝ }
 {
     if draft.fields == 0 {
@@ -67,9 +68,12 @@ fn fields_line(draft: Draft) -> Line
         return word_line(draft.word);
     }
     if draft.fields == 2 {
-        return number_line(draft.word, draft.first);
+        return number_line(draft.word, draft.last);
     }
-    pair_line(draft.word, draft.first, draft.second)
+    if draft.fields == 3 {
+        return pair_line(draft.word, draft.before, draft.last);
+    }
+    triple_line(draft.word, draft.earlier, draft.before, draft.last)
 }
 
 // The line of a word alone.
@@ -128,6 +132,7 @@ pub(crate) fn pair_line(word: u64, a: u64, b: u64) -> Line
         return Line::Call(Event::Arrival {
             stream: a,
             place: b,
+            tag: 0,
         });
     }
     if word == OWN {
@@ -153,6 +158,26 @@ fn stream_line(a: u64, b: u64) -> Line
         reserved: a as u32,
         period: b as u32,
     }
+}
+
+// The line of a word and three numbers.
+pub(crate) fn triple_line(word: u64, a: u64, b: u64, c: u64) -> Line
+    ensures { λ r. ⌜ r ≡ tripleLine word a b c ⌝ }
+{
+    if word != ARRIVAL {
+        return Line::Wrong;
+    }
+    if BYTE_MAX < a {
+        return Line::Wrong;
+    }
+    if WORD_MAX < c {
+        return Line::Wrong;
+    }
+    Line::Call(Event::Arrival {
+        stream: a,
+        place: b,
+        tag: c as u32,
+    })
 }
 
 // The line at i of the notes of a table and a trace, counted from 0: the three numbers of the table, its streams, and the events.
@@ -216,7 +241,7 @@ fn event_shown(event: Event) -> Text
     ensures { λ r. ⌜ Within r ⌝ }
 {
     match event {
-        Event::Arrival { stream, place } => with_two(b"arrival", stream, place),
+        Event::Arrival { stream, place, tag } => arrival_shown(stream, place, tag),
         Event::Turn => bare(b"turn"),
         Event::OwnTurn { stream, index } => with_two(b"own", stream, index),
         Event::Done { duration } => with_one(b"done", duration),
@@ -225,7 +250,18 @@ fn event_shown(event: Event) -> Text
     }
 }
 
-// The line of a word alone, of a word and a number, and of a word and two.
+// An arrival's tag is shown where it is not 0.
+fn arrival_shown(stream: u64, place: u64, tag: u32) -> Text
+    ensures { λ r. ⌜ r ≡ textOf (eventShown (Arrival stream place tag)) ⌝ }
+    ensures { λ r. ⌜ Within r ⌝ }
+{
+    if tag == 0 {
+        return with_two(b"arrival", stream, place);
+    }
+    with_three(b"arrival", stream, place, tag as u64)
+}
+
+// The line of a word alone, of a word and a number, of a word and two, and of a word and three.
 fn bare(word: &[u8]) -> Text
     ensures { λ r. ⌜ r ≡ textOf (wordedFields (now (word .entry)) []) ⌝ }
     ensures { λ r. ⌜ Within r ⌝ }
@@ -247,5 +283,13 @@ fn with_two(word: &[u8], a: u64, b: u64) -> Text
     ensures { λ r. ⌜ Within r ⌝ }
 {
     let numbers = [a, b];
+    worded(word, &numbers)
+}
+
+fn with_three(word: &[u8], a: u64, b: u64, c: u64) -> Text
+    ensures { λ r. ⌜ r ≡ textOf (wordedFields (now (word .entry)) (a ∷ b ∷ c ∷ [])) ⌝ }
+    ensures { λ r. ⌜ Within r ⌝ }
+{
+    let numbers = [a, b, c];
     worded(word, &numbers)
 }

@@ -1,19 +1,21 @@
 // How many numbers follow a word, and how large they may be: what the lines take, and what not.
 use crate::draft::Draft;
 use crate::line::Line;
+use crate::line::fields_line;
 use crate::line::number_line;
 use crate::line::pair_line;
+use crate::line::triple_line;
 use crate::line::word_line;
 ghost use mathlib.Core.Path.{_≡_};
-ghost use Rattle.notes.specs.Line.{wordLine, numberLine, pairLine};
-ghost use Rattle.notes.specs.Numbers.{isRight, isKnown, takes, fits, roomAt};
+ghost use Rattle.notes.specs.Line.{wordLine, numberLine, pairLine, tripleLine};
+ghost use Rattle.notes.specs.Numbers.{isRight, isKnown, takes, fits, firstOf, roomAt};
 
 // The least numbers for which a byte and four bytes have no room.
 const PAST_BYTE: u64 = 0x100;
 
 const PAST_WORD: u64 = 0x1_0000_0000;
 
-fn is_right(line: Line) -> bool
+pub(crate) fn is_right(line: Line) -> bool
     ensures { λ r. ⌜ r ≡ isRight line ⌝ }
 {
     match line {
@@ -27,7 +29,7 @@ fn is_right(line: Line) -> bool
     }
 }
 
-// Whether there is a line of a word alone, of a word and this number, and of a word and these two.
+// Whether there is a line of a word alone, of a word and this number, of a word and these two, and of a word and these three.
 fn stands_alone(word: u64) -> bool
     ensures { λ r. ⌜ r ≡ isRight (wordLine word) ⌝ }
 {
@@ -46,6 +48,12 @@ fn takes_two(word: u64, a: u64, b: u64) -> bool
     is_right(pair_line(word, a, b))
 }
 
+fn takes_three(word: u64, a: u64, b: u64, c: u64) -> bool
+    ensures { λ r. ⌜ r ≡ isRight (tripleLine word a b c) ⌝ }
+{
+    is_right(triple_line(word, a, b, c))
+}
+
 // Whether a word is one of notes.
 pub(crate) fn is_known(word: u64) -> bool
     ensures { λ r. ⌜ r ≡ isKnown word ⌝ }
@@ -53,7 +61,7 @@ pub(crate) fn is_known(word: u64) -> bool
     stands_alone(word) | takes_one(word, 0) | takes_two(word, 0, 0)
 }
 
-// How many numbers it takes.
+// How many numbers it takes at most; of three the last may be left out.
 pub(crate) fn takes(word: u64) -> u64
     ensures { λ r. ⌜ r ≡ takes word ⌝ }
 {
@@ -63,6 +71,9 @@ pub(crate) fn takes(word: u64) -> u64
     if takes_one(word, 0) {
         return 1;
     }
+    if takes_three(word, 0, 0, 0) {
+        return 3;
+    }
     2
 }
 
@@ -70,13 +81,21 @@ pub(crate) fn takes(word: u64) -> u64
 pub(crate) fn fits(draft: Draft) -> bool
     ensures { λ r. ⌜ r ≡ fits draft ⌝ }
 {
-    if draft.fields < 2 {
-        return true;
+    let goes_on = takes_two(draft.word, draft.last, 0);
+    (draft.fields < 2) | is_right(fields_line(draft)) | ((draft.fields == 2) & goes_on)
+}
+
+// Its first number.
+fn first_of(draft: Draft) -> u64
+    ensures { λ r. ⌜ r ≡ firstOf draft ⌝ }
+{
+    if draft.fields == 2 {
+        return draft.last;
     }
-    if takes(draft.word) == 1 {
-        return takes_one(draft.word, draft.first);
+    if draft.fields == 3 {
+        return draft.before;
     }
-    takes_two(draft.word, draft.first, draft.second)
+    draft.earlier
 }
 
 // For how many bits there is room where the first of its numbers stands that is too large.
@@ -92,7 +111,10 @@ pub(crate) fn room_at(draft: Draft) -> u64
     if takes_two(draft.word, PAST_BYTE, 0) {
         return 32;
     }
-    if takes_two(draft.word, draft.first, 0) {
+    if takes_two(draft.word, first_of(draft), 0) {
+        if draft.fields == 4 {
+            return 32;
+        }
         return 64;
     }
     8

@@ -12,11 +12,8 @@ as-told is = ap (λ (event : Event). textOf (eventShown event)) (sym is)
 enum-known-event : tie.Need-enum-known-event
 enum-known-event c = c .match .keys1
 
-slice-aggregate-with-two : tie.Need-slice-aggregate-with-two
-slice-aggregate-with-two c = refl
-
-with-two-requires : tie.Need-with-two-requires
-with-two-requires c κs = tt
+arrival-shown-requires : tie.Need-arrival-shown-requires
+arrival-shown-requires c κs = tt
 
 enum-told : tie.Need-enum-told
 enum-told c = c .match .keys2
@@ -30,11 +27,11 @@ bare-requires c κs = tt
 enum-known-event-2 : tie.Need-enum-known-event-2
 enum-known-event-2 c = c .match .keys3
 
-slice-aggregate-with-two-2 : tie.Need-slice-aggregate-with-two-2
-slice-aggregate-with-two-2 c = refl
+slice-aggregate-with-two : tie.Need-slice-aggregate-with-two
+slice-aggregate-with-two c = refl
 
-with-two-requires-2 : tie.Need-with-two-requires-2
-with-two-requires-2 c κs = tt
+with-two-requires : tie.Need-with-two-requires
+with-two-requires c κs = tt
 
 enum-known-event-3 : tie.Need-enum-known-event-3
 enum-known-event-3 c = c .match .keys4
@@ -64,8 +61,7 @@ bare-requires-2 : tie.Need-bare-requires-2
 bare-requires-2 c κs = tt
 
 returns : tie.Need-returns
-unfolding ascii
-returns c = (c .with-two .ensures .0 ∙ as-told (c .before .before .before .event .given .1), c .with-two .ensures .1)
+returns c = (c .arrival-shown .ensures .0 ∙ as-told (c .before .before .event .given .1), c .arrival-shown .ensures .1)
 
 returns-2 : tie.Need-returns-2
 unfolding ascii
@@ -73,7 +69,7 @@ returns-2 c = (c .bare .ensures .0 ∙ as-told (c .before .before .enum-told .gi
 
 returns-3 : tie.Need-returns-3
 unfolding ascii
-returns-3 c = (c .with-two2 .ensures .0 ∙ as-told (c .before .before .before .event2 .given .1), c .with-two2 .ensures .1)
+returns-3 c = (c .with-two .ensures .0 ∙ as-told (c .before .before .before .event2 .given .1), c .with-two .ensures .1)
 
 returns-4 : tie.Need-returns-4
 unfolding ascii
@@ -92,14 +88,13 @@ event-shown-spec =
     tie.close
     (tie.spec
     enum-known-event
-    slice-aggregate-with-two
-    with-two-requires
+    arrival-shown-requires
     enum-told
     slice-aggregate-bare
     bare-requires
     enum-known-event-2
-    slice-aggregate-with-two-2
-    with-two-requires-2
+    slice-aggregate-with-two
+    with-two-requires
     enum-known-event-3
     slice-aggregate-with-one
     with-one-requires

@@ -28,7 +28,14 @@ pair-line-requires c κs = tt
 
 returns-4 : tie.Need-returns-4
 unfolding fieldsLine if
-returns-4 c = rw (ne-eqb _ 0 (c .before .before .before .before .before .if1 .left), ne-eqb _ 1 (c .before .before .before .if2 .left), ne-eqb _ 2 (c .before .if3 .left)) (c .pair-line .ensures)
+returns-4 c = rw (ne-eqb _ 0 (c .before .before .before .before .before .before .before .if1 .left), ne-eqb _ 1 (c .before .before .before .before .before .if2 .left), ne-eqb _ 2 (c .before .before .before .if3 .left), eq-eqb _ 3 (c .before .if4 .taken)) (c .pair-line .ensures)
+
+triple-line-requires : tie.Need-triple-line-requires
+triple-line-requires c κs = tt
+
+returns-5 : tie.Need-returns-5
+unfolding fieldsLine if
+returns-5 c = rw (ne-eqb _ 0 (c .before .before .before .before .before .before .before .if1 .left), ne-eqb _ 1 (c .before .before .before .before .before .if2 .left), ne-eqb _ 2 (c .before .before .before .if3 .left), ne-eqb _ 3 (c .before .if4 .left)) (c .triple-line .ensures)
 
 pub fields-line-spec : {M : Type 1} → statement M
 fields-line-spec =
@@ -40,4 +47,6 @@ fields-line-spec =
     number-line-requires
     returns-3
     pair-line-requires
-    returns-4)
+    returns-4
+    triple-line-requires
+    returns-5)

@@ -1,4 +1,4 @@
--- `begun` counts the field, up to three.
+-- `begun` counts the field, up to four.
 use borrow.Author.Needs.{needs}
 use borrow.Author.Tests.{lt-ltb, le-ltb}
 use Rattle.table.specs.Fold.{if}
@@ -14,11 +14,11 @@ in-field-requires c κs = tt
 
 returns : tie.Need-returns
 unfolding begun if
-returns c = rw (lt-ltb _ 3 (c .before .before .if1 .taken)) (c .in-field .ensures)
+returns c = rw (lt-ltb _ 4 (c .before .before .if1 .taken)) (c .in-field .ensures)
 
 returns-2 : tie.Need-returns-2
 unfolding begun if
-returns-2 c = rw (le-ltb _ 3 (c .if1 .left))
+returns-2 c = rw (le-ltb _ 4 (c .if1 .left))
 
 pub begun-spec : {M : Type 1} → statement M
 begun-spec = tie.close (tie.spec add-t6 in-field-requires returns returns-2)

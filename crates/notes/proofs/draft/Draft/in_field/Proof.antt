@@ -12,27 +12,12 @@ returns : tie.Need-returns
 unfolding inField if
 returns c = rw (eq-eqb _ 1 (c .before .if1 .taken)) (c .lettered .ensures)
 
-first-longer-requires : tie.Need-first-longer-requires
-first-longer-requires c κs = tt
+numbered-requires : tie.Need-numbered-requires
+numbered-requires c κs = tt
 
 returns-2 : tie.Need-returns-2
 unfolding inField if
-returns-2 c = rw (ne-eqb _ 1 (c .before .before .before .if1 .left), eq-eqb _ 2 (c .before .if2 .taken)) (c .first-longer .ensures)
-
-second-longer-requires : tie.Need-second-longer-requires
-second-longer-requires c κs = tt
-
-returns-3 : tie.Need-returns-3
-unfolding inField if
-returns-3 c = rw (ne-eqb _ 1 (c .before .before .before .if1 .left), ne-eqb _ 2 (c .before .if2 .left)) (c .second-longer .ensures)
+returns-2 c = rw (ne-eqb _ 1 (c .before .if1 .left)) (c .numbered .ensures)
 
 pub in-field-spec : {M : Type 1} → statement M
-in-field-spec =
-    tie.close
-    (tie.spec
-    lettered-requires
-    returns
-    first-longer-requires
-    returns-2
-    second-longer-requires
-    returns-3)
+in-field-spec = tie.close (tie.spec lettered-requires returns numbered-requires returns-2)

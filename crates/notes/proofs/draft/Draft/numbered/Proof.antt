@@ -1,9 +1,9 @@
--- `second_longer` takes a digit that there is room for.
+-- `numbered` takes a digit that there is room for.
 use Rattle.table.specs.Fold.{if}
 use mathlib.Core.Path.{sym, _∙_}
-use Rattle.notes.specs.Draft.{secondLonger}
-use Rattle.notes.proofs.draft.Draft.second_longer.Statement.{statement}
-use Rattle.notes.proofs.draft.Draft.second_longer.Tie as tie
+use Rattle.notes.specs.Draft.{numbered}
+use Rattle.notes.proofs.draft.Draft.numbered.Statement.{statement}
+use Rattle.notes.proofs.draft.Draft.numbered.Tie as tie
 
 lengthens-requires : tie.Need-lengthens-requires
 lengthens-requires c κs = tt
@@ -12,16 +12,16 @@ longer-requires : tie.Need-longer-requires
 longer-requires c κs = sym (c .before .lengthens .ensures) ∙ c .if1 .taken
 
 returns : tie.Need-returns
-unfolding secondLonger if
+unfolding numbered if
 returns c = rw (sym (c .before .before .lengthens .ensures) ∙ c .before .if1 .taken, c .longer .ensures)
 
 amiss-requires : tie.Need-amiss-requires
 amiss-requires c κs = tt
 
 returns-2 : tie.Need-returns-2
-unfolding secondLonger if
+unfolding numbered if
 returns-2 c = rw (sym (c .before .before .lengthens .ensures) ∙ c .before .if1 .left) (c .amiss .ensures)
 
-pub second-longer-spec : {M : Type 1} → statement M
-second-longer-spec =
+pub numbered-spec : {M : Type 1} → statement M
+numbered-spec =
     tie.close (tie.spec lengthens-requires longer-requires returns amiss-requires returns-2)

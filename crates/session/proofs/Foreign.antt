@@ -13,7 +13,8 @@ use Rattle.calls.specs.declared.Call.{Call}
 use Rattle.calls.specs.declared.Reply.{Reply}
 use Rattle.session.specs.Session.{latest, asked, sound}
 use Rattle.session.specs.Calls.{append, refusal, effect, verdict, apply, late, replyTo, answerTo, after}
-use Rattle.session.specs.Laws.{Request, arriving, ForeignRequestFits}
+use Rattle.session.specs.Laws.{arriving, ForeignRequestFits}
+use Rattle.session.specs.Tags.{Request}
 use Rattle.session.specs.declared.Session.{Session}
 use Rattle.session.proofs.Latest.{told-is}
 use Rattle.session.proofs.Answers.{clock-sets}

@@ -35,6 +35,7 @@ Grounds s wait = Unit {0}
 Grounds s (expire i) = record { idle : s .served ≡ 0; exists : i < s .count; slot : 1 ≤ slotsAt s i }
 Grounds s (finish i a) =
     record {
+      is : s .served ≡ i + 1;
       exists : i < s .count;
       slot : 1 ≤ slotsAt s i;
       short : a ≤ duration-max;
@@ -134,6 +135,7 @@ call-grounds s q (Call.Done a) h =
     let at-disk = served-at s (given-none _ 10 (b .0)) in
     let stream = served-of s (q .fit .disk) at-disk in
     record {
+      is = omega arith;
       exists = omega arith;
       slot = stream .1;
       short = within 1 duration-max a (given-none _ 11 (d .0)) .1;

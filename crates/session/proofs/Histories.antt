@@ -42,7 +42,7 @@ worked-on lasted lost worst x charge expired queued places tags charge-is expire
     record { granted-same = refl; period-same = refl; charge-next = charge-is; start-next = refl; expired-next = expired-is; deadline-next = refl }
 
 -- the streams after one is changed: that one, and the others
-set-at : (P : Stream → Type 0) (xs : List Stream) (j : ℕ) (y : Stream) → j < length xs → (i : ℕ)
+pub set-at : (P : Stream → Type 0) (xs : List Stream) (j : ℕ) (y : Stream) → j < length xs → (i : ℕ)
     → (i ≡ j → P y) → ((i ≡ j → ⊥) → P (getD xs i noStream)) → P (getD (set xs j y) i noStream)
 set-at P xs j y l i here other = go (eqb i j) refl
   where

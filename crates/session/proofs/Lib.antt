@@ -28,6 +28,9 @@ pub mod Histories
 pub mod Promise
 pub mod Carried
 pub mod Served
+pub mod Requests
+pub mod HandedBack
+pub mod Untagged
 pub mod PromiseMet
 pub mod Parameters
 pub mod Lending

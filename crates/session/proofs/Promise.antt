@@ -38,7 +38,7 @@ use Rattle.session.proofs.Within.{within-never, effect-room, effect-tim
 use Rattle.session.proofs.Histories.{Follows, told, Holds, holds-on}
 
 -- a call that comes to a verdict
-abbrev momentOf : Session → Call → Verdict → Moment
+abbrev pub momentOf : Session → Call → Verdict → Moment
 momentOf s k v = record { before = s; call = k; answer = outcome s v }
 
 -- a session that holds what its history tells
@@ -71,7 +71,7 @@ at-most-once true a worst le = omega arith
 at-most-once false a worst le = omega arith
 
 -- no call changes the table's numbers
-table-same : (s : Session) (v : Verdict) → (apply s v .worst ≡ s .worst) × (apply s v .span ≡ s .span) × (apply s v .padding ≡ s .padding) × (apply s v .count ≡ s .count)
+pub table-same : (s : Session) (v : Verdict) → (apply s v .worst ≡ s .worst) × (apply s v .span ≡ s .span) × (apply s v .padding ≡ s .padding) × (apply s v .count ≡ s .count)
 unfolding apply
 table-same s (refuse n) = (refl, refl, refl, refl)
 table-same s (append i place tag) = (refl, refl, refl, refl)
@@ -260,7 +260,7 @@ unfolding openingOf if
 opened-kept t admitted = rw (eq-eqb (admissionOf t) 0 admitted) (fresh-kept t admitted)
 
 -- what a history keeps when its newest call is left out, it has before any of its calls
-part : (P : List Moment → Type 0) → ((m : Moment) (past : List Moment) → P (m ∷ past) → P past)
+pub part : (P : List Moment → Type 0) → ((m : Moment) (past : List Moment) → P (m ∷ past) → P past)
     → (later past : List Moment) → P (later ++ past) → P past
 part P drop [] past p = p
 part P drop (m ∷ later) past p = part P drop later past (drop m (later ++ past) p)

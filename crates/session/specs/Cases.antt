@@ -2,7 +2,7 @@
 use mathlib.Core.List.{List, [], _∷_, _++_, map}
 use Prim.Native.Nat.{ℕ, zero, suc, _/_, _%_}
 use lib.IntN.{ℤ, pos, negsuc}
-use lib.ListN.{length, replicate, take}
+use lib.ListN.{length, replicate, set, take}
 use Rattle.table.specs.Fold.{listTo}
 use Rattle.table.specs.Ranges.{streams-max}
 use Rattle.table.specs.Admission.{admissionOf}
@@ -11,14 +11,16 @@ use Rattle.table.specs.declared.Table.{Table}
 use Rattle.time.specs.Exact.{Fraction}
 use Rattle.time.specs.Latest.{latestOf, askedNumber, askedMoment}
 use Rattle.time.specs.declared.remainders.Latest.{Latest}
-use Rattle.stream.specs.Stream.{slots, microDeadline, charged, freshStream}
-use Rattle.session.specs.Session.{streamAt, asked}
-use Rattle.session.specs.Calls.{Line, after, linesFrom}
+use Rattle.stream.specs.Stream.{slots, microDeadline, withQueue, charged, freshStream}
+use Rattle.session.specs.Session.{streamAt, asked, withStream, withDisk}
+use Rattle.session.specs.Calls.{Line, answerTo, after, linesFrom}
 use Rattle.session.specs.Opening.{openingOf}
 use Rattle.stream.specs.declared.Job.{Job}
 use Rattle.stream.specs.declared.Stream.{Stream}
+use Rattle.calls.specs.Replies.{numberOf}
+use Rattle.session.specs.declared.Session.{Session}
 use Rattle.calls.specs.declared.Call.{Call}
-use Rattle.calls.specs.declared.Call.the-variants.{Arrival, Turn, Done, Clock}
+use Rattle.calls.specs.declared.Call.the-variants.{Arrival, Turn, OwnTurn, Done, Clock}
 
 -- rows of numbers that the rules give, and those of the document
 pub record Case : Type 0 where
@@ -159,6 +161,34 @@ secondUsedUp = Arrival 2 900 0 ∷ Turn ∷ Done 50_000 ∷ Turn ∷ []
 abbrev pub firstOverruns : List Call
 firstOverruns = oneRequest 80_000 ++ secondUsedUp
 
+-- a place that three requests name: the first stream's second is sent by an own choice, then both streams' others by the house
+abbrev pub samePlace : List Call
+samePlace =
+    Arrival 1 100 7
+    ∷ Arrival 1 100 8
+    ∷ Arrival 2 100 9
+    ∷ OwnTurn 1 1
+    ∷ Done 25_000
+    ∷ Turn
+    ∷ Done 25_001
+    ∷ Turn
+    ∷ Turn
+    ∷ Done 5_000
+    ∷ []
+
+-- what a session answers to a turn: a fresh one with a tag at the idle disk, and with one in the last cell of an empty queue
+abbrev pub turnAnswers : Session → ℕ → Case
+turnAnswers s n = record { rules = (numberOf (answerTo s Turn .reply) ∷ []) ∷ []; document = (n ∷ []) ∷ [] }
+
+abbrev pub tagAtIdleDisk : ℕ → Session
+tagAtIdleDisk tag = let s = openingOf single .session in withDisk s (s .clock) (s .head) (s .served) (s .place) tag
+
+abbrev pub tagInLastCell : ℕ → Session
+tagInLastCell tag =
+    let s = openingOf single .session in
+    let x = streamAt s 0 in
+    withStream s 0 (withQueue x (x .queued) (x .places) (set (x .tags) 15 tag))
+
 -- the cases marked P, in the document's order
 unfoldable pub markedCases : List Case
 markedCases =
@@ -215,7 +245,7 @@ markedCases =
     ∷ answers listed (replicate 17 (Arrival 1 5 0)) (replicate 16 20 ++ (9 ∷ []))
     ∷ []
 
--- the lines of the document that are not marked, and what else a reader may ask: a duration of W, W + 1, 0, 10,000,000 and 10,000,001; a clock at L = 200,000, at L + 1, and at the present time past L; two streams that share a deadline both close; stream 1's 6 comes before stream 2's 5; document 02, Req 02, "A padding of 0 in a table now stands for 3": the lines of k 3 are those of k 0, and two tables that opened with 0 while it stood for 1 give 7 and 6 now; Req 03, "the new job starts with the old charge less the granted budget, or zero if that is negative": two due streams of which one has overrun, a charge above three budgets over three closings and one above four over five, one that just reaches the budget, one above it by 1, one below it, and a completion after a carry; Req 05, "the exact margin, span less load": of the listing's table, of one whose load is the span and of the same with a reserved time raised by 1, of the stream alone that is over by 1, and of one that 6 refuses; Req 06, "the horizon less the sum divided by the span, rounded down, is below 0 or does not fit 64 unsigned bits": numbers of no sound session that are told a moment, a span of 0, rounded once, at 0 and just below it, at the last moment of 64 bits and just past it, with the least sum of 64 bits, of the listing after its third call, and after an overrun and the move that carries it
+-- the lines of the document that are not marked, and what else a reader may ask: a duration of W, W + 1, 0, 10,000,000 and 10,000,001; a clock at L = 200,000, at L + 1, and at the present time past L; two streams that share a deadline both close; stream 1's 6 comes before stream 2's 5; document 02, Req 02, "A padding of 0 in a table now stands for 3": the lines of k 3 are those of k 0, and two tables that opened with 0 while it stood for 1 give 7 and 6 now; Req 03, "the new job starts with the old charge less the granted budget, or zero if that is negative": two due streams of which one has overrun, a charge above three budgets over three closings and one above four over five, one that just reaches the budget, one above it by 1, one below it, and a completion after a carry; Req 05, "the exact margin, span less load": of the listing's table, of one whose load is the span and of the same with a reserved time raised by 1, of the stream alone that is over by 1, and of one that 6 refuses; Req 06, "the horizon less the sum divided by the span, rounded down, is below 0 or does not fit 64 unsigned bits": numbers of no sound session that are told a moment, a span of 0, rounded once, at 0 and just below it, at the last moment of 64 bits and just past it, with the least sum of 64 bits, of the listing after its third call, and after an overrun and the move that carries it; Req 07, "the tag of the request sent or done, else 0": one place of three requests, in one stream and across two, and "every unused cell is 0", tags among them
 unfoldable pub otherCases : List Case
 otherCases =
     answers single (oneRequest 25_000) (20 ∷ 21 ∷ 25 ∷ [])
@@ -281,4 +311,22 @@ otherCases =
     ∷ asksAfter listed (oneRequest 5_000) 105_000
     ∷ asksAfter single (oneRequest 230_000) 430_000
     ∷ asksAfter single (thenTurns 230_000 1) 630_000
+    ∷ prints
+    twins
+    samePlace
+    ((1 ∷ 20 ∷ 1 ∷ 1 ∷ 0 ∷ 0 ∷ [])
+    ∷ (2 ∷ 20 ∷ 1 ∷ 2 ∷ 0 ∷ 0 ∷ [])
+    ∷ (3 ∷ 20 ∷ 2 ∷ 1 ∷ 0 ∷ 0 ∷ [])
+    ∷ (4 ∷ 21 ∷ 1 ∷ 100 ∷ 0 ∷ 8 ∷ [])
+    ∷ (5 ∷ 25 ∷ 1 ∷ 25_000 ∷ 25_000 ∷ 8 ∷ [])
+    ∷ (6 ∷ 21 ∷ 1 ∷ 100 ∷ 25_000 ∷ 7 ∷ [])
+    ∷ (7 ∷ 26 ∷ 1 ∷ 50_001 ∷ 50_001 ∷ 7 ∷ [])
+    ∷ (8 ∷ 21 ∷ 2 ∷ 100 ∷ 50_001 ∷ 9 ∷ [])
+    ∷ (9 ∷ 10 ∷ 0 ∷ 0 ∷ 50_001 ∷ 0 ∷ [])
+    ∷ (10 ∷ 25 ∷ 2 ∷ 5_000 ∷ 55_001 ∷ 9 ∷ [])
+    ∷ [])
+    ∷ turnAnswers (tagAtIdleDisk 0) 24
+    ∷ turnAnswers (tagAtIdleDisk 1) 31
+    ∷ turnAnswers (tagInLastCell 0) 24
+    ∷ turnAnswers (tagInLastCell 1) 31
     ∷ []

@@ -1,7 +1,7 @@
 -- What is proved of the rules.
 use mathlib.Core.Path.{_≡_}
-use mathlib.Core.Bool.{true, false}
-use mathlib.Core.List.{List, map}
+use mathlib.Core.Bool.{true, false, _||_}
+use mathlib.Core.List.{List, _∷_, _++_, map}
 use mathlib.Core.Logic.{_↔_}
 use Prim.Native.Nat.{ℕ, _+_, _-_, _*_, _≤_, _<_}
 use Rattle.table.specs.Fold.{sumTo}
@@ -17,11 +17,12 @@ use Rattle.session.specs.Session.{streamAt, placeAt, horizon, slotsAt, f
 use Rattle.stream.specs.Choice.{distance}
 use Rattle.session.specs.Choice.{nearestAt, sentBefore, chosen, expiresBefore, expiring}
 use Rattle.calls.specs.Replies.{numberOf}
-use Rattle.session.specs.Calls.{answerTo, after}
+use Rattle.session.specs.Calls.{answerTo, after, Line, linesFrom}
 use Rattle.session.specs.Opening.{zeroSession, openingOf}
 use Rattle.session.specs.Cases.{Case, markedCases, otherCases}
-use Rattle.session.specs.History.{Moment, historyOf, withinBounds, never, addedOf, budgetOf}
+use Rattle.session.specs.History.{Moment, historyOf, withinBounds, replied, never, addedOf, budgetOf}
 use Rattle.session.specs.Promise.{EachClosed}
+use Rattle.session.specs.Tags.{untagged, untaggedCall, untaggedReply, untaggedLine, Request, waiting, atDisk, queuedAt, servedAt, told}
 use Rattle.session.specs.declared.Session.{Session}
 use Rattle.calls.specs.declared.Call.{Call}
 use Rattle.calls.specs.declared.Reply.{Reply}
@@ -143,11 +144,6 @@ RemaindersAreBounded =
     (s : Session) → sound s ≡ true → (aboveZero (s .remainders .0) ≤ remainders-max) × (belowZero (s .remainders .0) ≤ remainders-max)
 
 -- May a foreign request that takes at most x run now? If nothing is at the disk, and the clock and x together are no later than the moment that is told, the clock report after it is answered by 27, whatever is queued, and whatever arrives meanwhile: it is not late, and breaks no premise of the promise. (Past the session's end it is refused by 14, and changes nothing.)
-pub record Request : Type 0 where
-  pub stream : ℕ
-  pub place : ℕ
-  pub tag : ℕ
-
 abbrev pub arriving : List Request → List Call
 arriving requests = map (λ (r : Request). Call.Arrival (r .stream) (r .place) (r .tag)) requests
 
@@ -184,3 +180,33 @@ SentGoesFirst =
 abbrev pub ExpiringGoesFirst : Type 0
 ExpiringGoesFirst =
     (s : Session) → sound s ≡ true → noSlot s ≡ false → GoesFirst (slotsAt s) (expiresBefore s) (s .count) (expiring s)
+
+-- Document 02, Req 07: "The queue, its order and the choice rule do not look at tags." Of two sound sessions that differ in tags alone, two calls that differ in tags alone make sessions that do, and replies that do: what is sent, charged, closed, waited for and refused is the same.
+abbrev pub TagsDecideNothing : Type 0
+TagsDecideNothing =
+    (s z : Session) (k l : Call) → sound s ≡ true → sound z ≡ true → untagged s ≡ untagged z → untaggedCall k ≡ untaggedCall l
+    → (untagged (answerTo s k .session) ≡ untagged (answerTo z l .session))
+    × (untaggedReply (answerTo s k .reply) ≡ untaggedReply (answerTo z l .reply))
+
+-- So of whole runs: but for the last field, the printed lines are those of the same calls with no tag.
+abbrev pub TagsShowLast : Type 0
+TagsShowLast =
+    (t : Table) (calls : List Call) → admissionOf t ≡ 0
+    → let lines : List Call → List Line = λ ks. map untaggedLine (linesFrom 1 (openingOf t .session) ks) in
+    lines calls ≡ lines (map untaggedCall calls)
+
+-- "sent and done hand the tag back": a send tells stream, place and tag of the request that left its queue, as it had arrived; a completion tells the stream and the tag of the request that was at the disk; and no other reply has a tag.
+pub record HandedBack (m : Moment) (earlier : List Moment) : Type 0 where
+  pub sent : replied 21 m ≡ true → told m ≡ atDisk (m ∷ earlier)
+  pub done : (replied 25 m || replied 26 m) ≡ true → (told m .stream ≡ atDisk earlier .stream) × (told m .tag ≡ atDisk earlier .tag)
+  pub others : (replied 21 m || replied 25 m || replied 26 m) ≡ false → told m .tag ≡ 0
+
+-- So it is of each call of a run. And afterwards each stream has queued what arrived and was not sent, in order of arrival, each place with the tag that came with it; and what is at the disk is what was sent last and is not done.
+abbrev pub TagComesBack : Type 0
+TagComesBack =
+    (t : Table) (calls : List Call) → admissionOf t ≡ 0
+    → let now = after (openingOf t .session) calls in
+    let past = historyOf t calls in
+    ((i : ℕ) → i < t .count → queuedAt now i ≡ waiting i past)
+    × (servedAt now ≡ atDisk past)
+    × ((later : List Moment) (m : Moment) (earlier : List Moment) → later ++ (m ∷ earlier) ≡ past → HandedBack m earlier)

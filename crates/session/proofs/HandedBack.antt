@@ -18,7 +18,7 @@ use Rattle.session.specs.Session.{noStream, streamAt, horizon, filledAt}
 use Rattle.session.specs.Calls.{Verdict, refuse, append, send, move, wait, expire, finish, set-clock, verdict, apply, replyTo, answerTo, after}
 use Rattle.session.specs.Opening.{freshSession, openingOf}
 use Rattle.session.specs.History.{Moment, historyFrom, historyOf, replied}
-use Rattle.session.specs.Tags.{Request, no-request, leaving, waitingAfter, waiting, atDiskAfter, atDisk, requests, queuedIn, queuedAt, servedAt, told}
+use Rattle.session.specs.Tags.{Request, no-request, leaving, waitingAfter, waiting, atDiskAfter, atDisk, requests, queuedIn, queuedAt, servedAt, requestIn}
 use Rattle.session.specs.Laws.{HandedBack, TagComesBack}
 use Rattle.session.specs.declared.Session.{Session}
 use Rattle.calls.specs.declared.Call.{Call}
@@ -127,7 +127,7 @@ module _ (s : Session) (past : List Moment) (has : Has s past) where
   replying k v r = record { before = s; call = k; answer = record { session = apply s v; reply = r } }
 
   -- one that neither sends nor completes
-  silent : (m : Moment) → replied 21 m ≡ false → (replied 25 m || replied 26 m) ≡ false → told m .tag ≡ 0 → HandedBack m past
+  silent : (m : Moment) → replied 21 m ≡ false → (replied 25 m || replied 26 m) ≡ false → requestIn m .tag ≡ 0 → HandedBack m past
   silent m not-sent not-done none =
       record {
         sent = λ e. absurd (false≢true (sym not-sent ∙ e));

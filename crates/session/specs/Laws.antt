@@ -22,7 +22,7 @@ use Rattle.session.specs.Opening.{zeroSession, openingOf}
 use Rattle.session.specs.Cases.{Case, markedCases, otherCases}
 use Rattle.session.specs.History.{Moment, historyOf, withinBounds, replied, never, addedOf, budgetOf}
 use Rattle.session.specs.Promise.{EachClosed}
-use Rattle.session.specs.Tags.{untagged, untaggedCall, untaggedReply, untaggedLine, Request, waiting, atDisk, queuedAt, servedAt, told}
+use Rattle.session.specs.Tags.{untagged, untaggedCall, untaggedReply, untaggedLine, Request, waiting, atDisk, queuedAt, servedAt, requestIn}
 use Rattle.session.specs.declared.Session.{Session}
 use Rattle.calls.specs.declared.Call.{Call}
 use Rattle.calls.specs.declared.Reply.{Reply}
@@ -197,9 +197,9 @@ TagsShowLast =
 
 -- "sent and done hand the tag back": a send tells stream, place and tag of the request that left its queue, as it had arrived; a completion tells the stream and the tag of the request that was at the disk; and no other reply has a tag.
 pub record HandedBack (m : Moment) (earlier : List Moment) : Type 0 where
-  pub sent : replied 21 m ≡ true → told m ≡ atDisk (m ∷ earlier)
-  pub done : (replied 25 m || replied 26 m) ≡ true → (told m .stream ≡ atDisk earlier .stream) × (told m .tag ≡ atDisk earlier .tag)
-  pub others : (replied 21 m || replied 25 m || replied 26 m) ≡ false → told m .tag ≡ 0
+  pub sent : replied 21 m ≡ true → requestIn m ≡ atDisk (m ∷ earlier)
+  pub done : (replied 25 m || replied 26 m) ≡ true → (requestIn m .stream ≡ atDisk earlier .stream) × (requestIn m .tag ≡ atDisk earlier .tag)
+  pub others : (replied 21 m || replied 25 m || replied 26 m) ≡ false → requestIn m .tag ≡ 0
 
 -- So it is of each call of a run. And afterwards each stream has queued what arrived and was not sent, in order of arrival, each place with the tag that came with it; and what is at the disk is what was sent last and is not done.
 abbrev pub TagComesBack : Type 0

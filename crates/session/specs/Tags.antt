@@ -109,8 +109,8 @@ queuedAt s i = queuedIn i (streamAt s i)
 abbrev pub servedAt : Session → Request
 servedAt s = record { stream = s .served; place = s .place; tag = s .tag }
 
--- and as the reply to a send tells it
-abbrev pub told : Moment → Request
-told m =
+-- and as a reply tells it
+abbrev pub requestIn : Moment → Request
+requestIn m =
     let r = m .answer .reply in
     record { stream = streamOf (m .call) r; place = valueOf r; tag = tagOf r }

@@ -30,6 +30,7 @@ openedSession t =
       worst = t .worst;
       span = t .span;
       padding = t .padding;
+      tag = 0;
       count = t .count;
       margin = margin (marginOf t);
       horizon = moment 0;
@@ -38,7 +39,6 @@ openedSession t =
       head = 0;
       served = 0;
       place = 0;
-      tag = 0;
       streams = listTo (openedStream t) streams-max;
     }
 
@@ -53,6 +53,7 @@ zeroSession =
       worst = 0;
       span = 0;
       padding = 0;
+      tag = 0;
       count = 0;
       margin = margin (pos 0);
       horizon = moment 0;
@@ -61,7 +62,6 @@ zeroSession =
       head = 0;
       served = 0;
       place = 0;
-      tag = 0;
       streams = replicate streams-max (freshStream 0 0 0);
     }
 

@@ -140,6 +140,7 @@ withStreams s streams =
       worst = s .worst;
       span = s .span;
       padding = s .padding;
+      tag = s .tag;
       count = s .count;
       margin = s .margin;
       horizon = s .horizon;
@@ -148,7 +149,6 @@ withStreams s streams =
       head = s .head;
       served = s .served;
       place = s .place;
-      tag = s .tag;
       streams = streams;
     }
 
@@ -162,6 +162,7 @@ withDisk s clock head served place tag =
       worst = s .worst;
       span = s .span;
       padding = s .padding;
+      tag = tag;
       count = s .count;
       margin = s .margin;
       horizon = s .horizon;
@@ -170,7 +171,6 @@ withDisk s clock head served place tag =
       head = head;
       served = served;
       place = place;
-      tag = tag;
       streams = s .streams;
     }
 
@@ -181,6 +181,7 @@ withAhead s horizon remainders =
       worst = s .worst;
       span = s .span;
       padding = s .padding;
+      tag = s .tag;
       count = s .count;
       margin = s .margin;
       horizon = horizon;
@@ -189,7 +190,6 @@ withAhead s horizon remainders =
       head = s .head;
       served = s .served;
       place = s .place;
-      tag = s .tag;
       streams = s .streams;
     }
 

@@ -28,11 +28,12 @@ use time::Charge;
 use time::Clock;
 use time::Remainders;
 
-// The first `count` of the eight streams are used. The margin is that of the table; the horizon is the smallest deadline, and the sum of all remainders is scaled by the span. `served` is the stream whose request is at the disk, counted from 1, with its place and its tag, or zeros.
+// The first `count` of the eight streams are used. The margin is that of the table; the horizon is the smallest deadline, and the sum of all remainders is scaled by the span. `served` is the stream whose request is at the disk, counted from 1, with its place and its tag, or zeros; the tag stands with the other numbers of 32 bits, so that no byte is left between cells.
 pub struct Session {
     pub worst: u32,
     pub span: u32,
     pub padding: u32,
+    pub tag: u32,
     pub count: usize,
     pub margin: Margin,
     pub horizon: Clock,
@@ -41,7 +42,6 @@ pub struct Session {
     pub head: u64,
     pub served: usize,
     pub place: u64,
-    pub tag: u32,
     pub streams: [Stream; Table::STREAMS_MAX],
 }
 
@@ -92,6 +92,7 @@ impl Session {
             worst: 0,
             span: 0,
             padding: 0,
+            tag: 0,
             count: 0,
             margin: margin,
             horizon: start,
@@ -100,7 +101,6 @@ impl Session {
             head: 0,
             served: 0,
             place: 0,
-            tag: 0,
             streams: streams,
         }
     }
@@ -118,6 +118,7 @@ fn fresh(t: Table, margin: Margin) -> Session
         worst: t.worst,
         span: t.span,
         padding: t.padding,
+        tag: 0,
         count: t.count,
         margin: margin,
         horizon: start,
@@ -126,7 +127,6 @@ fn fresh(t: Table, margin: Margin) -> Session
         head: 0,
         served: 0,
         place: 0,
-        tag: 0,
         streams: streams,
     };
     let h = session.soonest();

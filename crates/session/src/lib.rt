@@ -12,7 +12,7 @@ mod soundness;
 mod turns;
 
 ghost use mathlib.Core.Path.{_≡_};
-ghost use Prim.Native.Nat.{_<_};
+ghost use Prim.Native.Nat.{_≤_, _<_};
 ghost use Rattle.table.specs.Fold.{listTo};
 ghost use Rattle.table.specs.Ranges.{streams-max};
 ghost use Rattle.table.specs.Admission.{admissionOf};
@@ -138,14 +138,15 @@ fn fresh(t: Table, margin: Margin) -> Session
     session
 }
 
-// The eight streams of a session that is opened with a table.
+// The eight streams of a session that is opened with a table: those past its count stay all zeros.
 fn opened_streams(t: Table) -> [Stream; Table::STREAMS_MAX]
+    requires { ⌜ t .count ≤ streams-max ⌝ }
     ensures { λ r. ⌜ r ≡ listTo (openedStream t) streams-max ⌝ }
 {
     let unused = Stream::fresh(0, 0, 0);
     let mut streams = [unused; Table::STREAMS_MAX];
     let mut i: usize = 0;
-    while i < Table::STREAMS_MAX {
+    while i < t.count {
         let x = opened_stream(t, i);
         streams[i] = x;
         i += 1;
@@ -153,18 +154,14 @@ fn opened_streams(t: Table) -> [Stream; Table::STREAMS_MAX]
     streams
 }
 
-// One of them: past the table's count a stream of zeros.
+// One that the table has.
 fn opened_stream(t: Table, i: usize) -> Stream
-    requires { ⌜ i < streams-max ⌝ }
+    requires { ⌜ (i < t .count) × (t .count ≤ streams-max) ⌝ }
     ensures { λ r. ⌜ r ≡ openedStream t i ⌝ }
 {
-    if i < t.count {
-        let reserved = t.reserved;
-        let period = t.period;
-        let e = reserved[i];
-        let budget = table::granted(t.worst, t.padding, e);
-        Stream::fresh(e, period[i], budget)
-    } else {
-        Stream::fresh(0, 0, 0)
-    }
+    let reserved = t.reserved;
+    let period = t.period;
+    let e = reserved[i];
+    let budget = table::granted(t.worst, t.padding, e);
+    Stream::fresh(e, period[i], budget)
 }

@@ -6,6 +6,7 @@ use lib.IntN.{pos, _-ℤ_}
 use borrow.Author.Needs.{needs}
 use Rattle.table.specs.Admission.{loadOf}
 use Rattle.table.specs.Margin.{margin, leftOf}
+use Rattle.table.proofs.Judged.{admits-of}
 use Rattle.time.specs.Time.{moment}
 use Rattle.time.specs.Latest.{remainders}
 use Rattle.time.specs.declared.Charge.{Charge}
@@ -18,7 +19,7 @@ use Rattle.session.proofs.fresh.Statement.{statement}
 use Rattle.session.proofs.fresh.Tie as tie
 
 opened-streams-requires : tie.Need-opened-streams-requires
-opened-streams-requires c κs = search needs
+opened-streams-requires c κs = admits-of (c .args .t) (c .pre .0) .numbers .count-high
 
 at-requires : tie.Need-at-requires
 at-requires c κs = search needs

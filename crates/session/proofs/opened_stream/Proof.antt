@@ -1,5 +1,5 @@
--- `opened_stream` gives the stream at i by the two cases of its test.
-use borrow.Author.Tests.{lt-ltb, le-ltb}
+-- `opened_stream` gives the stream at i, which is below the count.
+use borrow.Author.Tests.{lt-ltb}
 use Rattle.table.specs.Fold.{if}
 use Rattle.session.specs.Opening.{openedStream}
 use borrow.Author.Needs.{needs}
@@ -24,32 +24,11 @@ array-read-fresh c = search needs
 fresh-requires : tie.Need-fresh-requires
 fresh-requires c κs = search needs
 
-fresh-requires-2 : tie.Need-fresh-requires-2
-fresh-requires-2 c κs = search needs
-
 returns : tie.Need-returns
 unfolding openedStream if
-returns c =
-    rw (
-      c .fresh .ensures,
-      c .before .granted .ensures,
-      lt-ltb _ _ (c .before .before .before .before .if1 .taken),
-    )
-
-returns-2 : tie.Need-returns-2
-unfolding openedStream if
-returns-2 c = rw (c .fresh2 .ensures, le-ltb _ _ (c .before .if1 .left))
+returns c = rw (c .fresh .ensures, c .before .granted .ensures, lt-ltb _ _ (c .before .before .before .before .pre .0))
 
 pub opened-stream-spec : {M : Type 1} → statement M
 opened-stream-spec =
     tie.close
-    (tie.spec
-    mul-e
-    array-read-e
-    granted-requires
-    mul-fresh
-    array-read-fresh
-    fresh-requires
-    fresh-requires-2
-    returns
-    returns-2)
+    (tie.spec mul-e array-read-e granted-requires mul-fresh array-read-fresh fresh-requires returns)

@@ -15,7 +15,7 @@ use Rattle.cells.specs.Cells.{cell, Bytes}
 use Rattle.file.specs.File.{event-size, eventCells, bytesOf, traceOf}
 use Rattle.file.specs.Reading.{eventsIn, eventAt, formed, isTrace}
 use Rattle.file.specs.Writing.{isStorable}
-use Rattle.file.specs.Laws.{Coded, StoredReadsBack, AllCoded, TraceReadsBack, TraceWritesBack, untagged, OldTraceReads}
+use Rattle.file.specs.Laws.{Coded, StoredReadsBack, AllCoded, TraceReadsBack, TraceWritesBack, readBefore, OldTraceReads}
 use Rattle.file.specs.declared.event.Event.{Event}
 use Rattle.file.specs.declared.event.Event.the-variants.{Arrival, Turn, OwnTurn, Done, Clock, Malformed}
 use Rattle.file.proofs.Columns.{list-agree}
@@ -129,7 +129,7 @@ trace-writes-back trace b h =
 pub old-trace-reads : OldTraceReads
 unfolding isTrace eventAt if
 old-trace-reads trace old =
-    let at : (i : ℕ) → i < eventsIn trace → eventAt trace i ≡ untagged trace (event-size * i)
+    let at : (i : ℕ) → i < eventsIn trace → eventAt trace i ≡ readBefore trace (event-size * i)
     = λ i l. rw (lt-ltb i (eventsIn trace) l) (six-zeros-read-as-before trace (event-size * i) (old .six-zeros i l)) in
     let all = all-of (λ i. formed (eventAt trace i)) (eventsIn trace) (λ i l. ap formed (at i l) ∙ old .of-a-kind i l) in
     (rw (eq-eqb _ _ (old .whole-events), le-leb _ _ (old .events-high), all), at)

@@ -37,7 +37,7 @@ events-max = 4_000
 abbrev pub event-size : ℕ
 event-size = 16
 
--- "Event: kind, stream, six zero bytes, eight bytes of value." But "an arrival's tag fills the first four of the six zero bytes; other events keep zeros".
+-- "Event: kind, stream, six zero bytes, eight bytes of value." But document 02, Req 07: "an arrival's tag fills the first four of the six zero bytes; other events keep zeros".
 unfoldable pub eventCells : ℕ → ℕ → ℕ → ℕ → List ℕ
 eventCells kind stream tag value = cell 1 kind ++ cell 1 stream ++ cell 4 tag ++ cell 2 0 ++ cell 8 value
 

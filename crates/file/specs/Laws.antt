@@ -115,15 +115,15 @@ EventWritesBack =
     (trace : List ℕ) (i : ℕ) → Bytes trace → formed (eventAt trace i) ≡ true
     → Coded (eventAt trace i) × (bytesOf (eventAt trace i) ≡ take event-size (drop (event-size * i) trace))
 
--- what kind, stream and value make of an event without a tag: before there were tags, nothing else was read of its 16 bytes but that six of them are 0
-abbrev pub untagged : List ℕ → ℕ → Event
-untagged trace at = eventOf (numberAt 1 trace at) (numberAt 1 trace (at + 1)) 0 (numberAt 8 trace (at + 8))
+-- the event of 16 bytes as it was read before there were tags, where its six bytes are 0: kind, stream and value alone
+abbrev pub readBefore : List ℕ → ℕ → Event
+readBefore trace at = eventOf (numberAt 1 trace at) (numberAt 1 trace (at + 1)) 0 (numberAt 8 trace (at + 8))
 
--- "so old files read with tag 0": where the six bytes are 0, the event is what it was
+-- Document 02, Req 07: "so old files read with tag 0". Where the six bytes are 0, the event is what it was
 abbrev pub SixZerosReadAsBefore : Type 0
-SixZerosReadAsBefore = (trace : List ℕ) (at : ℕ) → numberAt 6 trace (at + 2) ≡ 0 → eventFrom trace at ≡ untagged trace at
+SixZerosReadAsBefore = (trace : List ℕ) (at : ℕ) → numberAt 6 trace (at + 2) ≡ 0 → eventFrom trace at ≡ readBefore trace at
 
--- "other events keep zeros": where the six bytes are not 0, there is an arrival or nothing
+-- And "other events keep zeros": where the six bytes are not 0, there is an arrival or nothing
 abbrev pub OthersKeepZeros : Type 0
 OthersKeepZeros =
     (trace : List ℕ) (at : ℕ) → formed (eventFrom trace at) ≡ true → (numberAt 1 trace at ≡ 1 → ⊥) → numberAt 6 trace (at + 2) ≡ 0
@@ -155,13 +155,13 @@ pub record OldTrace (trace : List ℕ) : Type 0 where
   pub whole-events : length trace % event-size ≡ 0
   pub events-high : eventsIn trace ≤ events-max
   pub six-zeros : (i : ℕ) → i < eventsIn trace → numberAt 6 trace (event-size * i + 2) ≡ 0
-  pub of-a-kind : (i : ℕ) → i < eventsIn trace → formed (untagged trace (event-size * i)) ≡ true
+  pub of-a-kind : (i : ℕ) → i < eventsIn trace → formed (readBefore trace (event-size * i)) ≡ true
 
 -- It is accepted as before, and its events are what they were.
 abbrev pub OldTraceReads : Type 0
 OldTraceReads =
     (trace : List ℕ) → OldTrace trace
-    → (isTrace trace ≡ true) × ((i : ℕ) → i < eventsIn trace → eventAt trace i ≡ untagged trace (event-size * i))
+    → (isTrace trace ≡ true) × ((i : ℕ) → i < eventsIn trace → eventAt trace i ≡ readBefore trace (event-size * i))
 
 -- So its file is accepted as before, and by `AcceptedWritesBack` written again byte for byte.
 abbrev pub OldFileReads : Type 0

@@ -16,7 +16,7 @@ use Rattle.file.specs.declared.event.Event.the-variants.{Arrival, Turn, 
 
 -- ---- events
 
--- "Kinds: 1 arrival, 2 turn, 3 own turn, 4 done, 5 clock. Turn has stream 0 and value 0; done and clock have stream 0." An arrival alone has a tag: "other events keep zeros".
+-- "Kinds: 1 arrival, 2 turn, 3 own turn, 4 done, 5 clock. Turn has stream 0 and value 0; done and clock have stream 0." An arrival alone has a tag; document 02, Req 07: "other events keep zeros".
 unfoldable pub eventOf : ℕ → ℕ → ℕ → ℕ → Event
 eventOf kind stream tag value =
     if (eqb kind 1) (Arrival stream value tag)
@@ -27,7 +27,7 @@ eventOf kind stream tag value =
     (if (eqb kind 5 && eqb stream 0) (Clock value)
     Malformed)))))
 
--- "Event: kind, stream, six zero bytes, eight bytes of value", where "an arrival's tag fills the first four of the six zero bytes": the event in the 16 bytes from an index on
+-- "Event: kind, stream, six zero bytes, eight bytes of value", where by document 02, Req 07, "an arrival's tag fills the first four of the six zero bytes": the event in the 16 bytes from an index on
 unfoldable pub eventFrom : List ℕ → ℕ → Event
 eventFrom trace at =
     if (eqb (numberAt 2 trace (at + 6)) 0)

@@ -101,11 +101,7 @@ fn is_storable(event: Event) -> bool
     ensures { λ r. ⌜ r ≡ isStorable event ⌝ }
 {
     match event {
-        Event::Arrival {
-            stream,
-            place: _,
-            tag: _,
-        } => stream <= Event::STREAM_MAX,
+        Event::Arrival { stream, .. } => stream <= Event::STREAM_MAX,
         Event::OwnTurn { stream, index: _ } => stream <= Event::STREAM_MAX,
         Event::Turn | Event::Done { duration: _ } | Event::Clock { time: _ } => true,
         Event::Malformed => false,

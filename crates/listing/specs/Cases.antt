@@ -1,4 +1,4 @@
--- Document 01's printed lines, and those of a tally: the fields of each, beside what the document shows. The statement that covers the list is `CasesHold`.
+-- Document 01's printed lines, with the last field of document 02, Req 07, and those of a tally: the fields of each, beside what is shown. The statement that covers the list is `CasesHold`.
 use mathlib.Core.List.{List, [], _∷_}
 use Prim.Native.Nat.{ℕ}
 use Prim.Native.String.{String}

@@ -46,11 +46,11 @@ unfoldable pub rendered : List (List ℕ) → List ℕ
 rendered [] = newline ∷ []
 rendered (field ∷ rest) = field ++ onward rest
 
--- "a header", and "the header gets the word `tag`"
+-- "a header", and by document 02, Req 07, "the header gets the word `tag`"
 unfoldable pub headerFields : List (List ℕ)
 headerFields = map ascii ("event" ∷ "answer" ∷ "stream" ∷ "value" ∷ "clock" ∷ "tag" ∷ [])
 
--- a line per event: "its number from 1, the reply, the stream, .. the value, .. the clock afterwards", and "a last field, the tag of the request sent or done, else 0"
+-- a line per event: "its number from 1, the reply, the stream, .. the value, .. the clock afterwards", and by document 02, Req 07, "a last field, the tag of the request sent or done, else 0"
 unfoldable pub eventFields : ℕ → ℕ → ℕ → ℕ → ℕ → ℕ → List (List ℕ)
 eventFields number answer stream value clock tag = map decimal (number ∷ answer ∷ stream ∷ value ∷ clock ∷ tag ∷ [])
 

@@ -91,7 +91,7 @@ placeLine Amiss d = Wrong
 abbrev pub lineOf : Draft → Line
 lineOf d = placeLine (d .place) d
 
--- a tag is shown where it is not 0: "old files read with tag 0"
+-- a tag is shown where it is not 0, so that old notes stay as they are
 abbrev pub tagShown : ℕ → List ℕ
 tagShown zero = []
 tagShown (suc n) = suc n ∷ []

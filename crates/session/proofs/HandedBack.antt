@@ -1,7 +1,7 @@
 -- The tag that a completion hands back is the one with which its request arrived: history and session have the same requests queued and at the disk.
 use mathlib.Core.Bool.{Bool, true, false, _||_, false≢true}
 use mathlib.Core.List.{List, [], _∷_, _++_}
-use mathlib.Core.Path.{_≡_, refl, sym, _∙_, ap, subst}
+use mathlib.Core.Path.{_≡_, refl, sym, _∙_, ap, ap₂, subst}
 use Prim.Native.Nat.{ℕ, _+_, _≤_, _<_}
 use native.Mathlib.Omega.{arith}
 use lib.Dec.{eqb}
@@ -53,47 +53,50 @@ module _ (s : Session) (past : List Moment) (has : Has s past) where
   cell i l = omega (arith, has .orderly .fit .eight, admits s (has .orderly) .numbers .count-high)
 
   -- where stream n alone is changed, the others have what they had
-  changed : (v : Verdict) (n : ℕ) (y : Stream) → n < s .count → ((i : ℕ) → eqb n i ≡ false → waitingAfter i v (waiting i past) ≡ waiting i past)
-      → queuedIn n y ≡ waitingAfter n v (waiting n past)
-      → (i : ℕ) → i < s .count → queuedIn i (getD (set (s .streams) n y) i noStream) ≡ waitingAfter i v (waiting i past)
-  changed v n y l others own i m =
-      set-at (λ z. queuedIn i z ≡ waitingAfter i v (waiting i past)) (s .streams) n y (cell n l) i
-      (λ e. subst (λ (j : ℕ). queuedIn j y ≡ waitingAfter j v (waiting j past)) (sym e) own)
+  changed : (k : Call) (v : Verdict) (n : ℕ) (y : Stream) → n < s .count
+      → ((i : ℕ) → eqb n i ≡ false → waitingAfter i k v (waiting i past) ≡ waiting i past)
+      → queuedIn n y ≡ waitingAfter n k v (waiting n past)
+      → (i : ℕ) → i < s .count → queuedIn i (getD (set (s .streams) n y) i noStream) ≡ waitingAfter i k v (waiting i past)
+  changed k v n y l others own i m =
+      set-at (λ z. queuedIn i z ≡ waitingAfter i k v (waiting i past)) (s .streams) n y (cell n l) i
+      (λ e. subst (λ (j : ℕ). queuedIn j y ≡ waitingAfter j k v (waiting j past)) (sym e) own)
       (λ other. has .queues i m ∙ sym (others i (ne-eqb n i (λ e. other (sym e)))))
 
   -- what each verdict leaves queued
-  append-on : (n place tag : ℕ) → Grounds s (append n place tag) → (i : ℕ) → i < s .count
-      → queuedAt (apply s (append n place tag)) i ≡ waitingAfter i (append n place tag) (waiting i past)
+  append-on : (k : Call) (n place tag : ℕ) → Grounds s (append n place tag) → Reasons s k (append n place tag) → (i : ℕ) → i < s .count
+      → queuedAt (apply s (append n place tag)) i ≡ waitingAfter i k (append n place tag) (waiting i past)
   unfolding apply waitingAfter if
-  append-on n place tag g =
+  append-on k n place tag g brought =
       let l = g .exists in
-      changed (append n place tag) n _ l (λ i e. rw e)
+      changed k (append n place tag) n _ l (λ i e. rw e)
       (rw (eq-eqb n n refl)
       (joined n (streamAt s n) (has .orderly .fit .used .each n l .queue) place tag (g .space)
-      ∙ ap (λ (w : List Request). w ++ (record { stream = n + 1; place = place; tag = tag } ∷ [])) (has .queues n l)))
+      ∙ ap₂ (λ (w : List Request) (r : Request). w ++ (r ∷ [])) (has .queues n l) (sym brought)))
 
   below : (n j : ℕ) → Grounds s (send n j) → j < streamAt s n .queued
   unfolding filled
   below n j g = omega (arith, g .inSet)
 
-  send-on : (n j : ℕ) → Grounds s (send n j) → (i : ℕ) → i < s .count → queuedAt (apply s (send n j)) i ≡ waitingAfter i (send n j) (waiting i past)
+  send-on : (k : Call) (n j : ℕ) → Grounds s (send n j) → (i : ℕ) → i < s .count
+      → queuedAt (apply s (send n j)) i ≡ waitingAfter i k (send n j) (waiting i past)
   unfolding apply waitingAfter if
-  send-on n j g =
+  send-on k n j g =
       let l = g .exists in
-      changed (send n j) n _ l (λ i e. rw e)
+      changed k (send n j) n _ l (λ i e. rw e)
       (rw (eq-eqb n n refl)
       (left n (streamAt s n) (has .orderly .fit .used .each n l .queue) j (below n j g) ∙ ap (leaving j) (has .queues n l)))
 
-  queues-on : (v : Verdict) → Grounds s v → (i : ℕ) → i < s .count → queuedAt (apply s v) i ≡ waitingAfter i v (waiting i past)
+  queues-on : (k : Call) (v : Verdict) → Grounds s v → Reasons s k v → (i : ℕ) → i < s .count
+      → queuedAt (apply s v) i ≡ waitingAfter i k v (waiting i past)
   unfolding apply waitingAfter charged lapsed
-  queues-on (refuse n) g i l = has .queues i l
-  queues-on (append n place tag) g i l = append-on n place tag g i l
-  queues-on (send n j) g i l = send-on n j g i l
-  queues-on move g i l = ap (queuedIn i) (moved-at s (has .orderly) i) ∙ queue-moved i (s .clock) (horizon s) (streamAt s i) ∙ has .queues i l
-  queues-on wait g i l = has .queues i l
-  queues-on (expire n) g i l = set-alike (s .streams) n _ noStream (queuedIn i) refl i ∙ has .queues i l
-  queues-on (finish n a) g i l = set-alike (s .streams) n _ noStream (queuedIn i) refl i ∙ has .queues i l
-  queues-on (set-clock t) g i l = has .queues i l
+  queues-on k (refuse n) g r i l = has .queues i l
+  queues-on k (append n place tag) g r i l = append-on k n place tag g r i l
+  queues-on k (send n j) g r i l = send-on k n j g i l
+  queues-on k move g r i l = ap (queuedIn i) (moved-at s (has .orderly) i) ∙ queue-moved i (s .clock) (horizon s) (streamAt s i) ∙ has .queues i l
+  queues-on k wait g r i l = has .queues i l
+  queues-on k (expire n) g r i l = set-alike (s .streams) n _ noStream (queuedIn i) refl i ∙ has .queues i l
+  queues-on k (finish n a) g r i l = set-alike (s .streams) n _ noStream (queuedIn i) refl i ∙ has .queues i l
+  queues-on k (set-clock t) g r i l = has .queues i l
 
   -- and at the disk
   disk-on : (v : Verdict) → Grounds s v → servedAt (apply s v) ≡ atDiskAfter v past (atDisk past)
@@ -118,7 +121,7 @@ module _ (s : Session) (past : List Moment) (has : Has s past) where
       let count = table-same s v .3 in
       record {
         orderly = effect-kept s (has .orderly) v g;
-        queues = λ i l. queues-on v g i (omega (arith, l, count));
+        queues = λ i l. queues-on k v g (verdict-reasons s (has .orderly) k) i (omega (arith, l, count));
         disk = disk-on v g;
       }
 

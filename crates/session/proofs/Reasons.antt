@@ -1,23 +1,25 @@
--- What else a verdict rests on, for the promise: why a move, why an expiry, whose duration, and why one reply and not the other.
+-- What else a verdict rests on, for the promise and for what is queued: which request arrives, why a move, why an expiry, whose duration, and why one reply and not the other.
 use mathlib.Core.Bool.{true, false}
-use mathlib.Core.Path.{_≡_, refl}
-use Prim.Native.Nat.{ℕ, _+_, _≤_}
+use mathlib.Core.Path.{_≡_, refl, ap}
+use Prim.Native.Nat.{ℕ, _+_, _-_, _≤_}
+use native.Mathlib.Omega.{arith}
 use Rattle.table.specs.Refusal.{given, _or-next_}
-use Rattle.table.proofs.Tests.{by-if}
+use Rattle.table.proofs.Tests.{by-if, given-none, or-next-none}
 use Rattle.time.specs.Time.{moment, diskTime}
 use Rattle.session.specs.Session.{streamAt, someFilled, noSlot}
 use Rattle.session.specs.Calls.{Verdict, refuse, append, send, move, wait, expire, finish, set-clock, callRefusal, refusal, turnEffect, effect, verdict, overlong, late, replyTo}
 use Rattle.session.specs.History.{durationOf}
+use Rattle.session.specs.Tags.{broughtBy}
 use Rattle.session.specs.declared.Session.{Session}
 use Rattle.calls.specs.declared.Call.{Call}
 use Rattle.calls.specs.declared.Reply.{Reply}
 use Rattle.session.proofs.Sound.{Sound, of-sound}
-use Rattle.session.proofs.Grounds.{call-refusal-high, ruled-by}
+use Rattle.session.proofs.Grounds.{named, call-refusal-high, ruled-by}
 
--- a refusal is at most 15; a move finds no slot; an expiry finds no filled one; a completion has the duration of its call
+-- a refusal is at most 15; an arrival is that of its call; a move finds no slot; an expiry finds no filled one; a completion has the duration of its call
 abbrev pub Reasons : Session → Call → Verdict → Type 0
 Reasons s k (refuse n) = n ≤ 15
-Reasons s k (append i place tag) = Unit {0}
+Reasons s k (append i place tag) = broughtBy k ≡ record { stream = i + 1; place = place; tag = tag }
 Reasons s k (send i j) = Unit {0}
 Reasons s k move = noSlot s ≡ true
 Reasons s k wait = Unit {0}
@@ -33,18 +35,21 @@ turn-reasons s =
     by-if (Reasons s Call.Turn) (noSlot s) _ _ (λ over. over)
     (λ left. by-if (Reasons s Call.Turn) _ wait _ (λ early. tt) (λ due. none)))
 
-effect-reasons : (s : Session) (k : Call) → Reasons s k (effect s k)
-unfolding effect
-effect-reasons s (Call.Arrival n place tag) = tt
-effect-reasons s Call.Turn = turn-reasons s
-effect-reasons s (Call.OwnTurn n j) = tt
-effect-reasons s (Call.Done a) = refl
-effect-reasons s (Call.Clock t) = tt
+effect-reasons : (s : Session) (k : Call) → callRefusal s k ≡ 0 → Reasons s k (effect s k)
+unfolding effect callRefusal
+effect-reasons s (Call.Arrival n place tag) none =
+    let low = named s n (given-none _ 7 (or-next-none _ _ none .0)) .0 in
+    let same : n ≡ n - 1 + 1 = omega arith in
+    ap (λ (i : ℕ). record { stream = i; place = place; tag = tag }) same
+effect-reasons s Call.Turn none = turn-reasons s
+effect-reasons s (Call.OwnTurn n j) none = tt
+effect-reasons s (Call.Done a) none = refl
+effect-reasons s (Call.Clock t) none = tt
 
 pub verdict-reasons : (s : Session) → Sound s → (k : Call) → Reasons s k (verdict s k)
 unfolding verdict refusal given _or-next_
 verdict-reasons s q k =
-    rw (of-sound s q) (ruled-by (Reasons s k) (callRefusal s k) (effect s k) (call-refusal-high s k) (λ none. effect-reasons s k))
+    rw (of-sound s q) (ruled-by (Reasons s k) (callRefusal s k) (effect s k) (call-refusal-high s k) (effect-reasons s k))
 
 -- a completion is overlong or not, a clock report late or not
 module _ (P : Reply → Type 0) (s : Session) where

@@ -133,7 +133,7 @@ unfoldable pub after : Session → List Call → Session
 after s [] = s
 after s (k ∷ ks) = after (answerTo s k .session) ks
 
--- the numbers of a printed line: "its number from 1, the reply, the stream [...], the value [...], the clock afterwards", and "a last field, the tag of the request sent or done, else 0"
+-- the numbers of a printed line: "its number from 1, the reply, the stream [...], the value [...], the clock afterwards", and by document 02, Req 07, "a last field, the tag of the request sent or done, else 0"
 pub record Line : Type 0 where
   pub event : ℕ
   pub answer : ℕ

@@ -1,6 +1,6 @@
 -- The documents' worked cases, one line each: what the rules give, beside what the document says. Those marked P and the others stand in two lists; the statements that cover them are `MarkedCasesHold` and `OtherCasesHold` of `Laws`.
 use mathlib.Core.List.{List, [], _∷_, _++_, map}
-use Prim.Native.Nat.{ℕ, zero, suc, _/_, _%_}
+use Prim.Native.Nat.{ℕ, zero, suc, _-_, _/_, _%_}
 use lib.IntN.{ℤ, pos, negsuc}
 use lib.ListN.{length, replicate, set, take}
 use Rattle.table.specs.Fold.{listTo}
@@ -11,7 +11,7 @@ use Rattle.table.specs.declared.Table.{Table}
 use Rattle.time.specs.Exact.{Fraction}
 use Rattle.time.specs.Latest.{latestOf, askedNumber, askedMoment}
 use Rattle.time.specs.declared.remainders.Latest.{Latest}
-use Rattle.stream.specs.Stream.{slots, microDeadline, withQueue, charged, freshStream}
+use Rattle.stream.specs.Stream.{queue-max, slots, microDeadline, withQueue, charged, freshStream}
 use Rattle.session.specs.Session.{streamAt, asked, withStream, withDisk}
 use Rattle.session.specs.Calls.{Line, answerTo, after, linesFrom}
 use Rattle.session.specs.Opening.{openingOf}
@@ -166,7 +166,7 @@ abbrev pub samePlace : List Call
 samePlace =
     Arrival 1 100 7
     ∷ Arrival 1 100 8
-    ∷ Arrival 2 100 9
+    ∷ Arrival 2 100 4_294_967_295
     ∷ OwnTurn 1 1
     ∷ Done 25_000
     ∷ Turn
@@ -176,18 +176,22 @@ samePlace =
     ∷ Done 5_000
     ∷ []
 
--- what a session answers to a turn: a fresh one with a tag at the idle disk, and with one in the last cell of an empty queue
+-- two requests of one place, of which the second is queued over a move
+abbrev pub overAMove : List Call
+overAMove = Arrival 1 100 5 ∷ Arrival 1 100 6 ∷ Turn ∷ Done 50_000 ∷ Turn ∷ Turn ∷ Done 1_000 ∷ []
+
+-- what a session answers to a turn: a fresh one with a tag at the idle disk, and with one in the last cell of an empty queue, of a stream that is used or of one past the count
 abbrev pub turnAnswers : Session → ℕ → Case
 turnAnswers s n = record { rules = (numberOf (answerTo s Turn .reply) ∷ []) ∷ []; document = (n ∷ []) ∷ [] }
 
 abbrev pub tagAtIdleDisk : ℕ → Session
 tagAtIdleDisk tag = let s = openingOf single .session in withDisk s (s .clock) (s .head) (s .served) (s .place) tag
 
-abbrev pub tagInLastCell : ℕ → Session
-tagInLastCell tag =
+abbrev pub tagInLastCell : ℕ → ℕ → Session
+tagInLastCell i tag =
     let s = openingOf single .session in
-    let x = streamAt s 0 in
-    withStream s 0 (withQueue x (x .queued) (x .places) (set (x .tags) 15 tag))
+    let x = streamAt s i in
+    withStream s i (withQueue x (x .queued) (x .places) (set (x .tags) (queue-max - 1) tag))
 
 -- the cases marked P, in the document's order
 unfoldable pub markedCases : List Case
@@ -321,12 +325,25 @@ otherCases =
     ∷ (5 ∷ 25 ∷ 1 ∷ 25_000 ∷ 25_000 ∷ 8 ∷ [])
     ∷ (6 ∷ 21 ∷ 1 ∷ 100 ∷ 25_000 ∷ 7 ∷ [])
     ∷ (7 ∷ 26 ∷ 1 ∷ 50_001 ∷ 50_001 ∷ 7 ∷ [])
-    ∷ (8 ∷ 21 ∷ 2 ∷ 100 ∷ 50_001 ∷ 9 ∷ [])
+    ∷ (8 ∷ 21 ∷ 2 ∷ 100 ∷ 50_001 ∷ 4_294_967_295 ∷ [])
     ∷ (9 ∷ 10 ∷ 0 ∷ 0 ∷ 50_001 ∷ 0 ∷ [])
-    ∷ (10 ∷ 25 ∷ 2 ∷ 5_000 ∷ 55_001 ∷ 9 ∷ [])
+    ∷ (10 ∷ 25 ∷ 2 ∷ 5_000 ∷ 55_001 ∷ 4_294_967_295 ∷ [])
     ∷ [])
     ∷ turnAnswers (tagAtIdleDisk 0) 24
     ∷ turnAnswers (tagAtIdleDisk 1) 31
-    ∷ turnAnswers (tagInLastCell 0) 24
-    ∷ turnAnswers (tagInLastCell 1) 31
+    ∷ turnAnswers (tagInLastCell 0 0) 24
+    ∷ turnAnswers (tagInLastCell 0 1) 31
+    ∷ turnAnswers (tagInLastCell 1 0) 24
+    ∷ turnAnswers (tagInLastCell 1 1) 31
+    ∷ prints
+    single
+    overAMove
+    ((1 ∷ 20 ∷ 1 ∷ 1 ∷ 0 ∷ 0 ∷ [])
+    ∷ (2 ∷ 20 ∷ 1 ∷ 2 ∷ 0 ∷ 0 ∷ [])
+    ∷ (3 ∷ 21 ∷ 1 ∷ 100 ∷ 0 ∷ 5 ∷ [])
+    ∷ (4 ∷ 26 ∷ 1 ∷ 50_000 ∷ 50_000 ∷ 5 ∷ [])
+    ∷ (5 ∷ 23 ∷ 0 ∷ 500_000 ∷ 50_000 ∷ 0 ∷ [])
+    ∷ (6 ∷ 21 ∷ 1 ∷ 100 ∷ 50_000 ∷ 6 ∷ [])
+    ∷ (7 ∷ 25 ∷ 1 ∷ 1_000 ∷ 51_000 ∷ 6 ∷ [])
+    ∷ [])
     ∷ []

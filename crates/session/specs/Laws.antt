@@ -143,10 +143,11 @@ abbrev pub RemaindersAreBounded : Type 0
 RemaindersAreBounded =
     (s : Session) → sound s ≡ true → (aboveZero (s .remainders .0) ≤ remainders-max) × (belowZero (s .remainders .0) ≤ remainders-max)
 
--- May a foreign request that takes at most x run now? If nothing is at the disk, and the clock and x together are no later than the moment that is told, the clock report after it is answered by 27, whatever is queued, and whatever arrives meanwhile: it is not late, and breaks no premise of the promise. (Past the session's end it is refused by 14, and changes nothing.)
+-- the calls by which some requests arrive
 abbrev pub arriving : List Request → List Call
 arriving requests = map (λ (r : Request). Call.Arrival (r .stream) (r .place) (r .tag)) requests
 
+-- May a foreign request that takes at most x run now? If nothing is at the disk, and the clock and x together are no later than the moment that is told, the clock report after it is answered by 27, whatever is queued, and whatever arrives meanwhile: it is not late, and breaks no premise of the promise. (Past the session's end it is refused by 14, and changes nothing.)
 abbrev pub ForeignRequestFits : Type 0
 ForeignRequestFits =
     (s : Session) (until : Clock) (x : ℕ) (meanwhile : List Request) → sound s ≡ true → s .served ≡ 0 → asked s ≡ At until

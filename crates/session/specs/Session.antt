@@ -42,7 +42,7 @@ noStream =
 abbrev pub streamAt : Session → ℕ → Stream
 streamAt s i = getD (s .streams) i noStream
 
--- the place and the tag of its queued request j: "A queued request becomes a place with a tag of 32 bits."
+-- the place and the tag of its queued request j, counted from 0
 abbrev pub placeAt : Session → ℕ → ℕ → ℕ
 placeAt s i j = getD (streamAt s i .places) j 0
 
@@ -103,7 +103,7 @@ tableOf s =
       period = map (λ x. x .period) (s .streams);
     }
 
--- "the stream at the disk, if any, exists and has a slot"; "every unused cell is 0 (.. the place while nothing is at the disk)", and so is the tag
+-- "the stream at the disk, if any, exists and has a slot"; "every unused cell is 0 (.. the place while nothing is at the disk)", and since "What a later request adds to the state joins this rule", the tag too
 unfoldable pub soundDisk : Session → Bool
 soundDisk s =
     if (eqb (s .served) 0) (eqb (s .place) 0 && eqb (s .tag) 0) (leb (s .served) (s .count) && leb 1 (slotsAt s (s .served - 1)))

@@ -63,21 +63,28 @@ module _ {A : Type 0} where
   leaving zero (x ∷ rest) = rest
   leaving (suc j) (x ∷ rest) = x ∷ leaving j rest
 
--- the requests of stream i that wait, the earliest first, as the history tells: one that arrives goes to the end, and one that is sent leaves. Streams are counted from 0 here and in verdicts, and from 1 in requests.
-unfoldable pub waitingAfter : ℕ → Verdict → List Request → List Request
-waitingAfter i (refuse n) before = before
-waitingAfter i (append n place tag) before =
-    if (eqb n i) (before ++ (record { stream = n + 1; place = place; tag = tag } ∷ [])) before
-waitingAfter i (send n j) before = if (eqb n i) (leaving j before) before
-waitingAfter i move before = before
-waitingAfter i wait before = before
-waitingAfter i (expire n) before = before
-waitingAfter i (finish n a) before = before
-waitingAfter i (set-clock t) before = before
+-- the request that a call brings: "Arrival takes both"
+abbrev pub broughtBy : Call → Request
+broughtBy (Call.Arrival n place tag) = record { stream = n; place = place; tag = tag }
+broughtBy Call.Turn = no-request
+broughtBy (Call.OwnTurn n j) = no-request
+broughtBy (Call.Done a) = no-request
+broughtBy (Call.Clock t) = no-request
+
+-- the requests of stream i that wait, the earliest first, as the history tells: one that arrives goes to the end, as its call brought it, and one that is sent leaves. Streams are counted from 0 here and in verdicts, and from 1 in calls and requests.
+unfoldable pub waitingAfter : ℕ → Call → Verdict → List Request → List Request
+waitingAfter i k (refuse n) before = before
+waitingAfter i k (append n place tag) before = if (eqb n i) (before ++ (broughtBy k ∷ [])) before
+waitingAfter i k (send n j) before = if (eqb n i) (leaving j before) before
+waitingAfter i k move before = before
+waitingAfter i k wait before = before
+waitingAfter i k (expire n) before = before
+waitingAfter i k (finish n a) before = before
+waitingAfter i k (set-clock t) before = before
 
 unfoldable pub waiting : ℕ → List Moment → List Request
 waiting i [] = []
-waiting i (m ∷ earlier) = waitingAfter i (verdict (m .before) (m .call)) (waiting i earlier)
+waiting i (m ∷ earlier) = waitingAfter i (m .call) (verdict (m .before) (m .call)) (waiting i earlier)
 
 -- and the one at the disk: the one that was sent, until it is done
 unfoldable pub atDiskAfter : Verdict → List Moment → Request → Request
@@ -109,7 +116,7 @@ queuedAt s i = queuedIn i (streamAt s i)
 abbrev pub servedAt : Session → Request
 servedAt s = record { stream = s .served; place = s .place; tag = s .tag }
 
--- and as a reply tells it
+-- and as a reply tells it: a send its stream, place and tag, a completion its stream and tag (its value is the charge, and no place)
 abbrev pub requestIn : Moment → Request
 requestIn m =
     let r = m .answer .reply in

@@ -41,7 +41,7 @@ impl Session {
         }
     }
 
-    // A queued request goes to the disk: it leaves its queue, the others keep their order, and the head becomes its place.
+    // A queued request goes to the disk: it leaves its queue, the others keep their order, the head becomes its place, and its tag is handed back.
     pub(crate) fn send(mut self, n: usize, index: usize) -> Answer
         requires { ⌜ Due self (send n index) ⌝ }
         ensures { λ r. ⌜ r ≡ outcome self (send n index) ⌝ }
@@ -129,7 +129,7 @@ impl Session {
         }
     }
 
-    // The request at the disk has ended: the clock and the charge of its stream both grow by what it took, and its tag is handed back. It is overlong above W.
+    // The request at the disk has ended: the clock and the charge of its stream both grow by what it took, and its tag is handed back. What it took is overlong above W.
     pub(crate) fn finish(mut self, n: usize, taken: Charge) -> Answer
         requires { ⌜ Due self (finish n (taken .0)) ⌝ }
         ensures { λ r. ⌜ r ≡ outcome self (finish n (taken .0)) ⌝ }

@@ -81,7 +81,7 @@ withQueue x queued places tags = worked x (x .charge .0) (x .expired) queued pla
 abbrev pub withCharge : Stream → ℕ → ℕ → Stream
 withCharge x charge expired = worked x charge expired (x .queued) (x .places) (x .tags)
 
--- "put at the queue's end"; "Arrival takes both"
+-- "put at the queue's end"; document 02, Req 07: "Arrival takes both"
 unfoldable pub arrived : ℕ → ℕ → Stream → Stream
 arrived place tag x = withQueue x (x .queued + 1) (set (x .places) (x .queued) place) (set (x .tags) (x .queued) tag)
 
@@ -138,6 +138,7 @@ soundRow cells queued =
     && leb queued queue-max
     && allTo (λ j. ltb j queued || eqb (getD cells j 0) 0) queue-max
 
+-- both rows of a queue: "What a later request adds to the state joins this rule."
 unfoldable pub soundQueue : List ℕ → List ℕ → ℕ → Bool
 soundQueue places tags queued = soundRow places queued && soundRow tags queued
 

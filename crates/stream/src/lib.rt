@@ -329,18 +329,18 @@ fn closed_up(places: [u64; Stream::QUEUE_MAX], tags: [u32; Stream::QUEUE_MAX], j
     requires { ⌜ j < queue-max ⌝ }
     ensures { λ r. ⌜ (r .places ≡ closedUp j places) × (r .tags ≡ closedUp j tags) ⌝ }
 {
-    let mut left = places;
-    let mut rest = tags;
+    let mut places_left = places;
+    let mut tags_left = tags;
     let mut i = j;
     while i < Stream::QUEUE_LAST {
-        left[i] = places[i + 1];
-        rest[i] = tags[i + 1];
+        places_left[i] = places[i + 1];
+        tags_left[i] = tags[i + 1];
         i += 1;
     }
-    left[Stream::QUEUE_LAST] = 0;
-    rest[Stream::QUEUE_LAST] = 0;
+    places_left[Stream::QUEUE_LAST] = 0;
+    tags_left[Stream::QUEUE_LAST] = 0;
     Rows {
-        places: left,
-        tags: rest,
+        places: places_left,
+        tags: tags_left,
     }
 }

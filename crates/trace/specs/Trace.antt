@@ -36,7 +36,7 @@ applied s n (Event.Clock time) = called s n (Call.Clock time)
 applied s n Event.Malformed =
     record { session = s; line = record { event = n; answer = 16; stream = 0; value = 0; clock = s .clock .0; tag = 0 } }
 
--- "its number from 1, the reply, the stream [...], the value [...], the clock afterwards", and "a last field, the tag of the request sent or done, else 0"
+-- "its number from 1, the reply, the stream [...], the value [...], the clock afterwards", and by document 02, Req 07, "a last field, the tag of the request sent or done, else 0"
 abbrev pub fieldsOf : Line → List (List ℕ)
 fieldsOf l = eventFields (l .event) (l .answer) (l .stream) (l .value) (l .clock) (l .tag)
 

@@ -10,11 +10,11 @@ use Rattle.stream.proofs.closed_up.Statement.{statement}
 use Rattle.stream.proofs.closed_up.Tie as tie
 
 abbrev Inv-loop : tie.InvT-loop
-Inv-loop j places tags left₀ rest₀ i₀ left rest i =
-    (j ≤ i) × (i ≤ 15) × Filled (closedCell places j) left i 16 × Filled (closedCell tags j) rest i 16
+Inv-loop j places tags places-left₀ tags-left₀ i₀ places-left tags-left i =
+    (j ≤ i) × (i ≤ 15) × Filled (closedCell places j) places-left i 16 × Filled (closedCell tags j) tags-left i 16
 
 abbrev μ-loop : tie.MeasureT-loop
-μ-loop j places tags left₀ rest₀ i₀ left rest i = 15 - i
+μ-loop j places tags places-left₀ tags-left₀ i₀ places-left tags-left i = 15 - i
 
 loop-holds : tie.Need-loop-holds Inv-loop μ-loop
 loop-holds c =
@@ -23,35 +23,35 @@ loop-holds c =
     let tags : length (c .args .t2) ≡ 16 = omega (arith, c .good) in
     (omega arith, omega arith, closing-starts (c .args .t1) j places (c .pre), closing-starts (c .args .t2) j tags (c .pre))
 
-add-left : tie.Need-add-left Inv-loop μ-loop
-add-left c = omega arith
+add-places-left : tie.Need-add-places-left Inv-loop μ-loop
+add-places-left c = omega arith
 
-mul-left : tie.Need-mul-left Inv-loop μ-loop
-mul-left c = omega arith
+mul-places-left : tie.Need-mul-places-left Inv-loop μ-loop
+mul-places-left c = omega arith
 
-array-read-left : tie.Need-array-read-left Inv-loop μ-loop
-array-read-left c = omega arith
+array-read-places-left : tie.Need-array-read-places-left Inv-loop μ-loop
+array-read-places-left c = omega arith
 
-mul-left-2 : tie.Need-mul-left-2 Inv-loop μ-loop
-mul-left-2 c = omega arith
+mul-places-left-2 : tie.Need-mul-places-left-2 Inv-loop μ-loop
+mul-places-left-2 c = omega arith
 
-array-write-left : tie.Need-array-write-left Inv-loop μ-loop
-array-write-left c = omega arith
+array-write-places-left : tie.Need-array-write-places-left Inv-loop μ-loop
+array-write-places-left c = omega arith
 
-add-rest : tie.Need-add-rest Inv-loop μ-loop
-add-rest c = omega arith
+add-tags-left : tie.Need-add-tags-left Inv-loop μ-loop
+add-tags-left c = omega arith
 
-mul-rest : tie.Need-mul-rest Inv-loop μ-loop
-mul-rest c = omega arith
+mul-tags-left : tie.Need-mul-tags-left Inv-loop μ-loop
+mul-tags-left c = omega arith
 
-array-read-rest : tie.Need-array-read-rest Inv-loop μ-loop
-array-read-rest c = omega arith
+array-read-tags-left : tie.Need-array-read-tags-left Inv-loop μ-loop
+array-read-tags-left c = omega arith
 
-mul-rest-2 : tie.Need-mul-rest-2 Inv-loop μ-loop
-mul-rest-2 c = omega arith
+mul-tags-left-2 : tie.Need-mul-tags-left-2 Inv-loop μ-loop
+mul-tags-left-2 c = omega arith
 
-array-write-rest : tie.Need-array-write-rest Inv-loop μ-loop
-array-write-rest c = omega arith
+array-write-tags-left : tie.Need-array-write-tags-left Inv-loop μ-loop
+array-write-tags-left c = omega arith
 
 add-i : tie.Need-add-i Inv-loop μ-loop
 add-i c = omega arith
@@ -67,13 +67,13 @@ loop-again c =
     let tags : length (start .args .t2) ≡ 16 = omega (arith, start .good) in
     let on : (row now : List ℕ) → length row ≡ 16 → Filled (closedCell row (start .args .j)) now (at .i) 16 → _ =
     λ row now sixteen. closing-goes-on row (start .args .j) sixteen (start .pre) now (at .i) (at .inv .0) (omega arith) in
-    (omega arith, omega arith, on (start .args .t1) (at .left) places (at .inv .2), on (start .args .t2) (at .rest) tags (at .inv .3))
+    (omega arith, omega arith, on (start .args .t1) (at .places-left) places (at .inv .2), on (start .args .t2) (at .tags-left) tags (at .inv .3))
 
-array-write-left-2 : tie.Need-array-write-left-2 Inv-loop μ-loop
-array-write-left-2 c = omega arith
+array-write-places-left-2 : tie.Need-array-write-places-left-2 Inv-loop μ-loop
+array-write-places-left-2 c = omega arith
 
-array-write-rest-2 : tie.Need-array-write-rest-2 Inv-loop μ-loop
-array-write-rest-2 c = omega arith
+array-write-tags-left-2 : tie.Need-array-write-tags-left-2 Inv-loop μ-loop
+array-write-tags-left-2 c = omega arith
 
 returns : tie.Need-returns Inv-loop μ-loop
 returns c =
@@ -83,8 +83,8 @@ returns c =
     let places : length (start .args .t1) ≡ 16 = omega (arith, start .good) in
     let tags : length (start .args .t2) ≡ 16 = omega (arith, start .good) in
     let e : at .i ≡ 15 = omega arith in (
-      closing-ends (start .args .t1) j places (start .pre) (at .left) (subst (λ (n : ℕ). Filled (closedCell (start .args .t1) j) (at .left) n 16) e (at .inv .2)),
-      closing-ends (start .args .t2) j tags (start .pre) (at .rest) (subst (λ (n : ℕ). Filled (closedCell (start .args .t2) j) (at .rest) n 16) e (at .inv .3)),
+      closing-ends (start .args .t1) j places (start .pre) (at .places-left) (subst (λ (n : ℕ). Filled (closedCell (start .args .t1) j) (at .places-left) n 16) e (at .inv .2)),
+      closing-ends (start .args .t2) j tags (start .pre) (at .tags-left) (subst (λ (n : ℕ). Filled (closedCell (start .args .t2) j) (at .tags-left) n 16) e (at .inv .3)),
     )
 
 pub closed-up-spec : {M : Type 1} → statement M
@@ -94,19 +94,19 @@ closed-up-spec =
     Inv-loop
     μ-loop
     loop-holds
-    add-left
-    mul-left
-    array-read-left
-    mul-left-2
-    array-write-left
-    add-rest
-    mul-rest
-    array-read-rest
-    mul-rest-2
-    array-write-rest
+    add-places-left
+    mul-places-left
+    array-read-places-left
+    mul-places-left-2
+    array-write-places-left
+    add-tags-left
+    mul-tags-left
+    array-read-tags-left
+    mul-tags-left-2
+    array-write-tags-left
     add-i
     loop-less
     loop-again
-    array-write-left-2
-    array-write-rest-2
+    array-write-places-left-2
+    array-write-tags-left-2
     returns)

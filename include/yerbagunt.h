@@ -158,7 +158,8 @@ struct yerbagunt_buffer {
     size_t length;
 };
 
-/* A reply: its number, the stream that it is about (a refused call's own), and its value (0 for a refusal). Four bytes of padding follow the tag. */
+/* A reply: its number, the stream that it is about (a refused call's own), its value (0 for a refusal), and the tag of the request sent or
+ * done. Four bytes of padding follow the tag. */
 struct yerbagunt_reply {
     uint64_t number, stream, value;
     uint32_t tag; /* with 21, 25 and 26 the tag of the request, as it was given on arrival; else 0 */
@@ -196,6 +197,8 @@ struct yerbagunt_state {
     uint64_t number;
     struct yerbagunt_stream stream;
 };
+
+YERBAGUNT_ASSERT(sizeof(struct yerbagunt_state) == 304, "state");
 
 struct yerbagunt_closing {
     uint64_t number;

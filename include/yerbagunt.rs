@@ -192,6 +192,8 @@ struct State {
     stream: Stream,
 }
 
+const _: () = assert!(size_of::<State>() == 304);
+
 #[repr(C)]
 struct Closing {
     number: u64,

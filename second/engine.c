@@ -234,7 +234,7 @@ static bool stream_zero(const struct session *s, uint32_t i)
         && queue_sound(m);
 }
 
-// "the stream at the disk, if any, exists and has a slot", "the place while nothing is at the disk" is 0, and its tag is
+// "the stream at the disk, if any, exists and has a slot", "the place while nothing is at the disk" is 0, and so is its tag
 static bool disk_sound(const struct session *s, uint64_t horizon)
 {
     if (s->disk_stream == 0)

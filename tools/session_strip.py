@@ -268,9 +268,9 @@ def job_title(job):
     return title + f"; requests done {job.requests}, slots expired {job.expired}"
 
 
-def with_tag(tag):
+def with_tag(number):
     """What is said of a request's tag behind its place: nothing of 0, which a request has whose host gives none."""
-    return f" tag {tag}" if tag else ""
+    return f" tag {number}" if number else ""
 
 
 def request_words(sent):

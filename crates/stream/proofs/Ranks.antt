@@ -5,7 +5,8 @@ use Prim.Native.Nat.{ℕ, _*_, _≤_, _<_}
 use native.Mathlib.Nat.{mul-le-mul-right, le-of-mul-le-mul-right}
 use native.Mathlib.Omega.{arith}
 use lib.Dec.{ltb, eqb}
-use borrow.Author.Tests.{ltb-true, ltb-false, eqb-true, le-ltb, eq-eqb}
+use borrow.Author.Tests.{ltb-false, eqb-true, le-ltb, eq-eqb}
+use Rattle.table.proofs.Tests.{less-once, less-on}
 use Rattle.time.specs.Exact.{Fraction, less, same}
 
 -- of two indices below n at most one goes before the other; and where a does not go before b, nor b before c, a does not go before c
@@ -17,10 +18,6 @@ pub record Ranks (before : ℕ → ℕ → Bool) (n : ℕ) : Type 0 where
 pub record Ties (before alike : ℕ → ℕ → Bool) (n : ℕ) : Type 0 where
   pub alike-if : {a b : ℕ} → a < n → b < n → before a b ≡ false → before b a ≡ false → alike a b ≡ true
   pub only-if : {a b : ℕ} → a < n → b < n → alike a b ≡ true → (before a b ≡ false) × (before b a ≡ false)
-
--- of two numbers at most one is less
-less-once : (x y : ℕ) → ltb x y ≡ true → ltb y x ≡ false
-less-once x y h = let l = ltb-true x y h in le-ltb y x (omega arith)
 
 -- they are equal if neither is less
 equal-if : (x y : ℕ) → ltb x y ≡ false → ltb y x ≡ false → eqb x y ≡ true
@@ -36,10 +33,7 @@ module _ (f : ℕ → ℕ) (n : ℕ) where
   number-ranks =
       record {
         one-way = λ {a} {b} la lb. less-once (f a) (f b);
-        onward = λ {a} {b} {c} la lb lc h k.
-            let x = ltb-false (f a) (f b) h in
-            let y = ltb-false (f b) (f c) k in
-            le-ltb (f a) (f c) (omega arith);
+        onward = λ {a} {b} {c} la lb lc. less-on (f a) (f b) (f c);
       }
 
   -- and equal numbers are alike

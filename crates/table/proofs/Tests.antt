@@ -6,7 +6,7 @@ use Prim.Native.Nat.{ℕ, zero, suc, _≤_, _<_}
 use native.Mathlib.Decide.{decLe}
 use native.Mathlib.Omega.{arith}
 use lib.Dec.{ltb}
-use borrow.Author.Tests.{ltb-false}
+use borrow.Author.Tests.{ltb-true, ltb-false, le-ltb}
 use Rattle.table.specs.Fold.{if}
 use Rattle.table.specs.Refusal.{given, _or-next_, outside}
 
@@ -24,6 +24,13 @@ both false b h = absurd (false≢true h)
 pub neither : (a b : Bool) → (a || b) ≡ false → (a ≡ false) × (b ≡ false)
 neither true b h = absurd (false≢true (sym h))
 neither false b h = (refl, h)
+
+-- of two numbers at most one is less; and where none of two is less than the one behind it, the first is not less than the last
+pub less-once : (x y : ℕ) → ltb x y ≡ true → ltb y x ≡ false
+less-once x y h = let l = ltb-true x y h in le-ltb y x (omega arith)
+
+pub less-on : (x y z : ℕ) → ltb x y ≡ false → ltb y z ≡ false → ltb x z ≡ false
+less-on x y z h k = let l = ltb-false x y h in let m = ltb-false y z k in le-ltb x z (omega arith)
 
 -- two tests are one where each holds if the other does
 pub same-test : (a b : Bool) → (a ≡ true → b ≡ true) → (b ≡ true → a ≡ true) → a ≡ b

@@ -1,24 +1,70 @@
 -- The session file of document 01: the page to hold beside its section "Session file". Reading and writing are said over it.
+use mathlib.Core.Bool.{Bool}
 use mathlib.Core.List.{List, [], _∷_, _++_}
-use Prim.Native.Nat.{ℕ, zero, suc, _+_}
+use Prim.Native.Nat.{ℕ, zero, suc, _+_, _*_}
+use lib.Dec.{eqb}
 use lib.ListN.{length}
+use Rattle.table.specs.Fold.{if}
 use Rattle.table.specs.Admission.{reservedAt, periodAt}
 use Rattle.table.specs.declared.Table.{Table}
+use Rattle.order.specs.Order.{orderNumber}
+use Rattle.order.specs.declared.Order.{Order}
 use Rattle.cells.specs.Cells.{cell}
+use Rattle.file.specs.declared.form.Form.{Form}
+use Rattle.file.specs.declared.form.Form.the-variants.{Two, Three}
 use Rattle.file.specs.declared.event.Event.{Event}
 use Rattle.file.specs.declared.event.Event.the-variants.{Arrival, Turn, OwnTurn, Done, Clock, Malformed}
+
+-- ---- the two forms
+
+-- "Two bytes: number of entries, always 2." But document 02, Req 08: "A third entry in the contents table".
+abbrev pub entriesOf : Form → ℕ
+entriesOf Two = 2
+entriesOf Three = 3
+
+-- "Two entries of 12 bytes"; document 02, Req 08: "the first body starts after the last entry": at 26 or at 38
+abbrev pub tableStart : Form → ℕ
+tableStart form = 2 + 12 * entriesOf form
+
+-- the furthest place of these
+abbrev pub table-start-max : ℕ
+table-start-max = tableStart Three
+
+-- Document 02, Req 08: "A third entry [..] holds four bytes". They stand after the trace; in a file of two entries nothing does.
+abbrev pub thirdLength : Form → ℕ
+thirdLength Two = 0
+thirdLength Three = 4
+
+-- "0 nearest, 1 sweep"
+unfoldable pub thirdBody : Form → Order → List ℕ
+thirdBody form order = cell (thirdLength form) (orderNumber order)
+
+-- the form whose third body has this length, else that of two entries
+unfoldable pub formOfThird : ℕ → Form
+formOfThird n = if (eqb n (thirdLength Three)) Three Two
+
+-- and whether there is one
+unfoldable pub isThirdLength : ℕ → Bool
+isThirdLength n = eqb n (thirdLength (formOfThird n))
+
+-- ---- the contents table
 
 -- "Two entries of 12 bytes: kind, offset, length, four bytes each."
 unfoldable pub entry : ℕ → ℕ → ℕ → List ℕ
 entry kind offset len = cell 4 kind ++ cell 4 offset ++ cell 4 len
 
--- "Entry one is kind 1 (table), at offset 26"
-abbrev pub table-start : ℕ
-table-start = 26
+-- Document 02, Req 08: "A third entry in the contents table, kind 3", the last: for a body at this offset
+abbrev pub thirdEntry : Form → ℕ → List ℕ
+thirdEntry Two offset = []
+thirdEntry Three offset = entry 3 offset (thirdLength Three)
 
--- "Two bytes: number of entries, always 2. [..] Entry one is kind 1 (table), at offset 26; entry two is kind 2 (trace), right after it": for bodies of these lengths
-unfoldable pub contents : ℕ → ℕ → List ℕ
-contents table trace = cell 2 2 ++ entry 1 table-start table ++ entry 2 (table-start + table) trace
+-- "Two bytes: number of entries [..] Entry one is kind 1 (table) [..]; entry two is kind 2 (trace), right after it": for bodies of these lengths
+unfoldable pub contents : Form → ℕ → ℕ → List ℕ
+contents form table trace =
+    let start = tableStart form in
+    cell 2 (entriesOf form) ++ entry 1 start table ++ entry 2 (start + table) trace ++ thirdEntry form (start + table + trace)
+
+-- ---- the bodies
 
 -- "then e and p of each stream, four bytes each": of the first n streams
 unfoldable pub streamCells : Table → ℕ → List ℕ
@@ -55,6 +101,8 @@ unfoldable pub traceOf : List Event → List ℕ
 traceOf [] = []
 traceOf (e ∷ es) = bytesOf e ++ traceOf es
 
--- "Contents table first, then the bodies; numbers little-endian": the table, the trace, and "the file ends with it"
-unfoldable pub fileOf : Table → List ℕ → List ℕ
-fileOf t trace = contents (length (tableBody t)) (length trace) ++ tableBody t ++ trace
+-- ---- the file
+
+-- "Contents table first, then the bodies; numbers little-endian": the table, the trace, and the third body, which "the file ends with"
+unfoldable pub fileOf : Form → Order → Table → List ℕ → List ℕ
+fileOf form order t trace = contents form (length (tableBody t)) (length trace) ++ tableBody t ++ trace ++ thirdBody form order

@@ -1,5 +1,6 @@
 -- What is proved of the session file.
 use mathlib.Core.Bool.{true}
+use mathlib.Core.Logic.{_⊎_}
 use mathlib.Core.Path.{_≡_}
 use mathlib.Core.List.{List, [], _∷_, _++_}
 use Prim.Native.Nat.{ℕ, _+_, _*_, _%_, _^_, _≤_, _<_}
@@ -8,13 +9,18 @@ use Rattle.table.specs.Fold.{listTo}
 use Rattle.table.specs.Ranges.{streams-max}
 use Rattle.table.specs.Admission.{reservedAt, periodAt}
 use Rattle.table.specs.declared.Table.{Table}
-use Rattle.cells.specs.Cells.{numberAt, Bytes}
-use Rattle.file.specs.File.{event-size, events-max, bytesOf, traceOf, table-start, fileOf}
-use Rattle.file.specs.Reading.{eventOf, eventFrom, eventsIn, eventAt, formed, isTrace, tableLength, part, tableIn, traceIn, column, isLaidOut, readOf}
-use Rattle.file.specs.Writing.{isWritable, writeOf, writtenOn, putRefusal, withEvent}
-use Rattle.file.specs.Listing.{listing-table, listing-events, listing-file}
-use Rattle.file.specs.declared.Reading.the-variants.{LaidOut}
+use Rattle.cells.specs.Cells.{cell, numberAt, Bytes}
+use Rattle.order.specs.Order.{isOrder}
+use Rattle.order.specs.declared.Order.{Order}
+use Rattle.order.specs.declared.Order.the-variants.{Nearest, Sweep}
+use Rattle.file.specs.File.{tableStart, thirdLength, isThirdLength, formOfThird, entry, tableBody, event-size, events-max, bytesOf, traceOf, fileOf}
+use Rattle.file.specs.Reading.{eventOf, eventFrom, eventsIn, eventAt, formed, isTrace, formIn, tableLength, part, orderIn, tableIn, traceIn, column, isLaidOut, readOf}
+use Rattle.file.specs.Writing.{isWritable, writeRefusal, writeOf, writtenOn, putRefusal, withEvent}
+use Rattle.file.specs.Listing.{listing-table, listing-events, listing-file, sweep-events, sweep-file}
+use Rattle.file.specs.declared.Reading.the-variants.{LaidOut, Refused as NotLaidOut}
 use Rattle.file.specs.declared.Writing.the-variants.{Written, Refused}
+use Rattle.file.specs.declared.form.Form.{Form}
+use Rattle.file.specs.declared.form.Form.the-variants.{Two, Three}
 use Rattle.file.specs.declared.event.Event.{Event}
 use Rattle.file.specs.declared.event.Event.the-variants.{Arrival, Turn, OwnTurn, Done, Clock, Malformed}
 
@@ -38,61 +44,119 @@ trimmed t =
       period = column (periodAt t) (t .count);
     }
 
--- "A written session file reads back to the same table and trace": whatever stood in the buffer, and whatever stands after the file
+-- "A written session file reads back to the same table and trace", and to the same form and order: whatever stood in the buffer, and whatever stands after the file
 abbrev pub WrittenReadsBack : Type 0
 WrittenReadsBack =
-    (t : Table) (trace out : List ℕ) (n : ℕ) → Words t → writeOf t trace out ≡ Written n
-    → let file = take n (writtenOn t trace out) in
-    let start = table-start + tableLength (t .count) in
-    (readOf file ≡ LaidOut (t .count) start n (eventsIn trace)) × (tableIn file ≡ trimmed t) × (part start n file ≡ trace)
+    (form : Form) (order : Order) (t : Table) (trace out : List ℕ) (n : ℕ) → Words t → writeOf form order t trace out ≡ Written n
+    → let file = take n (writtenOn form order t trace out) in
+    let start = tableStart form + tableLength (t .count) in
+    let end = start + length trace in
+    (readOf file ≡ LaidOut form order (t .count) start end (eventsIn trace)) × (tableIn file ≡ trimmed t) × (part start end file ≡ trace)
 
 -- A table that was read has numbers of 32 bits and nothing past its count. So it is read back as it is.
 abbrev pub TableReadIsTrimmed : Type 0
 TableReadIsTrimmed = (file : List ℕ) → Bytes file → Words (tableIn file) × (trimmed (tableIn file) ≡ tableIn file)
 
--- "an accepted file is written again byte for byte"
+-- "an accepted file is written again byte for byte"; document 02, Req 08: "a file is written back with as many entries as it had"
 abbrev pub AcceptedWritesBack : Type 0
 AcceptedWritesBack =
-    (file out : List ℕ) (count start end events : ℕ) → Bytes file → readOf file ≡ LaidOut count start end events → length file ≤ length out
-    → (writeOf (tableIn file) (part start end file) out ≡ Written (length file))
-    × (writtenOn (tableIn file) (part start end file) out ≡ file ++ drop (length file) out)
+    (file out : List ℕ) (form : Form) (order : Order) (count start end events : ℕ)
+    → Bytes file → readOf file ≡ LaidOut form order count start end events → length file ≤ length out
+    → (writeOf form order (tableIn file) (part start end file) out ≡ Written (length file))
+    × (writtenOn form order (tableIn file) (part start end file) out ≡ file ++ drop (length file) out)
 
 -- "A refused call returns its number and changes no byte of session or buffer."
 abbrev pub RefusedChangesNothing : Type 0
-RefusedChangesNothing = (t : Table) (trace out : List ℕ) (n : ℕ) → writeOf t trace out ≡ Refused n → writtenOn t trace out ≡ out
+RefusedChangesNothing =
+    (form : Form) (order : Order) (t : Table) (trace out : List ℕ) (n : ℕ)
+    → writeOf form order t trace out ≡ Refused n → writtenOn form order t trace out ≡ out
 
 -- the file that is written is within the buffer
 abbrev pub WrittenIsWithin : Type 0
-WrittenIsWithin = (t : Table) (trace out : List ℕ) (n : ℕ) → writeOf t trace out ≡ Written n → n ≤ length out
+WrittenIsWithin =
+    (form : Form) (order : Order) (t : Table) (trace out : List ℕ) (n : ℕ) → writeOf form order t trace out ≡ Written n → n ≤ length out
 
 -- "Writing leaves bytes after the file unchanged"
 abbrev pub RestIsUnchanged : Type 0
 RestIsUnchanged =
-    (t : Table) (trace out : List ℕ) (n : ℕ) → writeOf t trace out ≡ Written n → drop n (writtenOn t trace out) ≡ drop n out
+    (form : Form) (order : Order) (t : Table) (trace out : List ℕ) (n : ℕ)
+    → writeOf form order t trace out ≡ Written n → drop n (writtenOn form order t trace out) ≡ drop n out
 
--- "Anything else is 16": the files that are accepted are those of some table and trace that can be written, and no others.
+-- "Anything else is 16": the files that are accepted are those of some form, order, table and trace that can be written, and no others.
 abbrev pub AcceptedAreTheWritten : Type 0
 AcceptedAreTheWritten =
-    ((t : Table) (trace : List ℕ) → Words t → isWritable t trace ≡ true → isLaidOut (fileOf t trace) ≡ true)
+    ((form : Form) (order : Order) (t : Table) (trace : List ℕ)
+    → Words t → isWritable form order t trace ≡ true → isLaidOut (fileOf form order t trace) ≡ true)
     × ((file : List ℕ) → Bytes file → isLaidOut file ≡ true
-    → (isWritable (tableIn file) (traceIn file) ≡ true) × (file ≡ fileOf (tableIn file) (traceIn file)))
+    → (isWritable (formIn file) (orderIn file) (tableIn file) (traceIn file) ≡ true)
+    × (file ≡ fileOf (formIn file) (orderIn file) (tableIn file) (traceIn file)))
 
--- The trace of an accepted file is a part of it, and no event of it is malformed.
-pub record Within (file : List ℕ) (count start end events : ℕ) : Type 0 where
+-- The trace of an accepted file is a part of it, and no event of it is malformed. The third body comes after it and ends the file.
+pub record Within (file : List ℕ) (form : Form) (count start end events : ℕ) : Type 0 where
   pub count-high : count ≤ streams-max
   pub events-high : events ≤ events-max
-  pub in-middle : start ≡ table-start + tableLength count
+  pub in-middle : start ≡ tableStart form + tableLength count
   pub whole-events : end ≡ start + event-size * events
   pub in-file : end ≤ length file
+  pub third-last : end + thirdLength form ≡ length file
   pub all-formed : (i : ℕ) → i < events → formed (eventAt (part start end file) i) ≡ true
 
 abbrev pub AcceptedIsWithin : Type 0
 AcceptedIsWithin =
-    (file : List ℕ) (count start end events : ℕ) → readOf file ≡ LaidOut count start end events → Within file count start end events
+    (file : List ℕ) (form : Form) (order : Order) (count start end events : ℕ)
+    → readOf file ≡ LaidOut form order count start end events → Within file form count start end events
 
--- the longest file that is accepted has 64,106 bytes
+-- the longest file that is accepted has 64,122 bytes
 abbrev pub LongestFile : Type 0
-LongestFile = (file : List ℕ) (count start end events : ℕ) → readOf file ≡ LaidOut count start end events → length file ≤ 64_106
+LongestFile =
+    (file : List ℕ) (form : Form) (order : Order) (count start end events : ℕ)
+    → readOf file ≡ LaidOut form order count start end events → length file ≤ 64_122
+
+-- ---- the forms
+
+-- Forms and the lengths of their third bodies determine each other.
+abbrev pub ThirdsAreForms : Type 0
+ThirdsAreForms =
+    ((form : Form) → (isThirdLength (thirdLength form) ≡ true) × (formOfThird (thirdLength form) ≡ form))
+    × ((n : ℕ) → isThirdLength n ≡ true → thirdLength (formOfThird n) ≡ n)
+
+-- the file of before there was an order
+abbrev pub oldFile : Table → List ℕ → List ℕ
+oldFile t trace =
+    let size = length (tableBody t) in
+    cell 2 2 ++ entry 1 26 size ++ entry 2 (26 + size) (length trace) ++ tableBody t ++ trace
+
+-- Document 02, Req 08: "a file with two entries means nearest", and it is what it was.
+abbrev pub TwoMeansNearest : Type 0
+TwoMeansNearest =
+    ((file : List ℕ) (order : Order) (count start end events : ℕ) → readOf file ≡ LaidOut Two order count start end events → order ≡ Nearest)
+    × ((order : Order) (t : Table) (trace : List ℕ) → fileOf Two order t trace ≡ oldFile t trace)
+
+-- So a sweep cannot be written in two entries.
+abbrev pub SweepNeedsThree : Type 0
+SweepNeedsThree =
+    (t : Table) (trace out : List ℕ)
+    → (writeRefusal Two Sweep t trace (length out) ≡ 16) × (writeOf Two Sweep t trace out ≡ Refused 16) × (writtenOn Two Sweep t trace out ≡ out)
+
+-- what the contents table and the third body of a file of three entries say
+pub record ThreeEntries (file : List ℕ) : Type 0 where
+  pub entries-are : numberAt 2 file 0 ≡ 3
+  pub first-kind : numberAt 4 file 2 ≡ 1
+  pub second-kind : numberAt 4 file 14 ≡ 2
+  pub last-kind : numberAt 4 file 26 ≡ 3
+  pub last-length : numberAt 4 file 34 ≡ 4
+  pub at-the-end : numberAt 4 file 30 + 4 ≡ length file
+  pub an-order : isOrder (numberAt 4 file (numberAt 4 file 30)) ≡ true
+
+-- "Refusals: another value, or the entry in another place than last, is 16": any bytes that are accepted have two entries, or three as above
+abbrev pub AcceptedHasItsEntries : Type 0
+AcceptedHasItsEntries = (file : List ℕ) → isLaidOut file ≡ true → (numberAt 2 file 0 ≡ 2) ⊎ ThreeEntries file
+
+-- and any others are refused.
+abbrev pub OthersAreRefused : Type 0
+OthersAreRefused = (file : List ℕ) → (numberAt 2 file 0 ≡ 2 → ⊥) → (ThreeEntries file → ⊥) → readOf file ≡ NotLaidOut 16
+
+-- ---- events
 
 -- an event whose numbers have room in its cells
 abbrev pub Coded : Event → Type 0
@@ -163,14 +227,27 @@ OldTraceReads =
     (trace : List ℕ) → OldTrace trace
     → (isTrace trace ≡ true) × ((i : ℕ) → i < eventsIn trace → eventAt trace i ≡ readBefore trace (event-size * i))
 
--- So its file is accepted as before, and by `AcceptedWritesBack` written again byte for byte.
+-- So its file, which has two entries, is accepted as before and read as nearest, and by `AcceptedWritesBack` written again byte for byte.
 abbrev pub OldFileReads : Type 0
-OldFileReads = (t : Table) (trace : List ℕ) → Words t → t .count ≤ streams-max → OldTrace trace → isLaidOut (fileOf t trace) ≡ true
+OldFileReads =
+    (t : Table) (trace : List ℕ) → Words t → t .count ≤ streams-max → OldTrace trace
+    → let start = 26 + tableLength (t .count) in
+    readOf (oldFile t trace) ≡ LaidOut Two Nearest (t .count) start (start + length trace) (eventsIn trace)
+
+-- ---- worked cases
 
 -- Listing (P) is read as document 01 gives it, and it is the file of its table and its events.
 abbrev pub ListingReads : Type 0
 ListingReads =
-    (readOf listing-file ≡ LaidOut 2 58 234 11)
+    (readOf listing-file ≡ LaidOut Two Nearest 2 58 234 11)
     × (tableIn listing-file ≡ listing-table)
     × (listTo (eventAt (traceIn listing-file)) 11 ≡ listing-events)
-    × (fileOf listing-table (traceOf listing-events) ≡ listing-file)
+    × (fileOf Two Nearest listing-table (traceOf listing-events) ≡ listing-file)
+
+-- and a file of three entries, of its table, one arrival and the order sweep.
+abbrev pub SweepReads : Type 0
+SweepReads =
+    (readOf sweep-file ≡ LaidOut Three Sweep 2 70 86 1)
+    × (tableIn sweep-file ≡ listing-table)
+    × (listTo (eventAt (traceIn sweep-file)) 1 ≡ sweep-events)
+    × (fileOf Three Sweep listing-table (traceOf sweep-events) ≡ sweep-file)

@@ -1,4 +1,4 @@
--- Listing (P) of document 01: its table, its events, and the 234 bytes of its file.
+-- Listing (P) of document 01: its table, its events, and the 234 bytes of its file. And a file of three entries.
 use mathlib.Core.List.{List, [], _∷_}
 use Prim.Native.Nat.{ℕ}
 use Rattle.table.specs.declared.Table.{Table}
@@ -43,3 +43,21 @@ listing-file =
     5 ∷ 0 ∷ 0 ∷ 0 ∷ 0 ∷ 0 ∷ 0 ∷ 0 ∷ 16 ∷ 158 ∷ 1 ∷ 0 ∷ 0 ∷ 0 ∷ 0 ∷ 0 ∷
     4 ∷ 0 ∷ 0 ∷ 0 ∷ 0 ∷ 0 ∷ 0 ∷ 0 ∷ 168 ∷ 97 ∷ 0 ∷ 0 ∷ 0 ∷ 0 ∷ 0 ∷ 0 ∷
     5 ∷ 0 ∷ 0 ∷ 0 ∷ 0 ∷ 0 ∷ 0 ∷ 0 ∷ 0 ∷ 113 ∷ 2 ∷ 0 ∷ 0 ∷ 0 ∷ 0 ∷ 0 ∷ []
+
+-- one arrival, of a file of three entries
+abbrev pub sweep-events : List Event
+sweep-events = Arrival 1 100 0 ∷ []
+
+-- the number of entries, an entry to a line, the table body of listing (P) in four lines, the event, and the order: 1, a sweep
+abbrev pub sweep-file : List ℕ
+sweep-file =
+    3 ∷ 0 ∷
+    1 ∷ 0 ∷ 0 ∷ 0 ∷ 38 ∷ 0 ∷ 0 ∷ 0 ∷ 32 ∷ 0 ∷ 0 ∷ 0 ∷
+    2 ∷ 0 ∷ 0 ∷ 0 ∷ 70 ∷ 0 ∷ 0 ∷ 0 ∷ 16 ∷ 0 ∷ 0 ∷ 0 ∷
+    3 ∷ 0 ∷ 0 ∷ 0 ∷ 86 ∷ 0 ∷ 0 ∷ 0 ∷ 4 ∷ 0 ∷ 0 ∷ 0 ∷
+    168 ∷ 97 ∷ 0 ∷ 0 ∷ 64 ∷ 66 ∷ 15 ∷ 0 ∷
+    1 ∷ 0 ∷ 0 ∷ 0 ∷ 2 ∷ 0 ∷ 0 ∷ 0 ∷
+    168 ∷ 97 ∷ 0 ∷ 0 ∷ 144 ∷ 208 ∷ 3 ∷ 0 ∷
+    152 ∷ 171 ∷ 2 ∷ 0 ∷ 32 ∷ 161 ∷ 7 ∷ 0 ∷
+    1 ∷ 1 ∷ 0 ∷ 0 ∷ 0 ∷ 0 ∷ 0 ∷ 0 ∷ 100 ∷ 0 ∷ 0 ∷ 0 ∷ 0 ∷ 0 ∷ 0 ∷ 0 ∷
+    1 ∷ 0 ∷ 0 ∷ 0 ∷ []

@@ -8,7 +8,11 @@ use Rattle.table.specs.Fold.{if, allTo, listTo}
 use Rattle.table.specs.Ranges.{streams-max}
 use Rattle.table.specs.declared.Table.{Table}
 use Rattle.cells.specs.Cells.{numberAt}
-use Rattle.file.specs.File.{table-start, events-max, event-size}
+use Rattle.order.specs.Order.{isOrder, orderOf}
+use Rattle.order.specs.declared.Order.{Order}
+use Rattle.file.specs.File.{entriesOf, tableStart, thirdLength, events-max, event-size}
+use Rattle.file.specs.declared.form.Form.{Form}
+use Rattle.file.specs.declared.form.Form.the-variants.{Two, Three}
 use Rattle.file.specs.declared.Reading.{Reading}
 use Rattle.file.specs.declared.Reading.the-variants.{LaidOut, Refused}
 use Rattle.file.specs.declared.event.Event.{Event}
@@ -59,6 +63,14 @@ isTrace trace =
 
 -- ---- where the parts of a file are
 
+-- By its first two bytes a file is one of three entries, or else one of two, and then `isContents` judges whether they say so.
+unfoldable pub formIn : List ℕ → Form
+formIn file = if (eqb (numberAt 2 file 0) (entriesOf Three)) Three Two
+
+-- "the first body starts after the last entry"
+abbrev pub startIn : List ℕ → ℕ
+startIn file = tableStart (formIn file)
+
 -- the count in a table body that starts at an index
 abbrev pub countAt : List ℕ → ℕ → ℕ
 countAt file at = numberAt 4 file (at + 12)
@@ -69,14 +81,19 @@ tableLength count = 16 + 8 * count
 
 -- "kind 2 (trace), right after it"
 abbrev pub traceStart : List ℕ → ℕ
-traceStart file = table-start + tableLength (countAt file table-start)
+traceStart file = startIn file + tableLength (countAt file (startIn file))
 
--- "the file ends with it"
-abbrev pub after-trace : ℕ
-after-trace = 0
-
+-- the third body comes right after the trace, and "the file ends with it"
 abbrev pub traceEnd : List ℕ → ℕ
-traceEnd file = length file - after-trace
+traceEnd file = length file - thirdLength (formIn file)
+
+-- the number that the third body holds; where there is no byte of it, 0
+abbrev pub thirdIn : List ℕ → ℕ
+thirdIn file = numberAt (thirdLength (formIn file)) file (traceEnd file)
+
+-- "0 nearest, 1 sweep; a file with two entries means nearest"
+abbrev pub orderIn : List ℕ → Order
+orderIn file = orderOf (thirdIn file)
 
 -- the part of a list from one index up to another
 abbrev pub part : ℕ → ℕ → List ℕ → List ℕ
@@ -103,7 +120,7 @@ tableAt file at =
     }
 
 abbrev pub tableIn : List ℕ → Table
-tableIn file = tableAt file table-start
+tableIn file = tableAt file (startIn file)
 
 -- ---- reading
 
@@ -112,22 +129,31 @@ unfoldable pub isEntry : List ℕ → ℕ → ℕ → ℕ → ℕ → Bool
 isEntry file at kind offset len =
     eqb (numberAt 4 file at) kind && eqb (numberAt 4 file (at + 4)) offset && eqb (numberAt 4 file (at + 8)) len
 
--- the contents table is that of a file whose trace starts and ends there
-unfoldable pub isContents : List ℕ → ℕ → ℕ → Bool
-isContents file start end =
-    eqb (numberAt 2 file 0) 2
-    && isEntry file 2 1 table-start (start - table-start)
-    && isEntry file 14 2 start (end - start)
+-- the last entry, where there is a third, is that of a body at this offset: "the entry in another place than last, is 16"
+abbrev pub isThirdEntry : Form → List ℕ → ℕ → Bool
+isThirdEntry Two file offset = true
+isThirdEntry Three file offset = isEntry file 26 3 offset (thirdLength Three)
 
--- "count (0 to 8)"; the table body is not cut short; and "Reading does not judge the table"
+-- the contents table is that of a file of this form whose trace starts and ends there
+unfoldable pub isContents : Form → List ℕ → ℕ → ℕ → Bool
+isContents form file start end =
+    eqb (numberAt 2 file 0) (entriesOf form)
+    && isEntry file 2 1 (tableStart form) (start - tableStart form)
+    && isEntry file 14 2 start (end - start)
+    && isThirdEntry form file end
+
+-- "count (0 to 8)"; the table body is not cut short; of the order "another value [..] is 16"; and "Reading does not judge the table"
 unfoldable pub isLaidOut : List ℕ → Bool
 isLaidOut file =
-    leb (countAt file table-start) streams-max
-    && leb (traceStart file + after-trace) (length file)
-    && isContents file (traceStart file) (traceEnd file)
+    leb (countAt file (startIn file)) streams-max
+    && leb (traceStart file + thirdLength (formIn file)) (length file)
+    && isContents (formIn file) file (traceStart file) (traceEnd file)
+    && isOrder (thirdIn file)
     && isTrace (traceIn file)
 
 -- "Anything else is 16."
 unfoldable pub readOf : List ℕ → Reading
 readOf file =
-    if (isLaidOut file) (LaidOut (countAt file table-start) (traceStart file) (traceEnd file) (eventsIn (traceIn file))) (Refused 16)
+    if (isLaidOut file)
+    (LaidOut (formIn file) (orderIn file) (countAt file (startIn file)) (traceStart file) (traceEnd file) (eventsIn (traceIn file)))
+    (Refused 16)

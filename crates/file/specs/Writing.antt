@@ -9,32 +9,42 @@ use Rattle.table.specs.Fold.{if}
 use Rattle.table.specs.Refusal.{given, _or-next_}
 use Rattle.table.specs.Ranges.{streams-max}
 use Rattle.table.specs.declared.Table.{Table}
+use Rattle.order.specs.Order.{orderNumber}
+use Rattle.order.specs.declared.Order.{Order}
 use Rattle.file.specs.File.{fileOf, event-size, bytesOf}
 use Rattle.file.specs.Reading.{eventsIn, isTrace}
 use Rattle.file.specs.declared.Writing.{Writing}
 use Rattle.file.specs.declared.Writing.the-variants.{Written, Refused}
+use Rattle.file.specs.declared.form.Form.{Form}
+use Rattle.file.specs.declared.form.Form.the-variants.{Two, Three}
 use Rattle.file.specs.declared.event.Event.{Event}
 use Rattle.file.specs.declared.event.Event.the-variants.{Arrival, Turn, OwnTurn, Done, Clock, Malformed}
 
+-- Document 02, Req 08: "a file with two entries means nearest", so it has no place for another order
+abbrev pub hasPlace : Form → Order → Bool
+hasPlace Two order = eqb (orderNumber order) 0
+hasPlace Three order = true
+
 -- "it writes count up to 8 and up to 4,000 events of the above form"
-unfoldable pub isWritable : Table → List ℕ → Bool
-isWritable t trace = leb (t .count) streams-max && isTrace trace
+unfoldable pub isWritable : Form → Order → Table → List ℕ → Bool
+isWritable form order t trace = leb (t .count) streams-max && hasPlace form order && isTrace trace
 
 -- "Writing: 16, 17": 16 "file or event not as laid out", 17 "output buffer shorter than the file"
-unfoldable pub writeRefusal : Table → List ℕ → ℕ → ℕ
-writeRefusal t trace room =
-    given (not (isWritable t trace)) 16
-    or-next given (ltb room (length (fileOf t trace))) 17
+unfoldable pub writeRefusal : Form → Order → Table → List ℕ → ℕ → ℕ
+writeRefusal form order t trace room =
+    given (not (isWritable form order t trace)) 16
+    or-next given (ltb room (length (fileOf form order t trace))) 17
 
-unfoldable pub writeOf : Table → List ℕ → List ℕ → Writing
-writeOf t trace out =
-    let refusal = writeRefusal t trace (length out) in
-    if (eqb refusal 0) (Written (length (fileOf t trace))) (Refused refusal)
+unfoldable pub writeOf : Form → Order → Table → List ℕ → List ℕ → Writing
+writeOf form order t trace out =
+    let refusal = writeRefusal form order t trace (length out) in
+    if (eqb refusal 0) (Written (length (fileOf form order t trace))) (Refused refusal)
 
 -- "Writing leaves bytes after the file unchanged"; "A refused call returns its number and changes no byte of session or buffer."
-unfoldable pub writtenOn : Table → List ℕ → List ℕ → List ℕ
-writtenOn t trace out =
-    if (eqb (writeRefusal t trace (length out)) 0) (fileOf t trace ++ drop (length (fileOf t trace)) out) out
+unfoldable pub writtenOn : Form → Order → Table → List ℕ → List ℕ → List ℕ
+writtenOn form order t trace out =
+    let file = fileOf form order t trace in
+    if (eqb (writeRefusal form order t trace (length out)) 0) (file ++ drop (length file) out) out
 
 -- "Event: kind, stream, six zero bytes, eight bytes of value": a stream has one byte
 abbrev pub stream-byte-max : ℕ

@@ -10,7 +10,7 @@ ghost use lib.Seq.{sets};
 ghost use Rattle.table.specs.Fold.{if};
 ghost use Rattle.table.specs.Ranges.{streams-max};
 ghost use Rattle.cells.specs.Cells.{numberAt};
-ghost use Rattle.file.specs.File.{table-start, streamCells, tableBody};
+ghost use Rattle.file.specs.File.{table-start-max, streamCells, tableBody};
 ghost use Rattle.file.specs.Reading.{tableLength, column, tableAt};
 
 // Where in a table body the streams start, and where the period of the first is; and how many bytes e and p of a stream have.
@@ -30,7 +30,7 @@ pub(crate) fn table_length(count: usize) -> usize
 
 // The table whose body starts at an index.
 pub(crate) fn table_at(file: &[u8], at: usize) -> Table
-    requires { ⌜ at ≤ table-start ⌝ }
+    requires { ⌜ at ≤ table-start-max ⌝ }
     ensures { λ r. ⌜ r ≡ tableAt (now (file .entry)) at ⌝ }
 {
     let count = word_at(file, at + 12) as usize;
@@ -48,7 +48,7 @@ pub(crate) fn table_at(file: &[u8], at: usize) -> Table
 
 // A number of each stream, eight bytes apart, and 0 past the count.
 fn column_at(file: &[u8], from: usize, count: usize) -> [u32; Table::STREAMS_MAX]
-    requires { ⌜ from ≤ table-start + 20 ⌝ }
+    requires { ⌜ from ≤ table-start-max + 20 ⌝ }
     ensures { λ r. ⌜ r ≡ column (λ i. numberAt 4 (now (file .entry)) (from + 8 * i)) count ⌝ }
 {
     let mut numbers = [0u32; Table::STREAMS_MAX];
@@ -62,7 +62,7 @@ fn column_at(file: &[u8], from: usize, count: usize) -> [u32; Table::STREAMS_MAX
 
 // The number of the stream at i, or 0 past the count.
 fn used_at(file: &[u8], from: usize, count: usize, i: usize) -> u32
-    requires { ⌜ (from ≤ table-start + 20) × (i < streams-max) ⌝ }
+    requires { ⌜ (from ≤ table-start-max + 20) × (i < streams-max) ⌝ }
     ensures { λ r. ⌜ r ≡ if (ltb i count) (numberAt 4 (now (file .entry)) (from + 8 * i)) 0 ⌝ }
 {
     if i < count {
@@ -74,7 +74,7 @@ fn used_at(file: &[u8], from: usize, count: usize, i: usize) -> u32
 
 // Stores a table body from an index on.
 pub(crate) fn put_table(out: &mut [u8], at: usize, table: Table)
-    requires { ⌜ (at ≤ table-start) × (table .count ≤ streams-max) ⌝ }
+    requires { ⌜ (at ≤ table-start-max) × (table .count ≤ streams-max) ⌝ }
     ensures { λ _. ⌜ now (out .exit) ≡ sets (now (out .entry)) at (tableBody table) ⌝ }
 {
     put_word(out, at, table.worst);
@@ -86,7 +86,7 @@ pub(crate) fn put_table(out: &mut [u8], at: usize, table: Table)
 
 // Stores e and p of each stream from an index on.
 fn put_streams(out: &mut [u8], at: usize, table: Table)
-    requires { ⌜ (at ≤ table-start + 16) × (table .count ≤ streams-max) ⌝ }
+    requires { ⌜ (at ≤ table-start-max + 16) × (table .count ≤ streams-max) ⌝ }
     ensures { λ _. ⌜ now (out .exit) ≡ sets (now (out .entry)) at (streamCells table (table .count)) ⌝ }
 {
     let reserved = table.reserved;

@@ -1,30 +1,46 @@
 // The contents table.
+use crate::form::Form;
 use cells::number_at;
 use cells::put_number;
 ghost use mathlib.Core.Path.{_≡_};
-ghost use Prim.Native.Nat.{_≤_};
+ghost use Prim.Native.Nat.{_*_, _≤_};
 ghost use lib.Seq.{sets};
 ghost use Rattle.table.specs.Ranges.{streams-max};
-ghost use Rattle.file.specs.File.{entry, contents, table-start};
-ghost use Rattle.file.specs.Reading.{tableLength, isEntry, isContents};
+ghost use Rattle.file.specs.File.{events-max, event-size, entry, thirdEntry, contents, tableStart, table-start-max};
+ghost use Rattle.file.specs.Reading.{tableLength, isEntry, isThirdEntry, isContents};
 
-// Where the table body starts.
-pub(crate) const TABLE_START: usize = 26;
+// Where the entries are.
+const TABLE_ENTRY: usize = 2;
 
-// Whether the contents table is that of a file whose trace starts and ends there.
-pub(crate) fn is_contents(file: &[u8], start: usize, end: usize) -> bool
-    requires { ⌜ (table-start ≤ start) × (start ≤ end) ⌝ }
-    ensures { λ r. ⌜ r ≡ isContents (now (file .entry)) start end ⌝ }
+const TRACE_ENTRY: usize = 14;
+
+const THIRD_ENTRY: usize = 26;
+
+// Whether the contents table is that of a file of this form whose trace starts and ends there.
+pub(crate) fn is_contents(file: &[u8], form: Form, start: usize, end: usize) -> bool
+    requires { ⌜ (tableStart form ≤ start) × (start ≤ end) ⌝ }
+    ensures { λ r. ⌜ r ≡ isContents form (now (file .entry)) start end ⌝ }
 {
     let entries = number_at(file, 0, 2);
-    let table = is_entry(file, 2, 1, TABLE_START, start - TABLE_START);
-    let trace = is_entry(file, 14, 2, start, end - start);
-    (entries == 2) & table & trace
+    let at = form.table_start();
+    let table = is_entry(file, TABLE_ENTRY, 1, at, start - at);
+    let trace = is_entry(file, TRACE_ENTRY, 2, start, end - start);
+    (entries == form.entries()) & table & trace & is_third_entry(file, form, end)
+}
+
+// Whether the third entry, where there is one, is that of a body at this offset.
+fn is_third_entry(file: &[u8], form: Form, offset: usize) -> bool
+    ensures { λ r. ⌜ r ≡ isThirdEntry form (now (file .entry)) offset ⌝ }
+{
+    match form {
+        Form::Two => true,
+        Form::Three => is_entry(file, THIRD_ENTRY, 3, offset, form.third() as usize),
+    }
 }
 
 // Whether the entry at an index has this kind, offset and length.
 fn is_entry(file: &[u8], at: usize, kind: u64, offset: usize, len: usize) -> bool
-    requires { ⌜ at ≤ table-start ⌝ }
+    requires { ⌜ at ≤ table-start-max ⌝ }
     ensures { λ r. ⌜ r ≡ isEntry (now (file .entry)) at kind offset len ⌝ }
 {
     (number_at(file, at, 4) == kind)
@@ -33,18 +49,30 @@ fn is_entry(file: &[u8], at: usize, kind: u64, offset: usize, len: usize) -> boo
 }
 
 // Stores the contents table for bodies of these lengths.
-pub(crate) fn put_contents(out: &mut [u8], table: usize, trace: usize)
-    requires { ⌜ table ≤ tableLength streams-max ⌝ }
-    ensures { λ _. ⌜ now (out .exit) ≡ sets (now (out .entry)) 0 (contents table trace) ⌝ }
+pub(crate) fn put_contents(out: &mut [u8], form: Form, table: usize, trace: usize)
+    requires { ⌜ (table ≤ tableLength streams-max) × (trace ≤ event-size * events-max) ⌝ }
+    ensures { λ _. ⌜ now (out .exit) ≡ sets (now (out .entry)) 0 (contents form table trace) ⌝ }
 {
-    put_number(out, 0, 2, 2);
-    put_entry(out, 2, 1, TABLE_START, table);
-    put_entry(out, 14, 2, TABLE_START + table, trace);
+    let start = form.table_start();
+    put_number(out, 0, 2, form.entries());
+    put_entry(out, TABLE_ENTRY, 1, start, table);
+    put_entry(out, TRACE_ENTRY, 2, start + table, trace);
+    put_third_entry(out, form, start + table + trace);
+}
+
+// Stores the third entry, where there is one, of a body at this offset.
+fn put_third_entry(out: &mut [u8], form: Form, offset: usize)
+    ensures { λ _. ⌜ now (out .exit) ≡ sets (now (out .entry)) 26 (thirdEntry form offset) ⌝ }
+{
+    match form {
+        Form::Two => {}
+        Form::Three => put_entry(out, THIRD_ENTRY, 3, offset, form.third() as usize),
+    }
 }
 
 // Stores an entry at an index.
 fn put_entry(out: &mut [u8], at: usize, kind: u64, offset: usize, len: usize)
-    requires { ⌜ at ≤ table-start ⌝ }
+    requires { ⌜ at ≤ table-start-max ⌝ }
     ensures { λ _. ⌜ now (out .exit) ≡ sets (now (out .entry)) at (entry kind offset len) ⌝ }
 {
     put_number(out, at, 4, kind);

@@ -13,7 +13,7 @@ use Rattle.table.proofs.Determined.{Determines, outcomes-agree, both-say, in-a-
 use Rattle.file.proofs.write as write
 
 pub write-determined : {M : Type 1} (𝓤 : URA M) (H : Heap 𝓤) (A : Atoms 𝓤) (mem : Memory → SProp 𝓤) (run : Routine → Fun 𝓤)
-    → Determines 𝓤 write.ended (write.clauses 𝓤 H A mem run) (λ κs r r′ e e′. (r ≡ r′) × (now (e .1 .1 .0) ≡ now (e′ .1 .1 .0)))
+    → Determines 𝓤 write.ended (write.clauses 𝓤 H A mem run) (λ κs r r′ e e′. (r ≡ r′) × (now (e .1 .1 .1 .1 .0) ≡ now (e′ .1 .1 .1 .1 .0)))
 write-determined 𝓤 H A mem run κs a g r r′ e e′ =
     via 𝓤 _ (conj-mono 𝓤 (in-a-row 𝓤 _ _) (in-a-row 𝓤 _ _))
     (both-say 𝓤 _ _ (λ one other. (outcomes-agree (one .0) (other .0), outcomes-agree (one .1) (other .1))))

@@ -6,13 +6,23 @@ use native.Mathlib.Omega.{arith}
 use lib.ListN.{length, length-append}
 use Rattle.table.specs.Admission.{reservedAt, periodAt}
 use Rattle.table.specs.declared.Table.{Table}
+use Rattle.order.specs.Order.{orderNumber}
+use Rattle.order.specs.declared.Order.{Order}
 use Rattle.cells.specs.Cells.{cell}
-use Rattle.file.specs.File.{entry, contents, table-start, streamCells, tableBody, fileOf}
+use Rattle.cells.proofs.Numbers.{length-cell}
+use Rattle.file.specs.File.{entry, contents, tableStart, thirdLength, thirdBody, streamCells, tableBody, fileOf}
 use Rattle.file.specs.Reading.{tableLength}
+use Rattle.file.specs.declared.form.Form.{Form}
+use Rattle.file.specs.declared.form.Form.the-variants.{Two, Three}
 
-pub length-contents : (table trace : ℕ) → length (contents table trace) ≡ table-start
+pub length-contents : (form : Form) (table trace : ℕ) → length (contents form table trace) ≡ tableStart form
 unfolding contents entry cell
-length-contents table trace = refl
+length-contents Two table trace = refl
+length-contents Three table trace = refl
+
+pub length-third : (form : Form) (order : Order) → length (thirdBody form order) ≡ thirdLength form
+unfolding thirdBody
+length-third form order = length-cell (thirdLength form) (orderNumber order)
 
 pub length-streams : (t : Table) (n : ℕ) → length (streamCells t n) ≡ 8 * n
 unfolding streamCells cell
@@ -31,7 +41,7 @@ length-table t =
     length-append (cell 4 (t .worst) ++ cell 4 (t .span) ++ cell 4 (t .padding) ++ cell 4 (t .count)) (streamCells t (t .count))
     ∙ omega (arith, length-four (t .worst) (t .span) (t .padding) (t .count), length-streams t (t .count))
 
-pub length-file : (t : Table) (trace : List ℕ) → length (fileOf t trace) ≡ table-start + tableLength (t .count) + length trace
+pub length-file : (form : Form) (order : Order) (t : Table) (trace : List ℕ)
+    → length (fileOf form order t trace) ≡ tableStart form + tableLength (t .count) + length trace + thirdLength form
 unfolding fileOf
-length-file t trace =
-    simp (length-append, length-contents, length-table)
+length-file form order t trace = simp (length-append, length-contents, length-table, length-third)

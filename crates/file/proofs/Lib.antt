@@ -1,4 +1,5 @@
 pub mod Bounds
+pub mod Forms
 pub mod Columns
 pub mod Lengths
 pub mod Stores

@@ -1,27 +1,33 @@
--- The file of a table and a trace is accepted, and gives them back: each number is read from its own cell.
+-- The file of a form, an order, a table and a trace is accepted, and gives them back: each number is read from its own cell.
 use mathlib.Core.Bool.{true}
-use mathlib.Core.Path.{_≡_, refl, ap, _∙_}
-use mathlib.Core.List.{List, [], _++_, append-assoc}
+use mathlib.Core.Path.{_≡_, refl, sym, ap, _∙_}
+use mathlib.Core.List.{List, [], _++_, append-assoc, append-nil}
 use Prim.Native.Nat.{ℕ, zero, suc, _+_, _-_, _*_, _^_, _≤_, _<_}
 use native.Mathlib.Omega.{arith}
 use native.Mathlib.Nat.{not-suc-le-zero, add-zero}
 use lib.ListN.{length, drop, length-append}
-use lib.Seq.{drop-at, take-all}
+use lib.Seq.{drop-at, take-at}
 use Rattle.table.specs.Admission.{reservedAt, periodAt}
 use Rattle.table.specs.declared.Table.{Table}
 use Rattle.table.proofs.Folds.{at-or-below}
+use Rattle.order.specs.Order.{orderNumber, isOrder, orderOf}
+use Rattle.order.specs.declared.Order.{Order}
+use Rattle.order.proofs.Orders.{numbers-are-orders}
 use Rattle.cells.specs.Cells.{cell, numberAt}
-use Rattle.cells.proofs.Numbers.{length-cell, number-cell, number-past}
-use Rattle.file.specs.File.{entry, contents, table-start, streamCells, tableBody, fileOf}
-use Rattle.file.specs.Reading.{isTrace, tableLength, countAt, traceStart, traceEnd, traceIn, tableAt, tableIn, isLaidOut}
+use Rattle.cells.proofs.Numbers.{length-cell, number-cell, number-past, cell-reads-back}
+use Rattle.file.specs.File.{entriesOf, tableStart, thirdLength, thirdBody, entry, contents, streamCells, tableBody, fileOf}
+use Rattle.file.specs.Reading.{formIn, startIn, tableLength, countAt, traceStart, traceEnd, thirdIn, orderIn, traceIn, tableAt, tableIn, isThirdEntry, isContents, isLaidOut}
 use Rattle.file.specs.Writing.{isWritable}
 use Rattle.file.specs.Laws.{Words, trimmed}
+use Rattle.file.specs.declared.form.Form.{Form}
+use Rattle.file.specs.declared.form.Form.the-variants.{Two, Three}
 use Rattle.file.proofs.Columns.{column-agree}
+use Rattle.file.proofs.Forms.{entries-few, form-is, order-fits}
 use Rattle.file.proofs.Lengths.{length-contents, length-streams, length-four, length-table, length-file}
 use Rattle.file.proofs.Stores.{file-parts}
 use Rattle.file.proofs.Trace.{trace-of}
-use Rattle.file.proofs.Accepted.{Entry, Contents, is-contents, trace-decides}
-use Rattle.file.proofs.Writes.{writable-parts}
+use Rattle.file.proofs.Accepted.{Entry, is-entry, Contents, is-contents, trace-decides}
+use Rattle.file.proofs.Writes.{Writable, writable-parts}
 
 -- a number past a run of known length
 number-after : (w n at : ℕ) (a b : List ℕ) → length a ≡ n → numberAt w (a ++ b) (n + at) ≡ numberAt w b at
@@ -110,74 +116,130 @@ table-is t file at q =
     )
 
 -- what stands in a contents table
-entries-there : (table trace : ℕ) (after : List ℕ) → table ≤ tableLength 8 → trace ≤ 64_000
-    → let file = contents table trace ++ after in
-    (numberAt 2 file 0 ≡ 2) × Entry file 2 1 table-start table × Entry file 14 2 (table-start + table) trace
-unfolding contents entry cell numberAt
-entries-there table trace after h k = (
-  refl,
-  record { kind-is = refl; offset-is = refl; length-is = number-cell 4 table [] (omega arith) },
-  record {
-    kind-is = refl;
-    offset-is = number-cell 4 (table-start + table) [] (omega arith);
-    length-is = number-cell 4 trace [] (omega arith);
-  },
-)
+module _ (table trace : ℕ) (after : List ℕ) (h : table ≤ tableLength 8) (k : trace ≤ 64_000) where
+  third-there : (form : Form) → isThirdEntry form (contents form table trace ++ after) (tableStart form + table + trace) ≡ true
+  unfolding contents entry cell numberAt
+  third-there Two = refl
+  third-there Three =
+      is-entry _ _ _ _ _ (record { kind-is = refl; offset-is = number-cell 4 (tableStart Three + table + trace) [] (omega arith); length-is = refl })
 
-module _ (t : Table) (trace : List ℕ) (q : Words t) (h : isWritable t trace ≡ true) where
-  count-high : t .count ≤ 8
-  count-high = writable-parts t trace h .0
+  entries-there : (form : Form)
+      → let file = contents form table trace ++ after in
+      let start = tableStart form in
+      (numberAt 2 file 0 ≡ entriesOf form) × Entry file 2 1 start table × Entry file 14 2 (start + table) trace
+  unfolding contents entry cell numberAt
+  entries-there form =
+      let few = entries-few form in (
+        number-cell 2 (entriesOf form) [] (omega (arith, few)),
+        record {
+          kind-is = refl;
+          offset-is = number-cell 4 (tableStart form) [] (omega (arith, few));
+          length-is = number-cell 4 table [] (omega arith);
+        },
+        record {
+          kind-is = refl;
+          offset-is = number-cell 4 (tableStart form + table) [] (omega (arith, few));
+          length-is = number-cell 4 trace [] (omega arith);
+        },
+      )
 
-  trace-right : isTrace trace ≡ true
-  trace-right = writable-parts t trace h .1
+module _ (form : Form) (order : Order) (t : Table) (trace : List ℕ) (q : Words t) (h : isWritable form order t trace ≡ true) where
+  right : Writable form order t trace
+  right = writable-parts form order t trace h
 
-  parts : fileOf t trace ≡ contents (length (tableBody t)) (length trace) ++ (tableBody t ++ trace)
-  parts = file-parts t trace ∙ append-assoc (contents (length (tableBody t)) (length trace)) (tableBody t) trace
+  abbrev file : List ℕ
+  file = fileOf form order t trace
 
-  there : TableThere t (fileOf t trace) table-start
-  there = rw parts (table-there t q count-high (contents (length (tableBody t)) (length trace)) trace table-start (length-contents (length (tableBody t)) (length trace)))
+  abbrev front : List ℕ
+  front = contents form (length (tableBody t)) (length trace)
+
+  abbrev start : ℕ
+  start = tableStart form + tableLength (t .count)
+
+  abbrev end : ℕ
+  end = start + length trace
+
+  parts : file ≡ front ++ (tableBody t ++ (trace ++ thirdBody form order))
+  parts =
+      file-parts form order t trace
+      ∙ append-assoc (front ++ tableBody t) trace (thirdBody form order)
+      ∙ append-assoc front (tableBody t) (trace ++ thirdBody form order)
+
+  table-short : length (tableBody t) ≤ tableLength 8
+  table-short = omega (arith, length-table t, right .count-high)
+
+  trace-short : length trace ≤ 64_000
+  trace-short = let w = trace-of trace (right .trace-right) in omega (arith, w .whole, w .events-high)
+
+  -- the form that was written
+  pub form-back : formIn file ≡ form
+  form-back = form-is file form (rw parts (entries-there (length (tableBody t)) (length trace) (tableBody t ++ (trace ++ thirdBody form order)) table-short trace-short form .0))
+
+  there : TableThere t file (tableStart form)
+  there =
+      rw parts
+      (table-there t q (right .count-high) front (trace ++ thirdBody form order) (tableStart form) (length-contents form (length (tableBody t)) (length trace)))
 
   -- the table that was written
-  pub table-back : tableIn (fileOf t trace) ≡ trimmed t
-  table-back = table-is t (fileOf t trace) table-start there
+  pub table-back : tableIn file ≡ trimmed t
+  table-back = rw form-back (table-is t file (tableStart form) there)
 
-  pub count-back : countAt (fileOf t trace) table-start ≡ t .count
-  count-back = there .count-there
+  pub count-back : countAt file (startIn file) ≡ t .count
+  count-back = rw form-back (there .count-there)
 
-  pub start-back : traceStart (fileOf t trace) ≡ table-start + tableLength (t .count)
-  start-back = ap (λ (n : ℕ). table-start + tableLength n) count-back
+  pub start-back : traceStart file ≡ start
+  start-back = ap (λ f. tableStart f + tableLength (countAt file (tableStart f))) form-back ∙ ap (λ (n : ℕ). tableStart form + tableLength n) (there .count-there)
 
-  pub end-back : traceEnd (fileOf t trace) ≡ table-start + tableLength (t .count) + length trace
-  end-back = omega (arith, length-file t trace)
+  pub end-back : traceEnd file ≡ end
+  end-back = rw form-back (omega (arith, length-file form order t trace))
 
-  rest : drop (table-start + tableLength (t .count)) (fileOf t trace) ≡ trace
+  length-front : length (front ++ tableBody t) ≡ start
+  length-front = length-append front (tableBody t) ∙ omega (arith, length-contents form (length (tableBody t)) (length trace), length-table t)
+
+  rest : drop start file ≡ trace ++ thirdBody form order
   rest =
-      rw (file-parts t trace)
-      (drop-at (contents (length (tableBody t)) (length trace) ++ tableBody t) trace (table-start + tableLength (t .count))
-      (length-append (contents (length (tableBody t)) (length trace)) (tableBody t) ∙ omega (arith, length-contents (length (tableBody t)) (length trace), length-table t)))
+      rw (file-parts form order t trace, append-assoc (front ++ tableBody t) trace (thirdBody form order))
+      (drop-at (front ++ tableBody t) (trace ++ thirdBody form order) start length-front)
 
   -- the trace that was written
-  pub trace-back : traceIn (fileOf t trace) ≡ trace
-  trace-back =
-      let start = table-start + tableLength (t .count) in
-      rw (start-back, end-back, rest) (take-all (start + length trace - start) trace (omega arith))
+  pub trace-back : traceIn file ≡ trace
+  trace-back = rw (start-back, end-back, rest) (take-at trace (thirdBody form order) (end - start) (omega arith))
 
-  contents-back : Contents (fileOf t trace) (table-start + tableLength (t .count)) (table-start + tableLength (t .count) + length trace)
+  -- and the order
+  number-there : numberAt (thirdLength form) file end ≡ orderNumber order
+  unfolding thirdBody
+  number-there =
+      let third = cell (thirdLength form) (orderNumber order) in
+      let size : length (front ++ tableBody t ++ trace) ≡ end = length-append (front ++ tableBody t) trace ∙ omega (arith, length-front) in
+      rw (file-parts form order t trace, ← size, ← append-nil third)
+      (cell-reads-back (thirdLength form) (orderNumber order) (front ++ tableBody t ++ trace) [] (order-fits form order (right .placed)))
+
+  number-back : thirdIn file ≡ orderNumber order
+  number-back = rw (end-back, form-back) number-there
+
+  pub order-back : orderIn file ≡ order
+  order-back = ap orderOf number-back ∙ numbers-are-orders .0 order .1
+
+  contents-back : Contents form file start end
   contents-back =
-      let w = trace-of trace trace-right in
-      let e = entries-there (length (tableBody t)) (length trace) (tableBody t ++ trace) (omega (arith, length-table t, count-high)) (omega (arith, w .whole, w .events-high)) in
+      let after = tableBody t ++ (trace ++ thirdBody form order) in
+      let e = entries-there (length (tableBody t)) (length trace) after table-short trace-short form in
+      let third = third-there (length (tableBody t)) (length trace) after table-short trace-short form in
       let n = length-table t in
-      let a : table-start + tableLength (t .count) - table-start ≡ length (tableBody t) = omega arith in
-      let b : table-start + tableLength (t .count) + length trace - (table-start + tableLength (t .count)) ≡ length trace = omega arith in
+      let a : start - tableStart form ≡ length (tableBody t) = omega arith in
+      let b : end - start ≡ length trace = omega arith in
       rw parts
-      (record { entries = e .0; table-entry = rw a (e .1); trace-entry = rw (b, ← n) (e .2) })
+      (record { entries = e .0; table-entry = rw a (e .1); trace-entry = rw (b, ← n) (e .2); third-entry = rw (← n) third })
 
   -- it is accepted
-  pub laid-back : isLaidOut (fileOf t trace) ≡ true
+  pub laid-back : isLaidOut file ≡ true
   laid-back =
+      let contents-are : isContents (formIn file) file (traceStart file) (traceEnd file) ≡ true
+      = rw (start-back, end-back, form-back) (is-contents form file start end contents-back) in
+      let order-is : isOrder (thirdIn file) ≡ true = ap isOrder number-back ∙ numbers-are-orders .0 order .0 in
       trace-decides
-      (fileOf t trace)
-      (rw count-back count-high)
-      (omega (arith, start-back, length-file t trace))
-      (rw (start-back, end-back) (is-contents (fileOf t trace) _ _ contents-back))
-      ∙ rw trace-back trace-right
+      file
+      (rw count-back (right .count-high))
+      (omega (arith, start-back, ap thirdLength form-back, length-file form order t trace))
+      (rw (contents-are, order-is))
+      ∙ rw trace-back (right .trace-right)

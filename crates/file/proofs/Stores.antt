@@ -11,12 +11,14 @@ use Rattle.table.specs.Fold.{if}
 use Rattle.table.specs.Refusal.{given, _or-next_}
 use Rattle.table.specs.Admission.{reservedAt, periodAt}
 use Rattle.table.specs.declared.Table.{Table}
+use Rattle.order.specs.declared.Order.{Order}
 use Rattle.cells.specs.Cells.{cell}
 use Rattle.cells.proofs.Numbers.{length-cell}
 use Rattle.cells.proofs.Runs.{sets-next, sets-start, Wrote, wrote-more}
-use Rattle.file.specs.File.{entry, contents, table-start, streamCells, tableBody, event-size, eventCells, bytesOf, fileOf}
+use Rattle.file.specs.File.{entriesOf, tableStart, thirdBody, entry, thirdEntry, contents, streamCells, tableBody, event-size, eventCells, bytesOf, fileOf}
 use Rattle.file.specs.Reading.{eventsIn}
 use Rattle.file.specs.Writing.{isStorable, putRefusal, withEvent}
+use Rattle.file.specs.declared.form.Form.{Form}
 use Rattle.file.specs.declared.event.Event.{Event}
 use Rattle.file.proofs.Lengths.{length-contents, length-streams, length-four}
 
@@ -32,10 +34,15 @@ pub entry-stored : (out : List ℕ) (at kind offset len : ℕ)
 unfolding entry
 entry-stored = three
 
-pub contents-stored : (out : List ℕ) (table trace : ℕ)
-    → sets (sets (sets out 0 (cell 2 2)) 2 (entry 1 table-start table)) 14 (entry 2 (table-start + table) trace) ≡ sets out 0 (contents table trace)
+pub contents-stored : (out : List ℕ) (form : Form) (table trace : ℕ)
+    → let start = tableStart form in
+    sets
+    (sets (sets (sets out 0 (cell 2 (entriesOf form))) 2 (entry 1 start table)) 14 (entry 2 (start + table) trace))
+    26
+    (thirdEntry form (start + table + trace))
+    ≡ sets out 0 (contents form table trace)
 unfolding contents entry cell
-contents-stored out table trace = refl
+contents-stored out form table trace = refl
 
 pub table-stored : (out : List ℕ) (at : ℕ) (t : Table)
     → sets
@@ -97,24 +104,40 @@ pub stored-there : (trace : List ℕ) (i : ℕ) (e : Event) → isStorable e ≡
 unfolding withEvent putRefusal given _or-next_ if
 stored-there trace i e h there = rw (h, lt-leb (eventsIn trace) i there) (refl, refl)
 
-pub file-parts : (t : Table) (trace : List ℕ) → fileOf t trace ≡ contents (length (tableBody t)) (length trace) ++ tableBody t ++ trace
+pub file-parts : (form : Form) (order : Order) (t : Table) (trace : List ℕ)
+    → fileOf form order t trace ≡ contents form (length (tableBody t)) (length trace) ++ tableBody t ++ trace ++ thirdBody form order
 unfolding fileOf
-file-parts t trace = refl
+file-parts form order t trace = refl
 
--- the contents table, the table body and the trace, each where the one before it ends, are the file
-pub file-stored : (t : Table) (trace out : List ℕ) (table : ℕ) → table ≡ length (tableBody t) → length (fileOf t trace) ≤ length out
-    → sets (sets (sets out 0 (contents table (length trace))) table-start (tableBody t)) (table-start + table) trace
-    ≡ fileOf t trace ++ drop (length (fileOf t trace)) out
-file-stored t trace out table e h = whole .holds ∙ sets-start (fileOf t trace) out h
-  where
-    first : Wrote out (contents table (length trace)) table-start (sets out 0 (contents table (length trace)))
-    first = record { next = sym (length-contents table (length trace)); holds = refl }
+-- the contents table, the table body, the trace and the third body, each where the one before it ends, are the file
+module _ (form : Form) (order : Order) (t : Table) (trace out : List ℕ) (table : ℕ) (e : table ≡ length (tableBody t)) where
+  -- the buffer after each of the four
+  abbrev pub stored-contents : List ℕ
+  stored-contents = sets out 0 (contents form table (length trace))
 
-    second : Wrote out (contents table (length trace) ++ tableBody t) (table-start + table) (sets (sets out 0 (contents table (length trace))) table-start (tableBody t))
-    second = wrote-more (tableBody t) first (ap (λ (n : ℕ). table-start + n) e) refl
+  abbrev pub stored-table : List ℕ
+  stored-table = sets stored-contents (tableStart form) (tableBody t)
 
-    parts : contents table (length trace) ++ tableBody t ++ trace ≡ fileOf t trace
-    parts = rw e (sym (file-parts t trace))
+  abbrev pub stored-trace : List ℕ
+  stored-trace = sets stored-table (tableStart form + table) trace
 
-    whole : Wrote out (fileOf t trace) (table-start + table + length trace) (sets (sets (sets out 0 (contents table (length trace))) table-start (tableBody t)) (table-start + table) trace)
-    whole = rw (← parts) (wrote-more trace second refl refl)
+  abbrev pub stored-third : List ℕ
+  stored-third = sets stored-trace (tableStart form + table + length trace) (thirdBody form order)
+
+  first : Wrote out (contents form table (length trace)) (tableStart form) stored-contents
+  first = record { next = sym (length-contents form table (length trace)); holds = refl }
+
+  second : Wrote out (contents form table (length trace) ++ tableBody t) (tableStart form + table) stored-table
+  second = wrote-more (tableBody t) first (ap (λ (n : ℕ). tableStart form + n) e) refl
+
+  third : Wrote out (contents form table (length trace) ++ tableBody t ++ trace) (tableStart form + table + length trace) stored-trace
+  third = wrote-more trace second refl refl
+
+  parts : contents form table (length trace) ++ tableBody t ++ trace ++ thirdBody form order ≡ fileOf form order t trace
+  parts = rw e (sym (file-parts form order t trace))
+
+  pub file-stored : length (fileOf form order t trace) ≤ length out
+      → stored-third ≡ fileOf form order t trace ++ drop (length (fileOf form order t trace)) out
+  file-stored h =
+      let all = wrote-more (thirdBody form order) third refl refl in
+      all .holds ∙ ap (sets out 0) parts ∙ sets-start (fileOf form order t trace) out h

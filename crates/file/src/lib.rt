@@ -100,10 +100,11 @@ pub fn write(table: Table, form: Form, order: Order, trace: &[u8], out: &mut [u8
         return Writing::Refused(refusal);
     }
     let at = form.table_start();
-    let start = at + table_length(table.count);
-    let end = start + trace.len();
+    let body = table_length(table.count);
     let third = form.third() as usize;
-    put_contents(out, form, start - at, trace.len());
+    let start = at + body;
+    let end = start + trace.len();
+    put_contents(out, form, body, trace.len());
     put_table(out, at, table);
     put_bytes(out, start, trace);
     put_number(out, end, third, order.number());
@@ -117,10 +118,7 @@ fn write_refusal(table: Table, form: Form, order: Order, trace: &[u8], room: usi
     if Table::STREAMS_MAX < table.count {
         return 16;
     }
-    if !form.has_place(order) {
-        return 16;
-    }
-    if is_trace(trace) {
+    if form.has_place(order) & is_trace(trace) {
         let size = file_length(form, table.count, trace.len());
         return if room < size { 17 } else { 0 };
     }

@@ -1,13 +1,15 @@
 -- `write` stores nothing before it has judged everything; what it then stores is the file, part by part (`file-stored`).
 use mathlib.Core.Path.{_≡_, sym, _∙_}
+use Prim.Native.Nat.{ℕ, _+_, _≤_}
 use native.Mathlib.Omega.{arith}
 use borrow.Author.Needs.{needs}
 use lib.ListN.{length}
-use Rattle.file.specs.File.{tableBody, fileOf}
+use Rattle.file.specs.File.{thirdBody, tableBody, fileOf}
+use Rattle.file.proofs.Forms.{start-low, third-low}
 use Rattle.file.proofs.Lengths.{length-table, length-file}
 use Rattle.file.proofs.Stores.{file-stored}
 use Rattle.file.proofs.Trace.{trace-of}
-use Rattle.file.proofs.Writes.{Writable, writable-of, write-refused, write-done}
+use Rattle.file.proofs.Writes.{Writable, writable-parts, writable-of, write-refused, write-done}
 use Rattle.file.proofs.write.Statement.{statement}
 use Rattle.file.proofs.write.Tie as tie
 
@@ -18,6 +20,8 @@ returns : tie.Need-returns
 returns c =
     let a = c .before .before .before .before .args in
     write-refused
+    (a .form)
+    (a .order)
     (a .table)
     (a .trace .now)
     (a .out .now)
@@ -26,51 +30,100 @@ returns c =
     (c .if1 .taken)
 
 -- what was not refused can be written
-ready : (c : tie.Else1) → let a = c .before .before .before .before .args in Writable (a .table) (a .trace .now) (length (a .out .now))
+ready : (c : tie.Else1) → let a = c .before .before .before .before .args in Writable (a .form) (a .order) (a .table) (a .trace .now)
 ready c =
     let a = c .before .before .before .before .args in
-    writable-of (a .table) (a .trace .now) (length (a .out .now)) (sym (c .before .write-refusal .ensures) ∙ c .if1 .left)
+    writable-parts (a .form) (a .order) (a .table) (a .trace .now)
+    (writable-of (a .form) (a .order) (a .table) (a .trace .now) (length (a .out .now)) (sym (c .before .write-refusal .ensures) ∙ c .if1 .left) .0)
 
-file-length-requires : tie.Need-file-length-requires
-file-length-requires c κs =
-    let right = trace-of _ (ready c .trace-right) in
-    (ready c .count-high, omega (arith, right .whole, right .events-high))
+-- how long the parts are
+record Short (start body trace third : ℕ) : Type 0 where
+  start-short : start ≤ 38
+  body-short : body ≤ 80
+  trace-short : trace ≤ 64_000
+  third-short : third ≤ 4
+
+short : (c : tie.After-third)
+    → Short (c .before .before .table-start .result) (c .before .table-length .result) (length (c .before .before .before .before .before .before .before .args .trace .now)) (c .third .result)
+short c =
+    let e = c .before .before .before in
+    let form = e .before .before .before .before .args .form in
+    let right = trace-of _ (ready e .trace-right) in
+    record {
+      start-short = rw (c .before .before .table-start .ensures) (start-low form);
+      body-short = omega (arith, c .before .table-length .ensures, ready e .count-high);
+      trace-short = omega (arith, right .whole, right .events-high);
+      third-short = rw (c .third .ensures) (third-low form);
+    }
+
+table-start-requires : tie.Need-table-start-requires
+table-start-requires c κs = tt
 
 table-length-requires : tie.Need-table-length-requires
 table-length-requires c κs = ready (c .before) .count-high
 
+third-requires : tie.Need-third-requires
+third-requires c κs = tt
+
+add-start : tie.Need-add-start
+add-start c = let s = short c in omega (arith, s .start-short, s .body-short)
+
+add-end : tie.Need-add-end
+add-end c = let s = short c in omega (arith, s .start-short, s .body-short, s .trace-short)
+
 put-contents-requires : tie.Need-put-contents-requires
-put-contents-requires c κs =
-    omega (arith, c .before .table-length .ensures, ready (c .before .before .before) .count-high)
+put-contents-requires c κs = let s = short (c .before) in (s .body-short, s .trace-short)
 
 put-table-requires : tie.Need-put-table-requires
-put-table-requires c κs = (omega arith, ready (c .before .before .before .before .before .before .before) .count-high)
-
-add-put-bytes : tie.Need-add-put-bytes
-add-put-bytes c = search needs
+put-table-requires c κs = let third = c .before .before .before .before .before in (short third .start-short, ready (third .before .before .before) .count-high)
 
 put-bytes-requires : tie.Need-put-bytes-requires
 put-bytes-requires c κs = tt
+
+number-requires : tie.Need-number-requires
+number-requires c κs = tt
+
+put-number-requires : tie.Need-put-number-requires
+put-number-requires c κs = tt
+
+add-t12 : tie.Need-add-t12
+add-t12 c =
+    let s = short (c .before .before .before .before .before .before .before .before .before .before .before .before .before .before .before .before .before) in
+    omega (arith, s .start-short, s .body-short, s .trace-short, s .third-short)
 
 same-length : tie.Need-same-length
 same-length c = search needs
 
 returns-2 : tie.Need-returns-2
+unfolding thirdBody
 returns-2 c =
-    let third = c .before .before in
+    let fourth = c .before .before in
+    let third = fourth .before .before .before .before .before in
     let second = third .before .before .before .before in
     let first = second .before .before .before .before in
-    let b = first .before .before in
-    let e = b .before .before in
+    let n = first .before .before in
+    let e = n .before .before .before in
     let a = e .before .before .before .before .args in
     let t = a .table in
-    let done = write-done t (a .trace .now) (a .out .now) (sym (e .before .write-refusal .ensures) ∙ e .if1 .left) in
-    let body : b .table-length .result ≡ length (tableBody t) = b .table-length .ensures ∙ sym (length-table t) in
-    let size : b .before .file-length .result ≡ length (fileOf t (a .trace .now))
-    = omega (arith, b .before .file-length .ensures, length-file t (a .trace .now)) in (
+    let unrefused = sym (e .before .write-refusal .ensures) ∙ e .if1 .left in
+    let done = write-done (a .form) (a .order) t (a .trace .now) (a .out .now) unrefused in
+    let room = writable-of (a .form) (a .order) t (a .trace .now) (length (a .out .now)) unrefused .1 in
+    let body : n .before .table-length .result ≡ length (tableBody t) = n .before .table-length .ensures ∙ sym (length-table t) in
+    let start = n .before .before .table-start .ensures in
+    let size : n .before .before .table-start .result + n .before .table-length .result + length (a .trace .now) + n .third .result
+    ≡ length (fileOf (a .form) (a .order) t (a .trace .now))
+    = rw (start, n .before .table-length .ensures, n .third .ensures) (sym (length-file (a .form) (a .order) t (a .trace .now))) in (
       rw size (sym (done .0)),
-      rw (third .put-bytes .ensures, second .put-table .ensures, first .put-contents .ensures)
-          (file-stored t (a .trace .now) (a .out .now) (b .table-length .result) body (ready e .fits) ∙ sym (done .1)),
+      rw (
+        fourth .put-number .ensures,
+        fourth .before .number .ensures,
+        third .put-bytes .ensures,
+        second .put-table .ensures,
+        first .put-contents .ensures,
+        n .third .ensures,
+        start,
+      )
+          (file-stored (a .form) (a .order) t (a .trace .now) (a .out .now) (n .before .table-length .result) body room ∙ sym (done .1)),
     )
 
 pub write-spec : {M : Type 1} → statement M
@@ -79,11 +132,16 @@ write-spec =
     (tie.spec
     write-refusal-requires
     returns
-    file-length-requires
+    table-start-requires
     table-length-requires
+    third-requires
+    add-start
+    add-end
     put-contents-requires
     put-table-requires
-    add-put-bytes
     put-bytes-requires
+    number-requires
+    put-number-requires
+    add-t12
     same-length
     returns-2)

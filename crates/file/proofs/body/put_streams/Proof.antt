@@ -1,6 +1,6 @@
 -- `put_streams` stores two cells a turn, after those of the streams before.
 use mathlib.Core.Path.{_≡_, refl, ap, _∙_}
-use Prim.Native.Nat.{_-_, _≤_, _<_}
+use Prim.Native.Nat.{_+_, _-_, _≤_, _<_}
 use borrow.Author.Needs.{zero≤}
 use native.Mathlib.Nat.{add-le-add}
 use native.Mathlib.Numerals.{add-one}
@@ -8,7 +8,7 @@ use lib.Dec.{lit≤}
 use lib.ListN.{length}
 use lib.Seq.{sets}
 use Rattle.table.specs.Ranges.{streams-max}
-use Rattle.file.specs.File.{streamCells}
+use Rattle.file.specs.File.{table-start-max, streamCells}
 use Rattle.table.proofs.Loops.{next-fits, below-eight, one-passed, fewer, all-passed}
 use Rattle.file.proofs.Bounds.{add-fits, streams-fit, streams-low, words-fit}
 use Rattle.file.proofs.Stores.{stream-stored}
@@ -30,14 +30,14 @@ loop-holds c = (zero≤, refl, refl)
 inside : (c : tie.Then1 Inv-loop μ-loop) → c .before .before .loop .i < streams-max
 inside c = below-eight _ _ (c .if1 .taken) (c .before .before .before .before .before .before .pre .1)
 
-start : (c : tie.Then1 Inv-loop μ-loop) → c .before .before .before .before .before .before .args .at ≤ 42
+start : (c : tie.Then1 Inv-loop μ-loop) → c .before .before .before .before .before .before .args .at ≤ table-start-max + 16
 start c = c .before .before .before .before .before .before .pre .0
 
 mul-cell : tie.Need-mul-cell Inv-loop μ-loop
 mul-cell c = streams-fit _ (inside c)
 
 add-cell : tie.Need-add-cell Inv-loop μ-loop
-add-cell c = add-fits 42 56 (start c) (streams-low _ (inside c)) tt
+add-cell c = add-fits (table-start-max + 16) 56 (start c) (streams-low _ (inside c)) tt
 
 mul-put-word : tie.Need-mul-put-word Inv-loop μ-loop
 mul-put-word c = words-fit _ (inside (c .before))
@@ -49,7 +49,7 @@ put-word-requires : tie.Need-put-word-requires Inv-loop μ-loop
 put-word-requires c κs = tt
 
 add-put-word : tie.Need-add-put-word Inv-loop μ-loop
-add-put-word c = add-fits 98 4 (add-le-add (start (c .before .before .before .before .before)) (streams-low _ (inside (c .before .before .before .before .before)))) (lit≤ tt) tt
+add-put-word c = add-fits (table-start-max + 16 + 56) 4 (add-le-add (start (c .before .before .before .before .before)) (streams-low _ (inside (c .before .before .before .before .before)))) (lit≤ tt) tt
 
 mul-put-word-2 : tie.Need-mul-put-word-2 Inv-loop μ-loop
 mul-put-word-2 c = words-fit _ (inside (c .before .before .before .before .before))

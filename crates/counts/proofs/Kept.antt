@@ -76,8 +76,8 @@ none-late i (m ∷ past) h = rw (none-late i past (λ later n earlier e. h (m �
     go false e = rw e
 
 pub none-is-late : NoneIsLate
-none-is-late t calls admitted within i l =
-    none-late i (historyOf t calls) (λ later m earlier e closing. promise t calls admitted .1 within .closed-jobs later m earlier e i l closing .in-time)
+none-is-late t s calls new within i l =
+    none-late i (historyOf s calls) (λ later m earlier e closing. promise t s calls new .1 within .closed-jobs later m earlier e i l closing .in-time)
 
 -- a call that closes a job reports nothing and loses nothing
 closing-only : (i : ℕ) (m : Moment) → closes i m ≡ true → (reported i m ≡ 0) × (expiry i m ≡ 0)
@@ -109,10 +109,10 @@ charges t i (m ∷ past) h =
     go false e before = rw e (omega (arith, before))
 
 pub charges-add-up : ChargesAddUp
-charges-add-up t calls admitted i l =
-    let sums = charge-is-sum t calls admitted in
+charges-add-up t s calls new i l =
+    let sums = charge-is-sum t s calls new in
     omega (
       arith,
       sums .0 i l,
-      charges t i (historyOf t calls) (λ later m earlier e closing. sums .1 later m earlier e i l closing),
+      charges t i (historyOf s calls) (λ later m earlier e closing. sums .1 later m earlier e i l closing),
     )

@@ -75,7 +75,7 @@ refusedFile number over = record { refusal = number; over = over; count = 0; cou
 unfoldable pub openedFile : Table → List ℕ → Filed
 openedFile t trace =
     if (eqb (admissionOf t) 0)
-    (record { refusal = 0; over = 0; count = t .count; counts = countsOf (historyOf t (callsTo trace (eventsIn trace))) })
+    (record { refusal = 0; over = 0; count = t .count; counts = countsOf (historyOf (openingOf t .session) (callsTo trace (eventsIn trace))) })
     (refusedFile (admissionOf t) (overIn (openingOf t .admission)))
 
 unfoldable pub filedOf : List ℕ → Filed

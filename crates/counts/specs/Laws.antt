@@ -6,14 +6,13 @@ use mathlib.Core.Path.{_≡_}
 use Prim.Native.Nat.{ℕ, _+_, _-_, _*_, _^_, _≤_, _<_}
 use Rattle.table.specs.Fold.{if, listTo}
 use Rattle.table.specs.Ranges.{streams-max}
-use Rattle.table.specs.Admission.{admissionOf}
 use Rattle.table.specs.declared.Table.{Table}
 use Rattle.calls.specs.declared.Call.{Call}
 use Rattle.stream.specs.declared.Stream.{Stream}
 use Rattle.session.specs.Session.{streamAt}
 use Rattle.session.specs.declared.Session.{Session}
 use Rattle.session.specs.Calls.{after}
-use Rattle.session.specs.Opening.{openingOf}
+use Rattle.session.specs.Opening.{NewlyOpened}
 use Rattle.session.specs.History.{Moment, historyOf, withinBounds, closes, closings, reported}
 use Rattle.file.specs.declared.event.Event.{Event}
 use Rattle.listing.specs.Line.{rendered, refusedFields}
@@ -83,8 +82,8 @@ LargestIsReported =
 -- Within the bounds of the promise no job is late.
 abbrev pub NoneIsLate : Type 0
 NoneIsLate =
-    (t : Table) (calls : List Call) → admissionOf t ≡ 0 → withinBounds (historyOf t calls) ≡ true
-    → (i : ℕ) → i < t .count → tallyOf i (historyOf t calls) .late ≡ 0
+    (t : Table) (s : Session) (calls : List Call) → NewlyOpened t s → withinBounds (historyOf s calls) ≡ true
+    → (i : ℕ) → i < t .count → tallyOf i (historyOf s calls) .late ≡ 0
 
 -- a number of each job of stream i that was closed, added up: each as it was when the job was closed
 unfoldable pub closedSum : (Stream → ℕ) → ℕ → List Moment → ℕ
@@ -101,8 +100,8 @@ closedStarts = closedSum (λ x. x .start .0)
 -- Disk time, W for each expired slot, and what the jobs started with come to the charges, of the closed jobs and of the open one. What was carried over is in two charges, and in the time of one.
 abbrev pub ChargesAddUp : Type 0
 ChargesAddUp =
-    (t : Table) (calls : List Call) → admissionOf t ≡ 0 → (i : ℕ) → i < t .count
-    → let past = historyOf t calls in
-    let now = streamAt (after (openingOf t .session) calls) i in
+    (t : Table) (s : Session) (calls : List Call) → NewlyOpened t s → (i : ℕ) → i < t .count
+    → let past = historyOf s calls in
+    let now = streamAt (after s calls) i in
     tallyOf i past .time + t .worst * tallyOf i past .expired + (closedStarts i past + now .start .0)
     ≡ closedCharges i past + now .charge .0

@@ -21,10 +21,10 @@ start-is-in-charge s ok i l = sound-of s ok .fit .used .each i l .covered
 
 pub charge-is-sum : ChargeIsSum
 unfolding chargeOf
-charge-is-sum t calls admitted = (
-  λ i l. omega (arith, open-charge t calls admitted i l, open-start t calls admitted i l),
+charge-is-sum t s calls new = (
+  λ i l. omega (arith, open-charge t s calls new i l, open-start t s calls new i l),
   λ later m earlier e i l closing.
-      let lawful = lawful-from t calls admitted later m earlier e .0 in
+      let lawful = lawful-from t s calls new later m earlier e .0 in
       let told = lawful .closing i l closing .0 in
       let start : streamAt (m .before) i .start .0 ≡ startOf t i earlier =
       ap (λ (c : Charge). c .0) (sym (lawful .handing i l closing .recorded) ∙ ap (λ (j : Job). j .start) (told .recorded)) in
@@ -32,7 +32,7 @@ charge-is-sum t calls admitted = (
 )
 
 pub overrun-is-carried : OverrunIsCarried
-overrun-is-carried t calls admitted later m earlier e = lawful-from t calls admitted later m earlier e .0 .handing
+overrun-is-carried t s calls new later m earlier e = lawful-from t s calls new later m earlier e .0 .handing
 
 -- the two bounds of the promise, one by one and together
 pub bounds-are-two : BoundsAreTwo
@@ -57,12 +57,12 @@ nothing-started t i l (m ∷ past) lawful short =
     (λ e. nothing-started t i l past (lawful .1) before)
 
 pub nothing-is-carried : NothingIsCarried
-nothing-is-carried t calls admitted short = (
-  λ i l. open-start t calls admitted i l ∙ nothing-started t i l (historyOf t calls) (all-lawful t calls admitted) short,
+nothing-is-carried t s calls new short = (
+  λ i l. open-start t s calls new i l ∙ nothing-started t i l (historyOf s calls) (all-lawful t s calls new) short,
   λ later m earlier e i l closing.
-      let lawful = lawful-from t calls admitted later m earlier e in
-      let none = nothing-started t i l earlier (lawful .1) (never-before t calls admitted 26 later m earlier e short) in
+      let lawful = lawful-from t s calls new later m earlier e in
+      let none = nothing-started t i l earlier (lawful .1) (never-before t s calls new 26 later m earlier e short) in
       let recorded = ap (λ (j : Job). j .start .0) (lawful .0 .closing i l closing .0 .recorded) ∙ none in
       let start = ap (λ (c : Charge). c .0) (lawful .0 .handing i l closing .recorded) in
-      record { recorded = recorded; sum = omega (arith, charge-is-sum t calls admitted .1 later m earlier e i l closing, recorded, start) },
+      record { recorded = recorded; sum = omega (arith, charge-is-sum t s calls new .1 later m earlier e i l closing, recorded, start) },
 )

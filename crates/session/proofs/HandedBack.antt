@@ -2,21 +2,20 @@
 use mathlib.Core.Bool.{Bool, true, false, _||_, false≢true}
 use mathlib.Core.List.{List, [], _∷_, _++_}
 use mathlib.Core.Path.{_≡_, refl, sym, _∙_, ap, ap₂, subst}
-use Prim.Native.Nat.{ℕ, _+_, _≤_, _<_}
+use Prim.Native.Nat.{ℕ, _+_, _<_}
 use native.Mathlib.Omega.{arith}
 use lib.Dec.{eqb}
 use lib.ListN.{length, getD, set}
-use borrow.Author.Tests.{eqb-true, eq-eqb, ne-eqb}
+use borrow.Author.Tests.{eq-eqb, ne-eqb}
 use Rattle.table.specs.Fold.{if}
-use Rattle.table.specs.Admission.{admissionOf}
 use Rattle.table.specs.declared.Table.{Table}
 use Rattle.table.proofs.Lists.{set-alike}
-use Rattle.stream.specs.Stream.{filled, arrived, without, charged, lapsed, closed, moved, freshStream}
+use Rattle.stream.specs.Stream.{filled, arrived, charged, lapsed, closed, moved, freshStream}
 use Rattle.stream.specs.declared.Stream.{Stream}
 use Rattle.time.specs.declared.Clock.{Clock}
-use Rattle.session.specs.Session.{noStream, streamAt, horizon, filledAt}
+use Rattle.session.specs.Session.{noStream, streamAt, horizon}
 use Rattle.session.specs.Calls.{Verdict, refuse, append, send, move, wait, expire, finish, set-clock, verdict, apply, replyTo, answerTo, after}
-use Rattle.session.specs.Opening.{freshSession, openingOf}
+use Rattle.session.specs.Opening.{NewlyOpened}
 use Rattle.session.specs.History.{Moment, historyFrom, historyOf, replied}
 use Rattle.session.specs.Tags.{Request, no-request, leaving, waitingAfter, waiting, atDiskAfter, atDisk, requests, queuedIn, queuedAt, servedAt, requestIn}
 use Rattle.session.specs.Laws.{HandedBack, TagComesBack}
@@ -27,7 +26,7 @@ use Rattle.session.proofs.Sound.{Sound, admits}
 use Rattle.session.proofs.Grounds.{Grounds, verdict-grounds}
 use Rattle.session.proofs.Keeps.{effect-kept}
 use Rattle.session.proofs.MoveKept.{moved-at}
-use Rattle.session.proofs.Openings.{fresh-at, fresh-sound}
+use Rattle.session.proofs.Openings.{begun}
 use Rattle.session.proofs.Reasons.{Reasons, verdict-reasons, done-or-overlong, clock-or-late}
 use Rattle.session.proofs.Histories.{set-at}
 use Rattle.session.proofs.Promise.{momentOf, table-same, part, numbers-are-kept}
@@ -177,21 +176,21 @@ has-after past s (k ∷ ks) has handed =
     (handed-on s past has k v refl (verdict-grounds s q k) (verdict-reasons s q k), handed)
 
 -- a new session has none
-opened-has : (t : Table) → admissionOf t ≡ 0 → Has (openingOf t .session) []
-unfolding openingOf if freshSession freshStream waiting atDisk requests
-opened-has t admitted =
-    rw (eq-eqb (admissionOf t) 0 admitted)
-    (record {
-      orderly = fresh-sound t admitted;
-      queues = λ i l. ap (queuedIn i) (fresh-at t admitted i l);
-      disk = refl;
-    })
+opened-has : (t : Table) (s : Session) → NewlyOpened t s → Has s []
+unfolding freshStream waiting atDisk requests
+opened-has t s new =
+    let b = begun t s new in
+    record {
+      orderly = b .orderly;
+      queues = λ i l. ap (queuedIn i) (b .each i (omega (arith, b .count-is)));
+      disk = rw (b .served-is, b .place-is, b .tag-is);
+    }
 
 pub tag-comes-back : TagComesBack
-tag-comes-back t calls admitted =
-    let run = has-after [] (openingOf t .session) calls (opened-has t admitted) tt in
-    let past = historyOf t calls in
-    let count : after (openingOf t .session) calls .count ≡ t .count = numbers-are-kept t calls admitted .3 in (
+tag-comes-back t s calls new =
+    let run = has-after [] s calls (opened-has t s new) tt in
+    let past = historyOf s calls in
+    let count : after s calls .count ≡ t .count = numbers-are-kept t s calls new .3 in (
       λ i l. run .0 .queues i (omega (arith, l, count)),
       run .0 .disk,
       λ later m earlier e. part AllHanded (λ n before handed. handed .1) later (m ∷ earlier) (subst AllHanded (sym e) (run .1)) .0,

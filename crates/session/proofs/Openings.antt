@@ -26,7 +26,7 @@ use Rattle.stream.specs.Stream.{partOf, soundRow, soundQueue, unusedStream, zer
 use Rattle.session.specs.Session.{noStream, streamAt, horizon, scaledPart, remaindersOf, tableOf, soundDisk, sound}
 use Rattle.calls.specs.Replies.{numberOf}
 use Rattle.session.specs.Calls.{Verdict, refuse, append, send, move, wait, expire, finish, set-clock, verdict, apply, replyTo, answerTo, after}
-use Rattle.session.specs.Opening.{openedStream, openedSession, freshSession, openingOf}
+use Rattle.session.specs.Opening.{openedStream, openedSession, freshSession, openingOf, NewlyOpened}
 use Rattle.session.specs.Laws.{OpeningIsSound, NeverUnsound, AskIsLatest, MarginIsKept}
 use Rattle.stream.specs.declared.Stream.{Stream}
 use Rattle.session.specs.declared.Session.{Session}
@@ -101,7 +101,7 @@ module _ (t : Table) (admitted : admissionOf t ≡ 0) where
         disk = refl;
       }
 
-  pub fresh-sound : Sound (freshSession t)
+  fresh-sound : Sound (freshSession t)
   unfolding freshSession
   fresh-sound = looking-ahead (openedSession t) opened-fit
 
@@ -166,16 +166,44 @@ module _ (t : Table) (admitted : admissionOf t ≡ 0) where
       let blocking = mul-le-mul {n₂ = worst-max} {m₂ = span-max} (n .worst-high) (n .span-high) in
       (judged .fits, omega (arith, most), omega (arith, blocking))
 
-  -- and its streams hold their reservations
-  pub fresh-at : (i : ℕ) → i < t .count
-      → streamAt (freshSession t) i ≡ freshStream (reservedAt t i) (periodAt t i) (grantedOf (t .worst) (t .padding) (reservedAt t i))
-  unfolding freshSession
-  fresh-at = held-at
+-- what a newly opened session has: the numbers of its table, streams at their first release, and nothing at the disk
+pub record Begun (t : Table) (s : Session) : Type 0 where
+  pub worst-is : s .worst ≡ t .worst
+  pub span-is : s .span ≡ t .span
+  pub padding-is : s .padding ≡ t .padding
+  pub count-is : s .count ≡ t .count
+  pub margin-is : s .margin .0 ≡ marginOf t
+  pub clock-is : s .clock .0 ≡ 0
+  pub served-is : s .served ≡ 0
+  pub place-is : s .place ≡ 0
+  pub tag-is : s .tag ≡ 0
+  pub each : (i : ℕ) → i < t .count → streamAt s i ≡ freshStream (reservedAt t i) (periodAt t i) (grantedOf (t .worst) (t .padding) (reservedAt t i))
+  pub orderly : Sound s
 
--- opening gives that session where the table is admitted
-opened-sound : (t : Table) → admissionOf t ≡ 0 → sound (openingOf t .session) ≡ true
+fresh-begun : (t : Table) → admissionOf t ≡ 0 → Begun t (freshSession t)
+unfolding freshSession
+fresh-begun t admitted =
+    record {
+      worst-is = refl;
+      span-is = refl;
+      padding-is = refl;
+      count-is = refl;
+      margin-is = refl;
+      clock-is = refl;
+      served-is = refl;
+      place-is = refl;
+      tag-is = refl;
+      each = held-at t admitted;
+      orderly = fresh-sound t admitted;
+    }
+
+-- opening makes that session where the table is admitted
+pub begun : (t : Table) (s : Session) → NewlyOpened t s → Begun t s
 unfolding openingOf if
-opened-sound t admitted = rw (eq-eqb (admissionOf t) 0 admitted) (of-sound (freshSession t) (fresh-sound t admitted))
+begun t s new = rw (new .made, eq-eqb (admissionOf t) 0 (new .admitted)) (fresh-begun t (new .admitted))
+
+opened-sound : (t : Table) (s : Session) → NewlyOpened t s → sound s ≡ true
+opened-sound t s new = of-sound s (begun t s new .orderly)
 
 -- the all-zero session is judged by computing
 pub opening-is-sound : OpeningIsSound
@@ -192,7 +220,7 @@ sound-after s (k ∷ ks) t = sound-after (answerTo s k .session) ks (calls-keep-
 pub ask-is-latest : AskIsLatest
 ask-is-latest = (
   λ s t. asked-is s (sound-of s t),
-  λ t calls admitted. asked-is _ (sound-of _ (sound-after (openingOf t .session) calls (opening-is-sound .0 t admitted))),
+  λ t s calls new. asked-is _ (sound-of _ (sound-after s calls (opened-sound t s new))),
 )
 
 -- a verdict leaves the margin as it is, and so does every call
@@ -216,13 +244,9 @@ unfolding after
 margin-after s [] = refl
 margin-after s (k ∷ ks) = margin-after (answerTo s k .session) ks ∙ call-keeps-margin s k
 
-opened-margin : (t : Table) → admissionOf t ≡ 0 → openingOf t .session .margin .0 ≡ marginOf t
-unfolding openingOf freshSession if
-opened-margin t admitted = rw (eq-eqb (admissionOf t) 0 admitted)
-
 pub margin-is-kept : MarginIsKept
 margin-is-kept = (
-  λ t calls admitted. ap (λ (m : Margin). m .0) (margin-after (openingOf t .session) calls) ∙ opened-margin t admitted,
+  λ t s calls new. ap (λ (m : Margin). m .0) (margin-after s calls) ∙ begun t s new .margin-is,
   call-keeps-margin,
   λ s t. sound-of s t .fit .used .margin-is,
 )
@@ -242,8 +266,8 @@ number-low s (set-clock t) g = by-if (λ (r : Reply). numberOf r < 31) _ _ _ (λ
 -- so 31 is never answered
 pub never-unsound : NeverUnsound
 unfolding answerTo
-never-unsound t before k admitted is-31 =
-    let s = after (openingOf t .session) before in
-    let q = sound-of s (sound-after (openingOf t .session) before (opening-is-sound .0 t admitted)) in
-    let low = number-low s (verdict s k) (verdict-grounds s q k) in
+never-unsound t s before k new is-31 =
+    let now = after s before in
+    let q = sound-of now (sound-after s before (opened-sound t s new)) in
+    let low = number-low now (verdict now k) (verdict-grounds now q k) in
     omega arith

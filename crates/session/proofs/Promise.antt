@@ -8,7 +8,6 @@ use native.Mathlib.Omega.{arith}
 use lib.Dec.{leb, eqb}
 use borrow.Author.Tests.{eqb-true, eq-eqb, ne-eqb, leb-false, ltb-false}
 use Rattle.table.specs.Fold.{if}
-use Rattle.table.specs.Admission.{admissionOf}
 use Rattle.table.specs.declared.Table.{Table}
 use Rattle.table.proofs.Tests.{both}
 use Rattle.table.proofs.Folds.{all-at, some-none}
@@ -17,7 +16,7 @@ use Rattle.stream.specs.Stream.{filled, closed, moved, freshStream}
 use Rattle.stream.specs.Laws.{CarriedOn}
 use Rattle.session.specs.Session.{streamAt, horizon, slotsAt, filledAt, someFilled, noSlot}
 use Rattle.session.specs.Calls.{Verdict, refuse, append, send, move, wait, expire, finish, set-clock, verdict, apply, overlong, replyTo, outcome, answerTo, after}
-use Rattle.session.specs.Opening.{freshSession, openingOf}
+use Rattle.session.specs.Opening.{NewlyOpened}
 use Rattle.session.specs.History.{Moment, historyFrom, historyOf, inBounds, withinBounds, never, replied, closes, closings, dueOf, sinceClosing, durationOf, reported, expires, expiry, addedOf, budgetOf, startOf, chargeOf}
 use Rattle.session.specs.Laws.{NumbersAreKept}
 use Rattle.session.specs.Promise.{completion, ClosedTruly, ClosedOnTime, Always, OnTime, Promise}
@@ -31,7 +30,7 @@ use Rattle.session.proofs.Sound.{Sound, of-sound, bounded}
 use Rattle.session.proofs.Grounds.{Grounds, verdict-grounds}
 use Rattle.session.proofs.Keeps.{effect-kept}
 use Rattle.session.proofs.MoveKept.{moved-at}
-use Rattle.session.proofs.Openings.{fresh-at, fresh-sound, never-unsound}
+use Rattle.session.proofs.Openings.{begun, never-unsound}
 use Rattle.session.proofs.Halves.{rate, used, Room, InTime, rates-high, due-most, due-least, clock-not-past}
 use Rattle.session.proofs.Reasons.{Reasons, verdict-reasons, done-or-overlong, clock-or-late}
 use Rattle.session.proofs.Within.{within-never, effect-room, effect-time}
@@ -236,28 +235,24 @@ kept-after t past s (k ∷ ks) kept lawful =
     (lawful-on t s past kept k v (verdict-grounds s q k) (verdict-reasons s q k), lawful)
 
 -- a new session has used nothing, and its clock stands at 0
-fresh-kept : (t : Table) → admissionOf t ≡ 0 → Kept t (freshSession t) []
-unfolding freshSession freshStream chargeOf addedOf startOf sinceClosing dueOf closings
-fresh-kept t admitted =
-    let s = freshSession t in
-    let q = fresh-sound t admitted in
+opened-kept : (t : Table) (s : Session) → NewlyOpened t s → Kept t s []
+unfolding freshStream chargeOf addedOf startOf sinceClosing dueOf closings
+opened-kept t s new =
+    let b = begun t s new in
+    let q = b .orderly in
     record {
-      worst-is = refl;
-      span-is = refl;
-      padding-is = refl;
-      count-is = refl;
+      worst-is = b .worst-is;
+      span-is = b .span-is;
+      padding-is = b .padding-is;
+      count-is = b .count-is;
       cells = λ i l.
-          subst (Holds t i []) (sym (fresh-at t admitted i l))
+          subst (Holds t i []) (sym (b .each i l))
           (record { granted-is = refl; period-is = refl; charge-is = omega arith; start-is = refl; expired-is = refl; deadline-is = omega arith });
       orderly = q;
-      room = λ short i l. subst (λ (x : Stream). used (t .span) x ≤ horizon s * rate (t .span) x) (sym (fresh-at t admitted i l)) (omega arith);
-      time = λ early. omega (arith, mul-le-mul-left (horizon s) (rates-high s q));
+      room = λ short i l.
+          subst (λ (x : Stream). used (s .span) x ≤ horizon s * rate (s .span) x) (sym (b .each i (omega (arith, b .count-is)))) (omega arith);
+      time = λ early. subst (InTime s) (sym (b .clock-is)) (omega (arith, mul-le-mul-left (horizon s) (rates-high s q)));
     }
-
--- opening makes that session
-opened-kept : (t : Table) → admissionOf t ≡ 0 → Kept t (openingOf t .session) []
-unfolding openingOf if
-opened-kept t admitted = rw (eq-eqb (admissionOf t) 0 admitted) (fresh-kept t admitted)
 
 -- what a history keeps when its newest call is left out, it has before any of its calls
 pub part : (P : List Moment → Type 0) → ((m : Moment) (past : List Moment) → P (m ∷ past) → P past)
@@ -265,15 +260,15 @@ pub part : (P : List Moment → Type 0) → ((m : Moment) (past : List Moment) �
 part P drop [] past p = p
 part P drop (m ∷ later) past p = part P drop later past (drop m (later ++ past) p)
 
-module _ (t : Table) (calls : List Call) (admitted : admissionOf t ≡ 0) where
+module _ (t : Table) (s : Session) (calls : List Call) (new : NewlyOpened t s) where
   abbrev now : Session
-  now = after (openingOf t .session) calls
+  now = after s calls
 
   abbrev past : List Moment
-  past = historyOf t calls
+  past = historyOf s calls
 
   run : Kept t now past × AllLawful t past
-  run = kept-after t [] (openingOf t .session) calls (opened-kept t admitted) tt
+  run = kept-after t [] s calls (opened-kept t s new) tt
 
   pub all-lawful : AllLawful t past
   all-lawful = run .1
@@ -311,7 +306,7 @@ module _ (t : Table) (calls : List Call) (admitted : admissionOf t ≡ 0) where
         closed-jobs = λ later m earlier e i l closing. lawful-from later m earlier e .0 .closing i l closing .0;
         expired-slots = λ later m earlier e. lawful-from later m earlier e .0 .losing;
         is-sound = of-sound now (run .0 .orderly);
-        never-31 = λ k. never-unsound t calls k admitted;
+        never-31 = λ k. never-unsound t s calls k new;
       }
 
   on-time : withinBounds past ≡ true → OnTime t now past
@@ -327,9 +322,9 @@ module _ (t : Table) (calls : List Call) (admitted : admissionOf t ≡ 0) where
       }
 
 pub numbers-are-kept : NumbersAreKept
-numbers-are-kept t calls admitted =
-    let kept = run t calls admitted .0 in
+numbers-are-kept t s calls new =
+    let kept = run t s calls new .0 in
     (kept .worst-is, kept .span-is, kept .padding-is, kept .count-is)
 
 pub promise : Promise
-promise t calls admitted = (always t calls admitted, on-time t calls admitted)
+promise t s calls new = (always t s calls new, on-time t s calls new)

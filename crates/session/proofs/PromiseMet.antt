@@ -8,7 +8,7 @@ use Rattle.time.specs.Time.{moment, diskTime}
 use Rattle.calls.specs.Replies.{numberOf}
 use Rattle.session.specs.Session.{streamAt}
 use Rattle.session.specs.Calls.{answerTo, after}
-use Rattle.session.specs.Opening.{openingOf}
+use Rattle.session.specs.Opening.{openingOf, NewlyOpened}
 use Rattle.session.specs.Cases.{padded, twins}
 use Rattle.session.specs.History.{Moment, historyFrom, historyOf, withinBounds, never, closes, closings, dueOf, sinceClosing, expiry, addedOf, startOf, chargeOf}
 use Rattle.session.specs.Promise.{completion, ClosedTruly, ClosedOnTime}
@@ -20,18 +20,26 @@ use Rattle.session.proofs.Promise.{promise}
 use Rattle.session.proofs.Carried.{overrun-is-carried, nothing-is-carried}
 use Rattle.session.proofs.Served.{requests-served}
 
+-- a session that is newly opened with two streams of one deadline
+abbrev opened : Session
+opened = openingOf twins .session
+
+new : NewlyOpened twins opened
+unfolding rules padded
+new = record { admitted = refl; made = refl }
+
 -- calls of two streams with one deadline, and then a turn: what is remembered of that turn, of the calls before it, and of all
 abbrev before : List Call → Session
-before calls = after (openingOf twins .session) calls
+before calls = after opened calls
 
 abbrev closing : List Call → Moment
 closing calls = record { before = before calls; call = Turn; answer = answerTo (before calls) Turn }
 
 abbrev earlier : List Call → List Moment
-earlier calls = historyOf twins calls
+earlier calls = historyOf opened calls
 
 abbrev past : List Call → List Moment
-past calls = historyOf twins (calls ++ (Turn ∷ []))
+past calls = historyOf opened (calls ++ (Turn ∷ []))
 
 -- the numbers of the replies, the newest first
 abbrev numbers : List Moment → List ℕ
@@ -69,7 +77,7 @@ answered = refl
 -- both are closed as promised
 closed-on-time : (i : ℕ) → i < 2 → closes i (closing calls) ≡ true → ClosedOnTime twins i (closing calls) (earlier calls)
 unfolding rules padded historyFrom withinBounds
-closed-on-time i l closes-it = promise twins (calls ++ (Turn ∷ [])) refl .1 refl .closed-jobs [] (closing calls) (earlier calls) refl i l closes-it
+closed-on-time i l closes-it = promise twins opened (calls ++ (Turn ∷ [])) new .1 refl .closed-jobs [] (closing calls) (earlier calls) refl i l closes-it
 
 both-closed : ClosedOnTime twins 0 (closing calls) (earlier calls) × ClosedOnTime twins 1 (closing calls) (earlier calls)
 unfolding rules padded historyFrom
@@ -83,12 +91,12 @@ told-charges = refl
 -- and nothing is carried on
 nothing-on : streamAt (closing calls .answer .session) 0 .start .0 ≡ 0
 unfolding rules padded historyFrom never
-nothing-on = nothing-is-carried twins (calls ++ (Turn ∷ [])) refl refl .0 0 (lit< tt)
+nothing-on = nothing-is-carried twins opened (calls ++ (Turn ∷ [])) new refl .0 0 (lit< tt)
 
 -- and so each has at least ⌊50,000 / 25,000⌋ completions and expired slots: one completion and one slot
 two-of-first : 2 ≤ sinceClosing completion 0 (earlier calls) + sinceClosing expiry 0 (earlier calls)
 unfolding rules padded historyFrom withinBounds
-two-of-first = requests-served twins (calls ++ (Turn ∷ [])) refl refl [] (closing calls) (earlier calls) refl 0 (lit< tt) refl
+two-of-first = requests-served twins opened (calls ++ (Turn ∷ [])) new refl [] (closing calls) (earlier calls) refl 0 (lit< tt) refl
 
 -- Outside: a request of stream 1 takes 230,000, and stream 2's two requests of 25,000 end after the deadline of both.
 abbrev overrun : List Call
@@ -111,7 +119,7 @@ overrun-answered = (refl, refl)
 -- what is promised always is said of the job that the overlong completion belongs to
 closed-truly : ClosedTruly twins 0 (closing overrun) (earlier overrun)
 unfolding rules padded historyFrom
-closed-truly = promise twins (overrun ++ (Turn ∷ [])) refl .0 .closed-jobs [] (closing overrun) (earlier overrun) refl 0 (lit< tt) refl
+closed-truly = promise twins opened (overrun ++ (Turn ∷ [])) new .0 .closed-jobs [] (closing overrun) (earlier overrun) refl 0 (lit< tt) refl
 
 -- history tells the overlong duration, and the record shows it, closed 30,000 after its deadline
 overrun-charges : charges (earlier overrun) ≡ 230_000 ∷ 50_000 ∷ []
@@ -126,4 +134,4 @@ overrun-recorded = closed-truly .recorded
 -- and the 180,000 above its budget are carried on
 overrun-carried : streamAt (closing overrun .answer .session) 0 .start .0 + 50_000 ≡ 230_000
 unfolding rules padded historyFrom
-overrun-carried = overrun-is-carried twins (overrun ++ (Turn ∷ [])) refl [] (closing overrun) (earlier overrun) refl 0 (lit< tt) refl .overrun (lit≤ tt)
+overrun-carried = overrun-is-carried twins opened (overrun ++ (Turn ∷ [])) new [] (closing overrun) (earlier overrun) refl 0 (lit< tt) refl .overrun (lit≤ tt)

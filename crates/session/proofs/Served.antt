@@ -40,10 +40,10 @@ enough budget charge worst lasted ended lost pos more made most =
 
 pub requests-served : RequestsServed
 unfolding addedOf
-requests-served t calls admitted within later m earlier e i l closing =
-    let made = nothing-is-carried t calls admitted (within-never (historyOf t calls) within .0) .1 later m earlier e i l closing .sum in
-    let more = promise t calls admitted .1 within .closed-jobs later m earlier e i l closing .more-than in
+requests-served t s calls new within later m earlier e i l closing =
+    let made = nothing-is-carried t s calls new (within-never (historyOf s calls) within .0) .1 later m earlier e i l closing .sum in
+    let more = promise t s calls new .1 within .closed-jobs later m earlier e i l closing .more-than in
     enough (budgetOf t i) (streamAt (m .before) i .charge .0) (t .worst)
     (sinceClosing reported i earlier) (sinceClosing completion i earlier) (sinceClosing expiry i earlier)
-    (omega (arith, admits-of t admitted .numbers .worst-low)) more made
-    (reported-most t i earlier (lawful-from t calls admitted later m earlier e .1) (within-before t calls admitted later m earlier e within))
+    (omega (arith, admits-of t (new .admitted) .numbers .worst-low)) more made
+    (reported-most t i earlier (lawful-from t s calls new later m earlier e .1) (within-before t s calls new later m earlier e within))

@@ -1,19 +1,16 @@
 -- Tags decide nothing: what is looked at is the same without them, and so is what comes of it.
 use mathlib.Core.Bool.{Bool, true, false, not, _&&_, _||_}
 use mathlib.Core.List.{List, [], _∷_, map, map-map}
-use mathlib.Core.Path.{_≡_, refl, sym, _∙_, ap, ap₂, fun-ext, subst}
+use mathlib.Core.Path.{_≡_, refl, sym, _∙_, ap, ap₂, fun-ext}
 use Prim.Native.Nat.{ℕ, zero, suc, _+_, _-_, _*_, _/_}
 use lib.Dec.{leb, ltb, eqb}
 use lib.IntN.{ℤ, pos, _-ℤ_}
 use lib.ListN.{getD, set, List·getD-map}
-use borrow.Author.Tests.{eq-eqb}
 use Rattle.table.specs.Fold.{if, sumTo, smallestTo, allTo, someTo}
 use Rattle.table.specs.Refusal.{given, _or-next_}
-use Rattle.table.specs.Admission.{admissionOf}
 use Rattle.table.specs.Whole.{signedSumTo}
-use Rattle.table.specs.declared.Table.{Table}
 use Rattle.table.proofs.Lists.{map-alike}
-use Rattle.time.specs.Time.{session-end, moment, diskTime}
+use Rattle.time.specs.Time.{moment, diskTime}
 use Rattle.time.specs.Latest.{remainders}
 use Rattle.time.specs.declared.Clock.{Clock}
 use Rattle.time.specs.declared.Charge.{Charge}
@@ -23,11 +20,9 @@ use Rattle.stream.specs.declared.Stream.{Stream}
 use Rattle.session.specs.Session.{noStream, streamAt, placeAt, horizon, filledAt, someFilled, noSlot, latest, remaindersOf, sound, withStreams, withStream, withDisk, withAhead, lookingAhead}
 use Rattle.session.specs.Choice.{nearestAt, sentBefore, chosen, expiring}
 use Rattle.session.specs.Calls.{Verdict, refuse, append, send, move, wait, expire, finish, set-clock, noSuchStream, busy, movePassesEnd, callRefusal, refusal, turnEffect, effect, ruled, verdict, apply, overlong, late, replyTo, answerTo, Line, lineOf, linesFrom}
-use Rattle.session.specs.Opening.{openingOf}
 use Rattle.session.specs.Tags.{untaggedStream, untagged, untaggedCall, untaggedReply, untaggedLine}
 use Rattle.session.specs.Laws.{TagsDecideNothing, TagsShowLast}
 use Rattle.session.specs.declared.Session.{Session}
-use Rattle.session.specs.declared.Answer.{Answer}
 use Rattle.calls.specs.declared.Call.{Call}
 use Rattle.calls.specs.declared.Reply.{Reply}
 use Rattle.session.proofs.Keeps.{calls-keep-sound}
@@ -323,7 +318,6 @@ lines-alike n s z (k ∷ calls) ok fine same =
     (lines-alike (n + 1) (a .session) (b .session) calls (calls-keep-sound s k ok) (calls-keep-sound z l fine) (next .0))
 
 pub tags-show-last : TagsShowLast
-tags-show-last t calls admitted =
-    let fresh = openingOf t .session in
-    let ok = opening-is-sound .0 t admitted in
-    lines-alike 1 fresh fresh calls ok ok refl
+tags-show-last t s calls new =
+    let ok = opening-is-sound .0 t s new in
+    lines-alike 1 s s calls ok ok refl

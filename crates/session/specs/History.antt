@@ -10,7 +10,6 @@ use Rattle.stream.specs.Stream.{carry}
 use Rattle.session.specs.Session.{streamAt, horizon}
 use Rattle.calls.specs.Replies.{numberOf, streamOf}
 use Rattle.session.specs.Calls.{answerTo}
-use Rattle.session.specs.Opening.{openingOf}
 use Rattle.session.specs.declared.Session.{Session}
 use Rattle.calls.specs.declared.Call.{Call}
 use Rattle.calls.specs.declared.Reply.{Reply}
@@ -28,8 +27,8 @@ historyFrom earlier s (k ∷ ks) =
     let a = answerTo s k in
     historyFrom (record { before = s; call = k; answer = a } ∷ earlier) (a .session) ks
 
-abbrev pub historyOf : Table → List Call → List Moment
-historyOf t calls = historyFrom [] (openingOf t .session) calls
+abbrev pub historyOf : Session → List Call → List Moment
+historyOf s calls = historyFrom [] s calls
 
 -- "As long as no completion has run over the worst-case time", which is reply 26, "and no clock report came after the latest safe moment", which is reply 28
 abbrev pub inBounds : Reply → Bool

@@ -5,7 +5,6 @@ use mathlib.Core.List.{List, _∷_, _++_, map}
 use mathlib.Core.Logic.{_↔_}
 use Prim.Native.Nat.{ℕ, _+_, _-_, _*_, _≤_, _<_}
 use Rattle.table.specs.Fold.{sumTo}
-use Rattle.table.specs.Admission.{admissionOf}
 use Rattle.table.specs.Whole.{aboveZero, belowZero}
 use Rattle.table.specs.Margin.{marginOf}
 use Rattle.table.specs.declared.Table.{Table}
@@ -18,7 +17,7 @@ use Rattle.stream.specs.Choice.{distance}
 use Rattle.session.specs.Choice.{nearestAt, sentBefore, chosen, expiresBefore, expiring}
 use Rattle.calls.specs.Replies.{numberOf}
 use Rattle.session.specs.Calls.{answerTo, after, Line, linesFrom}
-use Rattle.session.specs.Opening.{zeroSession, openingOf}
+use Rattle.session.specs.Opening.{zeroSession, NewlyOpened}
 use Rattle.session.specs.Cases.{Case, markedCases, otherCases}
 use Rattle.session.specs.History.{Moment, historyOf, withinBounds, replied, never, addedOf, budgetOf}
 use Rattle.session.specs.Promise.{EachClosed}
@@ -41,7 +40,7 @@ OtherCasesHold = Hold otherCases
 
 -- "Opening makes a sound session", and the all-zero one "is not sound".
 abbrev pub OpeningIsSound : Type 0
-OpeningIsSound = ((t : Table) → admissionOf t ≡ 0 → sound (openingOf t .session) ≡ true) × (sound zeroSession ≡ false)
+OpeningIsSound = ((t : Table) (s : Session) → NewlyOpened t s → sound s ≡ true) × (sound zeroSession ≡ false)
 
 -- "and every call keeps it sound", overlong completions and late clocks included
 abbrev pub CallsKeepSound : Type 0
@@ -50,20 +49,20 @@ CallsKeepSound = (s : Session) (k : Call) → sound s ≡ true → sound (answer
 -- So no call of a session that was opened, after any calls, is answered by 31.
 abbrev pub NeverUnsound : Type 0
 NeverUnsound =
-    (t : Table) (before : List Call) (k : Call) → admissionOf t ≡ 0
-    → numberOf (answerTo (after (openingOf t .session) before) k .reply) ≡ 31 → ⊥
+    (t : Table) (s : Session) (before : List Call) (k : Call) → NewlyOpened t s
+    → numberOf (answerTo (after s before) k .reply) ≡ 31 → ⊥
 
 -- A session keeps its table's numbers as they were given, whatever calls are made: a padding of 0 stays 0.
 abbrev pub NumbersAreKept : Type 0
 NumbersAreKept =
-    (t : Table) (calls : List Call) → admissionOf t ≡ 0
-    → let s = after (openingOf t .session) calls in
-    (s .worst ≡ t .worst) × (s .span ≡ t .span) × (s .padding ≡ t .padding) × (s .count ≡ t .count)
+    (t : Table) (s : Session) (calls : List Call) → NewlyOpened t s
+    → let now = after s calls in
+    (now .worst ≡ t .worst) × (now .span ≡ t .span) × (now .padding ≡ t .padding) × (now .count ≡ t .count)
 
 -- Document 02, Req 05: "the session keeps it when admitted". The margin of a session is that of the table that it was opened with, whatever calls are made; no call changes it, not even of a session that is not sound; and of any sound session it is that of its own table.
 abbrev pub MarginIsKept : Type 0
 MarginIsKept =
-    ((t : Table) (calls : List Call) → admissionOf t ≡ 0 → after (openingOf t .session) calls .margin .0 ≡ marginOf t)
+    ((t : Table) (s : Session) (calls : List Call) → NewlyOpened t s → after s calls .margin .0 ≡ marginOf t)
     × ((s : Session) (k : Call) → answerTo s k .session .margin ≡ s .margin)
     × ((s : Session) → sound s ≡ true → s .margin .0 ≡ marginOf (tableOf s))
 
@@ -76,17 +75,17 @@ StartIsInCharge =
 -- Of each job, whatever calls were made (document 02, Req 03): its charge is what it started with and what the history adds, which is the durations reported for it, overlong ones among them, and W for each of its expired slots. So of the open jobs, and so of each that was closed, as it was then.
 abbrev pub ChargeIsSum : Type 0
 ChargeIsSum =
-    (t : Table) (calls : List Call) → admissionOf t ≡ 0
-    → let now = after (openingOf t .session) calls in
-    let past = historyOf t calls in
+    (t : Table) (s : Session) (calls : List Call) → NewlyOpened t s
+    → let now = after s calls in
+    let past = historyOf s calls in
     ((i : ℕ) → i < t .count → streamAt now i .charge .0 ≡ streamAt now i .start .0 + addedOf t i past)
     × EachClosed t past (λ i m earlier. streamAt (m .before) i .charge .0 ≡ streamAt (m .before) i .start .0 + addedOf t i earlier)
 
 -- And of each that was closed: the next one starts with its charge less the granted budget of the table, cut at 0, and its record keeps what it had started with.
 abbrev pub OverrunIsCarried : Type 0
 OverrunIsCarried =
-    (t : Table) (calls : List Call) → admissionOf t ≡ 0
-    → EachClosed t (historyOf t calls)
+    (t : Table) (s : Session) (calls : List Call) → NewlyOpened t s
+    → EachClosed t (historyOf s calls)
     (λ i m earlier. CarriedOn (budgetOf t i) (streamAt (m .before) i) (streamAt (m .answer .session) i))
 
 -- "Demand 3 stands under its premises, where nothing is ever carried": as long as no completion has run over, which is the first of them, every job starts with 0, and so says every record, and of a closed job "The charge is the sum of the durations reported for that job, plus one such time for each of its expired slots."
@@ -96,9 +95,9 @@ pub record StartedAtZero (t : Table) (i : ℕ) (m : Moment) (earlier : List Mome
 
 abbrev pub NothingIsCarried : Type 0
 NothingIsCarried =
-    (t : Table) (calls : List Call) → admissionOf t ≡ 0
-    → let now = after (openingOf t .session) calls in
-    let past = historyOf t calls in
+    (t : Table) (s : Session) (calls : List Call) → NewlyOpened t s
+    → let now = after s calls in
+    let past = historyOf s calls in
     never 26 past ≡ true → ((i : ℕ) → i < t .count → streamAt now i .start .0 ≡ 0) × EachClosed t past (StartedAtZero t)
 
 -- The bounds of the promise are that, and that no clock report was late.
@@ -128,7 +127,7 @@ PartsAreExact =
 abbrev pub AskIsLatest : Type 0
 AskIsLatest =
     ((s : Session) → sound s ≡ true → asked s ≡ At (moment (latest s)))
-    × ((t : Table) (calls : List Call) → admissionOf t ≡ 0 → let s = after (openingOf t .session) calls in asked s ≡ At (moment (latest s)))
+    × ((t : Table) (s : Session) (calls : List Call) → NewlyOpened t s → let now = after s calls in asked now ≡ At (moment (latest now)))
 
 -- Two sessions that agree in the three numbers are told the same, sound or not.
 abbrev pub AskReadsThree : Type 0
@@ -192,8 +191,8 @@ TagsDecideNothing =
 -- So of whole runs: but for the last field, the printed lines are those of the same calls with no tag.
 abbrev pub TagsShowLast : Type 0
 TagsShowLast =
-    (t : Table) (calls : List Call) → admissionOf t ≡ 0
-    → let lines : List Call → List Line = λ ks. map untaggedLine (linesFrom 1 (openingOf t .session) ks) in
+    (t : Table) (s : Session) (calls : List Call) → NewlyOpened t s
+    → let lines : List Call → List Line = λ ks. map untaggedLine (linesFrom 1 s ks) in
     lines calls ≡ lines (map untaggedCall calls)
 
 -- "sent and done hand the tag back": a send tells stream, place and tag of the request that left its queue, as it had arrived; a completion tells the stream and the tag of the request that was at the disk; and no other reply has a tag.
@@ -205,9 +204,9 @@ pub record HandedBack (m : Moment) (earlier : List Moment) : Type 0 where
 -- So it is of each call of a run. And afterwards each stream has queued what arrived and was not sent, in order of arrival, each place with the tag that came with it; and what is at the disk is what was sent last and is not done.
 abbrev pub TagComesBack : Type 0
 TagComesBack =
-    (t : Table) (calls : List Call) → admissionOf t ≡ 0
-    → let now = after (openingOf t .session) calls in
-    let past = historyOf t calls in
+    (t : Table) (s : Session) (calls : List Call) → NewlyOpened t s
+    → let now = after s calls in
+    let past = historyOf s calls in
     ((i : ℕ) → i < t .count → queuedAt now i ≡ waiting i past)
     × (servedAt now ≡ atDisk past)
     × ((later : List Moment) (m : Moment) (earlier : List Moment) → later ++ (m ∷ earlier) ≡ past → HandedBack m earlier)

@@ -1,4 +1,5 @@
 -- Opening: a table that is admitted becomes a session.
+use mathlib.Core.Path.{_≡_}
 use Prim.Native.Nat.{ℕ}
 use lib.ListN.{replicate}
 use lib.Dec.{ltb, eqb}
@@ -72,3 +73,8 @@ openingOf t =
       session = if (eqb (admissionOf t) 0) (freshSession t) zeroSession;
       admission = answerOf t;
     }
+
+-- "Take a newly opened session": one that opening makes of a table which it admits. The promise, and every law of what calls come to, is of any such.
+pub record NewlyOpened (t : Table) (s : Session) : Type 0 where
+  pub admitted : admissionOf t ≡ 0
+  pub made : s ≡ openingOf t .session

@@ -4,13 +4,12 @@ use mathlib.Core.Bool.{true}
 use mathlib.Core.List.{List, _∷_, _++_}
 use Prim.Native.Nat.{ℕ, _+_, _/_, _≤_, _<_}
 use Rattle.table.specs.Fold.{if}
-use Rattle.table.specs.Admission.{admissionOf}
 use Rattle.table.specs.declared.Table.{Table}
 use Rattle.time.specs.Time.{moment, diskTime}
 use Rattle.session.specs.Session.{streamAt, sound}
 use Rattle.calls.specs.Replies.{numberOf}
 use Rattle.session.specs.Calls.{answerTo, after}
-use Rattle.session.specs.Opening.{openingOf}
+use Rattle.session.specs.Opening.{NewlyOpened}
 use Rattle.session.specs.History.{Moment, budgetOf, chargeOf, closes, completes, dueOf, expires, expiry, historyOf, sinceClosing, startOf, withinBounds}
 use Rattle.session.specs.declared.Session.{Session}
 use Rattle.calls.specs.declared.Call.{Call}
@@ -58,12 +57,12 @@ pub record OnTime (t : Table) (now : Session) (past : List Moment) : Type 0 wher
   pub open-jobs : (i : ℕ) → i < t .count → now .clock .0 ≤ streamAt now i .deadline .0
   pub closed-jobs : EachClosed t past (ClosedOnTime t)
 
--- The promise, which is demand 3: of any table that is admitted, and any calls, both.
+-- The promise, which is demand 3: of any session that is newly opened, with any table, and any calls, both.
 abbrev pub Promise : Type 0
 Promise =
-    (t : Table) (calls : List Call) → admissionOf t ≡ 0
-    → let now = after (openingOf t .session) calls in
-    let past = historyOf t calls in
+    (t : Table) (s : Session) (calls : List Call) → NewlyOpened t s
+    → let now = after s calls in
+    let past = historyOf s calls in
     Always t now past × (withinBounds past ≡ true → OnTime t now past)
 
 -- What the card can print of requests, within the bounds: the completions and the expired slots of a closed job come to at least ⌊g / W⌋. A channel that always has a request waiting loses no slot, and so has at least that many requests served for each of its periods, by the end of it. The proof is `requests-served` of proofs/Served.antt.
@@ -72,6 +71,6 @@ completion i m = if (completes i m) 1 0
 
 abbrev pub RequestsServed : Type 0
 RequestsServed =
-    (t : Table) (calls : List Call) → admissionOf t ≡ 0 → withinBounds (historyOf t calls) ≡ true
-    → EachClosed t (historyOf t calls)
+    (t : Table) (s : Session) (calls : List Call) → NewlyOpened t s → withinBounds (historyOf s calls) ≡ true
+    → EachClosed t (historyOf s calls)
     (λ i m earlier. budgetOf t i / t .worst ≤ sinceClosing completion i earlier + sinceClosing expiry i earlier)

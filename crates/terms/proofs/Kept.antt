@@ -12,12 +12,12 @@ use Rattle.terms.proofs.Laws.{nothing-cut}
 
 pub terms-are-kept : TermsAreKept
 unfolding termsOf
-terms-are-kept t calls admitted within later m earlier e i l closes =
-    let p = promise t calls admitted in
+terms-are-kept t s calls new within later m earlier e i l closes =
+    let p = promise t s calls new in
     let truly = p .0 .closed-jobs later m earlier e i l closes in
     let on-time = p .1 within .closed-jobs later m earlier e i l closes in
     record {
       in-time = omega (arith, on-time .in-time, truly .due);
-      more = omega (arith, on-time .more-than, nothing-is-carried t calls admitted (within-never (historyOf t calls) within .0) .1 later m earlier e i l closes .sum, nothing-cut (t .worst) (t .padding) (reservedAt t i));
-      served = requests-served t calls admitted within later m earlier e i l closes;
+      more = omega (arith, on-time .more-than, nothing-is-carried t s calls new (within-never (historyOf s calls) within .0) .1 later m earlier e i l closes .sum, nothing-cut (t .worst) (t .padding) (reservedAt t i));
+      served = requests-served t s calls new within later m earlier e i l closes;
     }

@@ -7,7 +7,9 @@ use Prim.Native.Nat.{ℕ, _+_, _-_, _≤_, _<_}
 use Rattle.table.specs.Admission.{reservedAt, periodAt, withReserved, grantedOf, partsRefusal, admissionOf}
 use Rattle.table.specs.Margin.{marginOf}
 use Rattle.table.specs.declared.Table.{Table}
+use Rattle.session.specs.declared.Session.{Session}
 use Rattle.calls.specs.declared.Call.{Call}
+use Rattle.session.specs.Opening.{NewlyOpened}
 use Rattle.session.specs.History.{Moment, historyOf, withinBounds, dueOf, addedOf, sinceClosing, expiry}
 use Rattle.session.specs.Promise.{completion, EachClosed}
 use Rattle.terms.specs.declared.Terms.{Terms}
@@ -49,8 +51,8 @@ pub record Kept (t : Table) (i : ℕ) (m : Moment) (earlier : List Moment) : Typ
   pub more : termsAt t i .above < addedOf t i earlier
   pub served : termsAt t i .requests ≤ sinceClosing completion i earlier + sinceClosing expiry i earlier
 
--- Of any table that is admitted and any calls within the bounds, every job that was closed keeps them.
+-- Of any session that is newly opened with a table, and any calls within the bounds, every job that was closed keeps them.
 abbrev pub TermsAreKept : Type 0
 TermsAreKept =
-    (t : Table) (calls : List Call) → admissionOf t ≡ 0 → withinBounds (historyOf t calls) ≡ true
-    → EachClosed t (historyOf t calls) (Kept t)
+    (t : Table) (s : Session) (calls : List Call) → NewlyOpened t s → withinBounds (historyOf s calls) ≡ true
+    → EachClosed t (historyOf s calls) (Kept t)

@@ -5,12 +5,11 @@ use mathlib.Core.List.{List, [], _∷_, map}
 use Prim.Native.Nat.{ℕ, zero, suc, _+_, _%_}
 use lib.ListN.{replicate}
 use lib.Dec.{eqb}
-use Rattle.table.specs.Admission.{admissionOf}
 use Rattle.table.specs.Fold.{if}
 use Rattle.table.specs.declared.Table.{Table}
 use Rattle.calls.specs.Replies.{numberOf, valueOf}
 use Rattle.session.specs.Calls.{answerTo, after}
-use Rattle.session.specs.Opening.{openingOf}
+use Rattle.session.specs.Opening.{openingOf, NewlyOpened}
 use Rattle.session.specs.Cases.{padded, table}
 use Rattle.session.specs.History.{Moment, historyFrom, historyOf, inBounds, withinBounds}
 use Rattle.session.specs.Promise.{OnTime}
@@ -40,8 +39,11 @@ callsFrom (suc n) s r =
     let a = answerTo s k in
     k ∷ callsFrom n (a .session) (a .reply)
 
+abbrev opened : Session
+opened = openingOf eight .session
+
 abbrev manyCalls : List Call
-manyCalls = callsFrom 240 (openingOf eight .session) (Reply.Refused 0)
+manyCalls = callsFrom 240 opened (Reply.Refused 0)
 
 -- the same run, made once for all that is asked of it: whether every answer was within bounds, and the deadlines afterwards
 abbrev deadlines : Session → List ℕ
@@ -71,25 +73,25 @@ ran-ends (suc n) within s r =
 abbrev closed : List ℕ
 closed = 90_000 ∷ 90_000 ∷ 100_000 ∷ 100_000 ∷ 90_000 ∷ 90_000 ∷ 120_000 ∷ 120_000 ∷ []
 
-ran : ranFrom 240 true (openingOf eight .session) (Reply.Refused 0) ≡ (true, closed)
+ran : ranFrom 240 true opened (Reply.Refused 0) ≡ (true, closed)
 unfolding rules padded nextCall ranFrom
 ran = refl
 
-admitted : admissionOf eight ≡ 0
+new : NewlyOpened eight opened
 unfolding rules padded
-admitted = refl
+new = record { admitted = refl; made = refl }
 
 none-past : withinBounds [] ≡ true
 unfolding withinBounds
 none-past = refl
 
-many-promised : OnTime eight (after (openingOf eight .session) manyCalls) (historyOf eight manyCalls)
+many-promised : OnTime eight (after opened manyCalls) (historyOf opened manyCalls)
 many-promised =
-    promise eight manyCalls admitted .1
-    (ran-within 240 [] (openingOf eight .session) (Reply.Refused 0)
-    ∙ ap (λ (within : Bool). ranFrom 240 within (openingOf eight .session) (Reply.Refused 0) .0) none-past
+    promise eight opened manyCalls new .1
+    (ran-within 240 [] opened (Reply.Refused 0)
+    ∙ ap (λ (within : Bool). ranFrom 240 within opened (Reply.Refused 0) .0) none-past
     ∙ ap (λ (b : Bool × List ℕ). b .0) ran)
 
 -- the deadlines afterwards show how many jobs were closed: 8, 8, 4, 4, 2, 2, 1 and 1
-many-closed : deadlines (after (openingOf eight .session) manyCalls) ≡ closed
-many-closed = ran-ends 240 true (openingOf eight .session) (Reply.Refused 0) ∙ ap (λ (b : Bool × List ℕ). b .1) ran
+many-closed : deadlines (after opened manyCalls) ≡ closed
+many-closed = ran-ends 240 true opened (Reply.Refused 0) ∙ ap (λ (b : Bool × List ℕ). b .1) ran

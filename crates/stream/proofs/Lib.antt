@@ -8,4 +8,4 @@ pub mod Fits
 pub mod Best
 pub mod Ranks
 pub mod First
-pub mod Nearest
+pub mod Leading

@@ -1,4 +1,4 @@
--- Orders by which one index goes before another: by a number, by an exact fraction, and by one of these and then the other.
+-- Orders by which one index goes before another: by a number, by a place, by an exact fraction, and by one of these and then another.
 use mathlib.Core.Bool.{Bool, true, false, _&&_, _||_, false≢true}
 use mathlib.Core.Path.{_≡_, refl, sym}
 use Prim.Native.Nat.{ℕ, _*_, _≤_, _<_}
@@ -7,6 +7,9 @@ use native.Mathlib.Omega.{arith}
 use lib.Dec.{ltb, eqb}
 use borrow.Author.Tests.{ltb-false, eqb-true, le-ltb, eq-eqb}
 use Rattle.table.proofs.Tests.{less-once, less-on}
+use Rattle.order.specs.Order.{goesBefore}
+use Rattle.order.specs.declared.Order.{Order}
+use Rattle.order.proofs.Orders.{places-are-ordered}
 use Rattle.time.specs.Exact.{Fraction, less, same}
 
 -- of two indices below n at most one goes before the other; and where a does not go before b, nor b before c, a does not go before c
@@ -40,6 +43,14 @@ module _ (f : ℕ → ℕ) (n : ℕ) where
   pub number-ties : Ties (λ a b. ltb (f a) (f b)) (λ a b. eqb (f a) (f b)) n
   number-ties =
       record { alike-if = λ {a} {b} la lb. equal-if (f a) (f b); only-if = λ {a} {b} la lb. equal-only (f a) (f b) }
+
+-- by their places, in either order
+pub place-ranks : (order : Order) (head : ℕ) (f : ℕ → ℕ) (n : ℕ) → Ranks (λ a b. goesBefore order head (f a) (f b)) n
+place-ranks order head f n =
+    record {
+      one-way = λ {a} {b} la lb. places-are-ordered order head (f a) (f b) .0;
+      onward = λ {a} {b} {c} la lb lc. places-are-ordered order head (f a) (f b) .1 (f c);
+    }
 
 -- where the second fraction is at most the first and the third at most the second, the third is at most the first
 cross : (x g y h z k : ℕ) → 1 ≤ h → y * g ≤ x * h → z * h ≤ y * k → z * g ≤ x * k

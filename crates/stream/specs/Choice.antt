@@ -1,7 +1,7 @@
 -- How one request is chosen before another, and one stream before another, whatever session they are of.
 use mathlib.Core.Bool.{Bool, true, not, _&&_, _||_}
 use mathlib.Core.List.{List}
-use Prim.Native.Nat.{ℕ, zero, suc, _+_, _-_, _*_}
+use Prim.Native.Nat.{ℕ, zero, suc, _+_, _*_}
 use lib.ListN.{getD}
 use lib.Dec.{ltb}
 use Rattle.table.specs.Fold.{if}
@@ -15,14 +15,9 @@ firstBest passes beats (suc n) =
     let best = firstBest passes beats n in
     if (passes n && (not (passes best) || beats n best)) n best
 
--- how far a place is from the head, over all 64 bits
-unfoldable pub distance : ℕ → ℕ → ℕ
-distance head place = if (ltb head place) (place - head) (head - place)
-
--- of the first m places of a queue "the place nearest the head; ties go to [...] the earlier arrival"
-unfoldable pub nearest : ℕ → List ℕ → ℕ → ℕ
-nearest head places m =
-    firstBest (λ j. true) (λ a b. ltb (distance head (getD places a 0)) (distance head (getD places b 0))) m
+-- Of the first m places of a queue the one that goes first, by whichever comparison of places: "ties go to [...] the earlier arrival". Which comparisons there are, `goesBefore` of `order` says.
+unfoldable pub leading : (ℕ → ℕ → Bool) → List ℕ → ℕ → ℕ
+leading before places m = firstBest (λ j. true) (λ a b. before (getD places a 0) (getD places b 0)) m
 
 -- "r + c × p / g", where the micro-deadlines of a stream start: a fraction, never rounded
 abbrev pub expiryOf : Stream → Fraction

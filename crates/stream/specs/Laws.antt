@@ -7,9 +7,11 @@ use Prim.Native.Nat.{ℕ, suc, _+_, _-_, _*_, _≤_, _<_}
 use lib.ListN.{getD}
 use lib.Dec.{leb}
 use Rattle.table.specs.Fold.{countTo}
+use Rattle.order.specs.Order.{goesBefore}
+use Rattle.order.specs.declared.Order.{Order}
 use Rattle.time.specs.declared.Clock.{Clock}
 use Rattle.stream.specs.Stream.{slots, microDeadline, shifted, charged, closed, freshStream, unusedStream}
-use Rattle.stream.specs.Choice.{distance, nearest}
+use Rattle.stream.specs.Choice.{leading}
 use Rattle.stream.specs.declared.Stream.{Stream}
 
 -- "Slots of a stream: the number s of whole n ≥ 1 with (c + n × W) × p ≤ (h − r) × g": counted among 1, .., m, for any m that is large enough.
@@ -53,11 +55,12 @@ GoesFirst has before n first =
     × (1 ≤ has first)
     × ((i : ℕ) → i < n → 1 ≤ has i → (before i first ≡ false) × (i < first → before first i ≡ true))
 
--- Of the first m places of a queue the nearest goes first: none of them is nearer the head, and each earlier one is further from it.
-abbrev pub NearestIsFirst : Type 0
-NearestIsFirst =
-    (head : ℕ) (places : List ℕ) (m j : ℕ) → j < m
-    → let first = nearest head places m in
+-- Of the first m places of a queue the leading one goes first, in either order and wherever the head is: none of them goes before it, and it goes before each earlier one, so that of equals the earliest is taken.
+abbrev pub LeadingIsFirst : Type 0
+LeadingIsFirst =
+    (order : Order) (head : ℕ) (places : List ℕ) (m j : ℕ) → j < m
+    → let before = goesBefore order head in
+    let first = leading before places m in
     (first < m)
-    × (distance head (getD places first 0) ≤ distance head (getD places j 0))
-    × (j < first → distance head (getD places first 0) < distance head (getD places j 0))
+    × (before (getD places j 0) (getD places first 0) ≡ false)
+    × (j < first → before (getD places first 0) (getD places j 0) ≡ true)

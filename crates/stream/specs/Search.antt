@@ -13,10 +13,10 @@ use Rattle.table.specs.Margin.{lessLoad}
 use Rattle.time.specs.Time.{moment, diskTime, parts-max}
 use Rattle.time.specs.declared.Clock.{Clock}
 use Rattle.stream.specs.Stream.{filled, partOf, soundStream}
-use Rattle.stream.specs.Choice.{distance, nearest}
+use Rattle.stream.specs.Choice.{leading}
 use Rattle.stream.specs.declared.census.Census.{Census}
 use Rattle.stream.specs.declared.sums.Sums.{Sums}
-use Rattle.stream.specs.declared.choice.Near.{Near}
+use Rattle.stream.specs.declared.choice.Lead.{Lead}
 use Rattle.stream.specs.declared.choice.Pick.{Pick}
 use Rattle.stream.specs.declared.Stream.{Stream}
 
@@ -120,20 +120,19 @@ pub record Judgeable (c : Census) : Type 0 where
   pub countable : Countable c
   pub least-low : 0 < c .least
 
--- the nearest of the first m places of a queue, and one step of the search for it: of equals the first stays
-abbrev pub near : ℕ → List ℕ → ℕ → Near
-near head places m =
-    record { index = nearest head places m; distance = distance head (getD places (nearest head places m) 0) }
+-- the request that goes first of the first m of a queue, and one step of the search for it: of equals the first stays
+abbrev pub lead : (ℕ → ℕ → Bool) → List ℕ → ℕ → Lead
+lead before places m = record { index = leading before places m; place = getD places (leading before places m) 0 }
 
-unfoldable pub nearer : Near → ℕ → ℕ → Near
-nearer best j far = if (ltb far (best .distance)) (record { index = j; distance = far }) best
+unfoldable pub foremost : (ℕ → ℕ → Bool) → Lead → ℕ → ℕ → Lead
+foremost before best j place = if (before place (best .place)) (record { index = j; place = place }) best
 
 -- one step of the search for the request to send: a stream with no filled slot changes nothing, and of equals the first stays
-unfoldable pub considered : ℕ → ℕ → ℕ → Pick → Stream → ℕ → Pick
-considered worst h head best x i =
-    let request = near head (x .places) (filled worst h x) in
+unfoldable pub considered : ℕ → ℕ → (ℕ → ℕ → Bool) → Pick → Stream → ℕ → Pick
+considered worst h before best x i =
+    let request = lead before (x .places) (filled worst h x) in
     let sooner = ltb (x .deadline .0) (best .deadline .0) in
     let alike = eqb (x .deadline .0) (best .deadline .0) in
     if (eqb (filled worst h x) 0) best
-    (if (best .found && not (sooner || (alike && ltb (request .distance) (best .distance)))) best
-    (record { found = true; stream = i; index = request .index; deadline = x .deadline; distance = request .distance }))
+    (if (best .found && not (sooner || (alike && before (request .place) (best .place)))) best
+    (record { found = true; stream = i; index = request .index; deadline = x .deadline; place = request .place }))

@@ -16,9 +16,9 @@ returns : tie.Need-returns
 unfolding considered if
 returns c = rw (eq-eqb _ _ (sym (c .before .filled .ensures) ∙ c .if1 .taken))
 
-nearest-requires : tie.Need-nearest-requires
+leading-requires : tie.Need-leading-requires
 unfolding filled
-nearest-requires c κs = rw (c .before .before .filled .ensures) (omega (arith, c .before .before .before .pre))
+leading-requires c κs = rw (c .before .before .filled .ensures) (omega (arith, c .before .before .before .pre))
 
 is-after-requires : tie.Need-is-after-requires
 is-after-requires c κs = search needs
@@ -26,17 +26,30 @@ is-after-requires c κs = search needs
 is-requires : tie.Need-is-requires
 is-requires c κs = search needs
 
+goes-before-requires : tie.Need-goes-before-requires
+goes-before-requires c κs = search needs
+
 returns-2 : tie.Need-returns-2
 unfolding considered if
 returns-2 c =
-    let test = rw (c .before .before .before .before .before .is-after .ensures, c .before .before .before .before .is .ensures, c .before .before .before .before .before .before .before .nearest .ensures, c .before .before .before .before .before .before .before .before .before .before .filled .ensures) at (c .if2 .taken) in
-    rw (ne-eqb _ _ (λ e. c .before .before .before .before .before .before .before .before .before .if1 .left (c .before .before .before .before .before .before .before .before .before .before .filled .ensures ∙ e)), test)
+    let here = c .before .before in
+    let compared = here .before .before in
+    let led = compared .before .before in
+    let some = led .before .before in
+    let slots = some .before .filled .ensures in
+    let test = rw (here .goes-before .ensures, here .before .is .ensures, compared .is-after .ensures, led .leading .ensures, slots) at (c .if2 .taken) in
+    rw (ne-eqb _ _ (λ e. some .if1 .left (slots ∙ e)), test)
 
 returns-3 : tie.Need-returns-3
 unfolding considered if
 returns-3 c =
-    let test = rw (c .before .before .before .before .before .is-after .ensures, c .before .before .before .before .is .ensures, c .before .before .before .before .before .before .before .nearest .ensures, c .before .before .before .before .before .before .before .before .before .before .filled .ensures) at (c .if2 .left) in
-    rw (c .before .before .before .before .before .before .before .nearest .ensures, c .before .before .before .before .before .before .before .before .before .before .filled .ensures, ne-eqb _ _ (λ e. c .before .before .before .before .before .before .before .before .before .if1 .left (c .before .before .before .before .before .before .before .before .before .before .filled .ensures ∙ e)), test)
+    let here = c .before .before in
+    let compared = here .before .before in
+    let led = compared .before .before in
+    let some = led .before .before in
+    let slots = some .before .filled .ensures in
+    let test = rw (here .goes-before .ensures, here .before .is .ensures, compared .is-after .ensures, led .leading .ensures, slots) at (c .if2 .left) in
+    rw (led .leading .ensures, slots, ne-eqb _ _ (λ e. some .if1 .left (slots ∙ e)), test)
 
 pub consider-spec : {M : Type 1} → statement M
 consider-spec =
@@ -44,8 +57,9 @@ consider-spec =
     (tie.spec
     filled-requires
     returns
-    nearest-requires
+    leading-requires
     is-after-requires
     is-requires
+    goes-before-requires
     returns-2
     returns-3)

@@ -100,6 +100,14 @@ places-are-ordered Sweep head a b = (
   λ c h k. not-swept head a c (swept-on head a b c (swept-not head a b h) (swept-not head b c k)),
 )
 
+-- no place goes before itself
+pub alike : (o : Order) (head a : ℕ) → goesBefore o head a a ≡ false
+alike o head a = go (goesBefore o head a a) refl
+  where
+    go : (b : Bool) → goesBefore o head a a ≡ b → goesBefore o head a a ≡ false
+    go true e = places-are-ordered o head a a .0 e
+    go false e = e
+
 pub nearest-taken : NearestTaken
 nearest-taken head taken b h = ltb-false (distance head b) (distance head taken) h
 

@@ -12,7 +12,7 @@ use Rattle.time.specs.Time.{session-end, duration-max, moment}
 use Rattle.stream.specs.Stream.{queue-max, filled}
 use Rattle.session.specs.Session.{streamAt, slotsAt, filledAt, someFilled, noSlot, latest, sound}
 use Rattle.stream.specs.Choice.{firstBest}
-use Rattle.session.specs.Choice.{nearestAt, sentBefore, chosen}
+use Rattle.session.specs.Choice.{leadingAt, sentBefore, chosen}
 use Rattle.session.specs.Calls.{Verdict, refuse, append, send, move, wait, expire, finish, set-clock, noSuchStream, busy, movePassesEnd, callRefusal, refusal, turnEffect, effect, ruled, verdict, apply, outcome, answerTo}
 use Rattle.session.specs.Inner.{surveyOf}
 use Rattle.session.specs.Laws.{PresentTimeChangesNothing}
@@ -88,7 +88,7 @@ module _ {s : Session} (idle : Idle s) where
   unrefused e = accepted s Call.Turn (idle .ok) (rw (eq-eqb _ _ (idle .rests), e))
 
   -- a. some slot is filled
-  pub turn-sends : (i j : ℕ) → i ≡ chosen s → j ≡ nearestAt s (chosen s) → someFilled s ≡ true → verdict s Call.Turn ≡ send i j
+  pub turn-sends : (i j : ℕ) → i ≡ chosen s → j ≡ leadingAt s (chosen s) → someFilled s ≡ true → verdict s Call.Turn ≡ send i j
   unfolding turnEffect if
   turn-sends i j stream-is index-is some = unrefused (rw (filled-has-slot s some)) ∙ rw (some, stream-is, index-is)
 

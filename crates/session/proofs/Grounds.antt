@@ -12,12 +12,12 @@ use Rattle.table.proofs.Folds.{some-none, some-positive}
 use Rattle.time.specs.Time.{session-end, duration-max}
 use Rattle.stream.specs.Stream.{queue-max}
 use Rattle.session.specs.Session.{streamAt, horizon, slotsAt, filledAt, someFilled, noSlot, latest, soundDisk}
-use Rattle.session.specs.Choice.{nearestAt, chosen, sentBefore, expiring, expiresBefore}
+use Rattle.session.specs.Choice.{takenBefore, leadingAt, chosen, sentBefore, expiring, expiresBefore}
 use Rattle.session.specs.Calls.{Verdict, refuse, append, send, move, wait, expire, finish, set-clock, noSuchStream, busy, movePassesEnd, callRefusal, refusal, turnEffect, effect, ruled, verdict}
 use Rattle.session.specs.declared.Session.{Session}
 use Rattle.calls.specs.declared.Call.{Call}
 use Rattle.stream.proofs.Best.{best-positive}
-use Rattle.stream.proofs.Nearest.{nearest-in}
+use Rattle.stream.proofs.Leading.{leading-in}
 use Rattle.session.proofs.Sound.{Sound, of-sound}
 
 -- of a refusal: it is not 31. Of an effect: its stream exists, the disk is as the call asks, and nothing passes its bound.
@@ -72,14 +72,14 @@ pub served-in : (s : Session) → Sound s → (s .served ≡ 0 → ⊥) → (1 �
 served-in s q at-disk = let high = served-of s (q .fit .disk) at-disk .0 in (omega arith, omega arith)
 
 -- the stream that a turn serves has a filled slot
-pub chosen-grounds : (s : Session) → s .served ≡ 0 → someFilled s ≡ true → Grounds s (send (chosen s) (nearestAt s (chosen s)))
+pub chosen-grounds : (s : Session) → s .served ≡ 0 → someFilled s ≡ true → Grounds s (send (chosen s) (leadingAt s (chosen s)))
 unfolding someFilled chosen
 chosen-grounds s idle some =
     let best = best-positive (filledAt s) (sentBefore s) (s .count) some in
     record {
       idle = idle;
       exists = best .0;
-      inSet = nearest-in (s .head) (streamAt s (chosen s) .places) (filledAt s (chosen s)) (best .1);
+      inSet = leading-in (takenBefore s) (streamAt s (chosen s) .places) (filledAt s (chosen s)) (best .1);
     }
 
 -- the stream that loses one has a slot

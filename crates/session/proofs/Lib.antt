@@ -32,7 +32,6 @@ pub mod Requests
 pub mod HandedBack
 pub mod Untagged
 pub mod PromiseMet
-pub mod Parameters
 pub mod Lending
 pub mod Answering
 pub mod Dues

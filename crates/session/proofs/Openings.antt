@@ -21,13 +21,14 @@ use Rattle.table.proofs.Folds.{sum-agree, sum-scaled, sum-none, smallest-agree,
 use Rattle.table.proofs.Whole.{less-left}
 use Rattle.table.proofs.Lists.{length-listTo, getD-listTo}
 use Rattle.table.proofs.Judged.{Admits, admits-of, load-alike, admits-alike}
+use Rattle.order.specs.declared.Order.{Order}
 use Rattle.time.specs.Time.{parts-max}
 use Rattle.stream.specs.Stream.{partOf, soundRow, soundQueue, unusedStream, zeroJob, freshStream}
 use Rattle.session.specs.Session.{noStream, streamAt, horizon, scaledPart, remaindersOf, tableOf, soundDisk, sound}
 use Rattle.calls.specs.Replies.{numberOf}
 use Rattle.session.specs.Calls.{Verdict, refuse, append, send, move, wait, expire, finish, set-clock, verdict, apply, replyTo, answerTo, after}
 use Rattle.session.specs.Opening.{openedStream, openedSession, freshSession, openingOf, NewlyOpened}
-use Rattle.session.specs.Laws.{OpeningIsSound, NeverUnsound, AskIsLatest, MarginIsKept}
+use Rattle.session.specs.Laws.{OpeningIsSound, NeverUnsound, AskIsLatest, MarginIsKept, OrderIsKept}
 use Rattle.stream.specs.declared.Stream.{Stream}
 use Rattle.session.specs.declared.Session.{Session}
 use Rattle.calls.specs.declared.Call.{Call}
@@ -43,76 +44,76 @@ use Rattle.session.proofs.Keeps.{calls-keep-sound}
 covered : (h shares w q span : ℕ) → q * h ≡ span → h * (shares + w * q) ≡ h * shares + w * span
 covered h shares w q span whole = omega (arith, ap (λ (z : ℕ). w * z) whole)
 
-module _ (t : Table) (admitted : admissionOf t ≡ 0) where
+module _ (t : Table) (order : Order) (admitted : admissionOf t ≡ 0) where
   abbrev judged : Admits t
   judged = admits-of t admitted
 
   -- the stream at i, for each of the eight
-  opened-at : (i : ℕ) → i < streams-max → streamAt (openedSession t) i ≡ openedStream t i
+  opened-at : (i : ℕ) → i < streams-max → streamAt (openedSession t order) i ≡ openedStream t i
   opened-at i l = getD-listTo (openedStream t) noStream streams-max i l
 
   -- those below the count hold their reservations
   held-at : (i : ℕ) → i < t .count
-      → streamAt (openedSession t) i ≡ freshStream (reservedAt t i) (periodAt t i) (grantedOf (t .worst) (t .padding) (reservedAt t i))
+      → streamAt (openedSession t order) i ≡ freshStream (reservedAt t i) (periodAt t i) (grantedOf (t .worst) (t .padding) (reservedAt t i))
   unfolding openedStream if
   held-at i l = opened-at i (omega (arith, judged .numbers .count-high)) ∙ rw (lt-ltb i (t .count) l)
 
   -- and are in order
-  order-at : (h i : ℕ) → i < t .count → InOrder (t .worst) (t .padding) h (streamAt (openedSession t) i)
+  order-at : (h i : ℕ) → i < t .count → InOrder (t .worst) (t .padding) h (streamAt (openedSession t order) i)
   order-at h i l =
       rw (held-at i l) (fresh-order (t .worst) (t .padding) h (reservedAt t i) (periodAt t i) (omega (arith, judged .each i l .period-high)))
 
   -- the table of the session is the one that was admitted, as far as it is used
-  cell : (f : Stream → ℕ) (i : ℕ) → i < t .count → getD (map f (openedSession t .streams)) i (f noStream)
+  cell : (f : Stream → ℕ) (i : ℕ) → i < t .count → getD (map f (openedSession t order .streams)) i (f noStream)
       ≡ f (freshStream (reservedAt t i) (periodAt t i) (grantedOf (t .worst) (t .padding) (reservedAt t i)))
-  cell f i l = List·getD-map f (openedSession t .streams) i noStream ∙ ap f (held-at i l)
+  cell f i l = List·getD-map f (openedSession t order .streams) i noStream ∙ ap f (held-at i l)
 
-  fresh-admitted : admissionOf (tableOf (openedSession t)) ≡ 0
+  fresh-admitted : admissionOf (tableOf (openedSession t order)) ≡ 0
   unfolding freshStream
   fresh-admitted =
-      admits-alike t (tableOf (openedSession t) .reserved) (tableOf (openedSession t) .period) admitted
+      admits-alike t (tableOf (openedSession t order) .reserved) (tableOf (openedSession t order) .period) admitted
       (cell (λ x. x .reserved))
       (cell (λ x. x .period))
 
   -- and so its margin is that
-  fresh-margin : marginOf t ≡ marginOf (tableOf (openedSession t))
+  fresh-margin : marginOf t ≡ marginOf (tableOf (openedSession t order))
   unfolding marginOf freshStream
   fresh-margin =
       ap (lessLoad (t .span))
       (sym
-      (load-alike t (tableOf (openedSession t) .reserved) (tableOf (openedSession t) .period) admitted
+      (load-alike t (tableOf (openedSession t order) .reserved) (tableOf (openedSession t order) .period) admitted
       (cell (λ x. x .reserved))
       (cell (λ x. x .period))))
 
   -- the others are 0
-  fresh-others : (i : ℕ) → t .count ≤ i → i < streams-max → unusedStream (streamAt (openedSession t) i) ≡ true
+  fresh-others : (i : ℕ) → t .count ≤ i → i < streams-max → unusedStream (streamAt (openedSession t order) i) ≡ true
   unfolding openedStream freshStream unusedStream zeroJob soundRow soundQueue allTo if
   fresh-others i past l = rw (opened-at i l, le-ltb i (t .count) past)
 
   -- the session of an admitted table is sound once it looks ahead
-  pub opened-fit : Fit (openedSession t)
+  pub opened-fit : Fit (openedSession t order)
   unfolding soundDisk if
   opened-fit =
       record {
-        used = record { admitted = fresh-admitted; margin-is = fresh-margin; each = order-at (horizon (openedSession t)) };
+        used = record { admitted = fresh-admitted; margin-is = fresh-margin; each = order-at (horizon (openedSession t order)) };
         eight = length-listTo (openedStream t) streams-max;
         others = fresh-others;
         clock-high = omega arith;
         disk = refl;
       }
 
-  fresh-sound : Sound (freshSession t)
+  fresh-sound : Sound (freshSession t order)
   unfolding freshSession
-  fresh-sound = looking-ahead (openedSession t) opened-fit
+  fresh-sound = looking-ahead (openedSession t order) opened-fit
 
   -- nothing is charged yet, so that the sum of its remainders is the horizon times the shares: the load, less W for each of the shortest periods, of which the horizon is one
   abbrev first : ℕ
-  first = horizon (openedSession t)
+  first = horizon (openedSession t order)
 
   first-is : first ≡ smallestPeriod t
   unfolding horizon smallestPeriod freshStream
   first-is =
-      smallest-agree (λ i. streamAt (openedSession t) i .deadline .0) (periodAt t) (t .count) (judged .numbers .count-low)
+      smallest-agree (λ i. streamAt (openedSession t order) i .deadline .0) (periodAt t) (t .count) (judged .numbers .count-low)
       (λ i l. ap (λ (x : Stream). x .deadline .0) (held-at i l))
 
   first-divides : t .span / first * first ≡ t .span
@@ -122,17 +123,17 @@ module _ (t : Table) (admitted : admissionOf t ≡ 0) where
       (smallest-is (λ (d : ℕ). t .span / d * d ≡ t .span) (periodAt t) (t .count) (judged .numbers .count-low)
       (λ i l. omega (arith, div-add-mod' (t .span) (periodAt t i), judged .each i l .divides)))
 
-  parts-are : sumTo (scaledPart (openedSession t)) (t .count) ≡ first * sharesOf t
+  parts-are : sumTo (scaledPart (openedSession t order)) (t .count) ≡ first * sharesOf t
   unfolding sharesOf shareOf freshStream
   parts-are =
-      sum-agree (scaledPart (openedSession t)) (λ i. first * shareAt t i) (t .count)
+      sum-agree (scaledPart (openedSession t order)) (λ i. first * shareAt t i) (t .count)
       (λ i l.
       ap (partOf (t .span) first) (held-at i l)
       ∙ mul-assoc (first - 0) (grantedOf (t .worst) (t .padding) (reservedAt t i)) (t .span / periodAt t i)
       ∙ ap (λ (n : ℕ). n * shareAt t i) (let none : first - 0 ≡ first = omega arith in none))
       ∙ sum-scaled first (shareAt t) (t .count)
 
-  charges-are : sumTo (λ i. streamAt (openedSession t) i .charge .0) (t .count) ≡ 0
+  charges-are : sumTo (λ i. streamAt (openedSession t order) i .charge .0) (t .count) ≡ 0
   unfolding freshStream
   charges-are = sum-none _ (t .count) (λ i l. ap (λ (x : Stream). x .charge .0) (held-at i l))
 
@@ -142,14 +143,14 @@ module _ (t : Table) (admitted : admissionOf t ≡ 0) where
       ap (λ (d : ℕ). first * (sharesOf t + t .worst * (t .span / d))) (sym first-is)
       ∙ covered first (sharesOf t) (t .worst) (t .span / first) (t .span) first-divides
 
-  pub opened-sum : pos (first * loadOf t) -ℤ pos (t .worst * t .span) ≡ remaindersOf (openedSession t)
+  pub opened-sum : pos (first * loadOf t) -ℤ pos (t .worst * t .span) ≡ remaindersOf (openedSession t order)
   opened-sum =
       let blocking = t .worst * t .span in
       let left : first * loadOf t - blocking ≡ first * sharesOf t - 0 = omega (arith, load-covers) in
-      let charged : sumTo (λ i. streamAt (openedSession t) i .charge .0) (t .count) * t .span ≡ 0 = ap (λ (n : ℕ). n * t .span) charges-are ∙ omega arith in
+      let charged : sumTo (λ i. streamAt (openedSession t order) i .charge .0) (t .count) * t .span ≡ 0 = ap (λ (n : ℕ). n * t .span) charges-are ∙ omega arith in
       less-left (first * loadOf t) blocking (omega (arith, load-covers))
       ∙ ap pos left
-      ∙ sym (remainders-split (openedSession t) ∙ ap₂ (λ (n m : ℕ). pos n -ℤ pos m) parts-are charged ∙ less-left (first * sharesOf t) 0 (omega arith))
+      ∙ sym (remainders-split (openedSession t order) ∙ ap₂ (λ (n m : ℕ). pos n -ℤ pos m) parts-are charged ∙ less-left (first * sharesOf t) 0 (omega arith))
 
   -- what the margin leaves is the load, and these numbers are small
   pub margin-left : aboveZero (marginOf t) ≡ t .span - loadOf t
@@ -180,9 +181,9 @@ pub record Begun (t : Table) (s : Session) : Type 0 where
   pub each : (i : ℕ) → i < t .count → streamAt s i ≡ freshStream (reservedAt t i) (periodAt t i) (grantedOf (t .worst) (t .padding) (reservedAt t i))
   pub orderly : Sound s
 
-fresh-begun : (t : Table) → admissionOf t ≡ 0 → Begun t (freshSession t)
+fresh-begun : (t : Table) (order : Order) → admissionOf t ≡ 0 → Begun t (freshSession t order)
 unfolding freshSession
-fresh-begun t admitted =
+fresh-begun t order admitted =
     record {
       worst-is = refl;
       span-is = refl;
@@ -193,14 +194,14 @@ fresh-begun t admitted =
       served-is = refl;
       place-is = refl;
       tag-is = refl;
-      each = held-at t admitted;
-      orderly = fresh-sound t admitted;
+      each = held-at t order admitted;
+      orderly = fresh-sound t order admitted;
     }
 
 -- opening makes that session where the table is admitted
 pub begun : (t : Table) (s : Session) → NewlyOpened t s → Begun t s
 unfolding openingOf if
-begun t s new = rw (new .made, eq-eqb (admissionOf t) 0 (new .admitted)) (fresh-begun t (new .admitted))
+begun t s new = rw (new .made, eq-eqb (admissionOf t) 0 (new .admitted)) (fresh-begun t (new .order) (new .admitted))
 
 opened-sound : (t : Table) (s : Session) → NewlyOpened t s → sound s ≡ true
 opened-sound t s new = of-sound s (begun t s new .orderly)
@@ -243,6 +244,22 @@ margin-after : (s : Session) (ks : List Call) → after s ks .margin ≡ s .marg
 unfolding after
 margin-after s [] = refl
 margin-after s (k ∷ ks) = margin-after (answerTo s k .session) ks ∙ call-keeps-margin s k
+
+-- and the order
+order-stays : (s : Session) (v : Verdict) → apply s v .order ≡ s .order
+unfolding apply
+order-stays s (refuse n) = refl
+order-stays s (append i place tag) = refl
+order-stays s (send i j) = refl
+order-stays s move = refl
+order-stays s wait = refl
+order-stays s (expire i) = refl
+order-stays s (finish i a) = refl
+order-stays s (set-clock t) = refl
+
+pub order-is-kept : OrderIsKept
+unfolding answerTo
+order-is-kept s k = order-stays s (verdict s k)
 
 pub margin-is-kept : MarginIsKept
 margin-is-kept = (

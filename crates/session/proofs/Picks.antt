@@ -9,8 +9,8 @@ use borrow.Author.Tests.{eq-eqb, ne-eqb, le-leb, lt-leb}
 use Rattle.table.specs.Fold.{if, someTo}
 use Rattle.time.specs.Time.{moment}
 use Rattle.session.specs.Session.{streamAt, horizon, filledAt, someFilled}
-use Rattle.stream.specs.Choice.{firstBest, distance}
-use Rattle.session.specs.Choice.{nearestAt, distanceAt, sentBefore, chosen}
+use Rattle.stream.specs.Choice.{firstBest}
+use Rattle.session.specs.Choice.{takenBefore, leadingAt, leadingPlace, sentBefore, chosen}
 use Rattle.stream.specs.Search.{considered}
 use Rattle.time.specs.declared.Clock.{Clock}
 use Rattle.stream.specs.declared.choice.Pick.{Pick}
@@ -22,8 +22,8 @@ pub record Picked (s : Session) (i : ℕ) (p : Pick) : Type 0 where
   pub found : p .found ≡ someTo (λ j. leb 1 (filledAt s j)) i
   pub stream : p .stream ≡ firstBest (λ j. leb 1 (filledAt s j)) (sentBefore s) i
   pub due : p .found ≡ true → p .deadline .0 ≡ streamAt s (p .stream) .deadline .0
-  pub index : p .found ≡ true → p .index ≡ nearestAt s (p .stream)
-  pub far : p .found ≡ true → p .distance ≡ distanceAt s (p .stream)
+  pub index : p .found ≡ true → p .index ≡ leadingAt s (p .stream)
+  pub place : p .found ≡ true → p .place ≡ leadingPlace s (p .stream)
 
 module _ (s : Session) (i : ℕ) (p : Pick) (q : Picked s i p) where
   abbrev passes : ℕ → Bool
@@ -32,10 +32,10 @@ module _ (s : Session) (i : ℕ) (p : Pick) (q : Picked s i p) where
   -- the request of stream i that would be sent
   abbrev request : Pick
   request =
-      record { found = true; stream = i; index = nearestAt s i; deadline = streamAt s i .deadline; distance = distanceAt s i }
+      record { found = true; stream = i; index = leadingAt s i; deadline = streamAt s i .deadline; place = leadingPlace s i }
 
   abbrev next : Pick
-  next = considered (s .worst) (horizon s) (s .head) p (streamAt s i) i
+  next = considered (s .worst) (horizon s) (takenBefore s) p (streamAt s i) i
 
   -- a stream with no filled slot changes nothing
   stays : filledAt s i ≡ 0 → Picked s (suc i) next
@@ -48,7 +48,7 @@ module _ (s : Session) (i : ℕ) (p : Pick) (q : Picked s i p) where
         stream = q .stream ∙ sym (best-skips passes (sentBefore s) i fails);
         due = q .due;
         index = q .index;
-        far = q .far;
+        place = q .place;
       })
 
   module _ (some : filledAt s i ≡ 0 → ⊥) where
@@ -64,7 +64,7 @@ module _ (s : Session) (i : ℕ) (p : Pick) (q : Picked s i p) where
           stream = sym e;
           due = λ f. refl;
           index = λ f. refl;
-          far = λ f. refl;
+          place = λ f. refl;
         }
 
     -- else the best stays
@@ -76,7 +76,7 @@ module _ (s : Session) (i : ℕ) (p : Pick) (q : Picked s i p) where
           stream = q .stream ∙ sym e;
           due = q .due;
           index = q .index;
-          far = q .far;
+          place = q .place;
         }
 
     starts : p .found ≡ false → Picked s (suc i) next
@@ -92,10 +92,10 @@ module _ (s : Session) (i : ℕ) (p : Pick) (q : Picked s i p) where
 
     -- the best stays exactly if stream i does not go first
     test : p .found ≡ true
-        → (p .found && not (ltb (streamAt s i .deadline .0) (p .deadline .0) || (eqb (streamAt s i .deadline .0) (p .deadline .0) && ltb (distanceAt s i) (p .distance))))
+        → (p .found && not (ltb (streamAt s i .deadline .0) (p .deadline .0) || (eqb (streamAt s i .deadline .0) (p .deadline .0) && takenBefore s (leadingPlace s i) (p .place))))
         ≡ not (sentBefore s i (p .stream))
     unfolding sentBefore
-    test f = rw (f, q .due f, q .far f)
+    test f = rw (f, q .due f, q .place f)
 
     meets : p .found ≡ true → (t : Bool) → sentBefore s i (p .stream) ≡ t → Picked s (suc i) next
     unfolding considered if
@@ -111,7 +111,7 @@ module _ (s : Session) (i : ℕ) (p : Pick) (q : Picked s i p) where
       go (suc m) e false ef = starts (λ z. omega (arith, e)) ef
 
   -- one stream further, by the horizon that is kept
-  pub picked-more : (h : Clock) (more : Pick) → h ≡ moment (horizon s) → more ≡ considered (s .worst) (h .0) (s .head) p (streamAt s i) i → Picked s (i + 1) more
+  pub picked-more : (h : Clock) (more : Pick) → h ≡ moment (horizon s) → more ≡ considered (s .worst) (h .0) (takenBefore s) p (streamAt s i) i → Picked s (i + 1) more
   picked-more h more ahead e = rw (e, ahead, add-one) picked-next
 
 pub picked-none : (s : Session) (p : Pick) → p .found ≡ false → p .stream ≡ 0 → Picked s 0 p
@@ -122,13 +122,13 @@ picked-none s p f z =
       stream = z;
       due = λ t. absurd (false≢true (sym f ∙ t));
       index = λ t. absurd (false≢true (sym f ∙ t));
-      far = λ t. absurd (false≢true (sym f ∙ t));
+      place = λ t. absurd (false≢true (sym f ∙ t));
     }
 
 -- past all streams the search is over
-pub picked-all : (s : Session) (i : ℕ) (p : Pick) → Picked s i p → i ≤ s .count → s .count ≤ i → (p .found ≡ someFilled s) × (p .stream ≡ chosen s) × (p .found ≡ true → p .index ≡ nearestAt s (chosen s))
+pub picked-all : (s : Session) (i : ℕ) (p : Pick) → Picked s i p → i ≤ s .count → s .count ≤ i → (p .found ≡ someFilled s) × (p .stream ≡ chosen s) × (p .found ≡ true → p .index ≡ leadingAt s (chosen s))
 unfolding someFilled chosen
 picked-all s i p q le past =
     let e : i ≡ s .count = omega (arith, le, past) in
     let all = subst (λ (n : ℕ). Picked s n p) e q in
-    (all .found, all .stream, λ f. all .index f ∙ ap (nearestAt s) (all .stream))
+    (all .found, all .stream, λ f. all .index f ∙ ap (leadingAt s) (all .stream))

@@ -6,6 +6,7 @@ use Prim.Native.Nat.{ℕ, _+_, _≤_, _<_}
 use lib.Dec.{lit<, lit≤}
 use Rattle.time.specs.Time.{moment, diskTime}
 use Rattle.calls.specs.Replies.{numberOf}
+use Rattle.order.specs.declared.Order.the-variants.{Nearest}
 use Rattle.session.specs.Session.{streamAt}
 use Rattle.session.specs.Calls.{answerTo, after}
 use Rattle.session.specs.Opening.{openingOf, NewlyOpened}
@@ -22,11 +23,11 @@ use Rattle.session.proofs.Served.{requests-served}
 
 -- a session that is newly opened with two streams of one deadline
 abbrev opened : Session
-opened = openingOf twins .session
+opened = openingOf twins Nearest .session
 
 new : NewlyOpened twins opened
 unfolding rules padded
-new = record { admitted = refl; made = refl }
+new = record { admitted = refl; order = Nearest; made = refl }
 
 -- calls of two streams with one deadline, and then a turn: what is remembered of that turn, of the calls before it, and of all
 abbrev before : List Call → Session

@@ -15,10 +15,10 @@ use Rattle.time.specs.Latest.{remainders}
 use Rattle.time.specs.declared.Clock.{Clock}
 use Rattle.time.specs.declared.Charge.{Charge}
 use Rattle.stream.specs.Stream.{queue-max, slots, filled, partOf, arrived, without, charged, lapsed, closed, moved, closesPastEnd}
-use Rattle.stream.specs.Choice.{firstBest, distance, nearest, expiresFirst}
+use Rattle.stream.specs.Choice.{firstBest, leading, expiresFirst}
 use Rattle.stream.specs.declared.Stream.{Stream}
 use Rattle.session.specs.Session.{noStream, streamAt, placeAt, horizon, filledAt, someFilled, noSlot, latest, remaindersOf, sound, withStreams, withStream, withDisk, withAhead, lookingAhead}
-use Rattle.session.specs.Choice.{nearestAt, sentBefore, chosen, expiring}
+use Rattle.session.specs.Choice.{takenBefore, leadingAt, sentBefore, chosen, expiring}
 use Rattle.session.specs.Calls.{Verdict, refuse, append, send, move, wait, expire, finish, set-clock, noSuchStream, busy, movePassesEnd, callRefusal, refusal, turnEffect, effect, ruled, verdict, apply, overlong, late, replyTo, answerTo, Line, lineOf, linesFrom}
 use Rattle.session.specs.Tags.{untaggedStream, untagged, untaggedCall, untaggedReply, untaggedLine}
 use Rattle.session.specs.Laws.{TagsDecideNothing, TagsShowLast}
@@ -75,18 +75,18 @@ module _ (s : Session) where
   unfolding movePassesEnd
   passes-alike = seen (λ h x. someTo (λ i. closesPastEnd h (x i)) (s .count))
 
-  nearest-alike : (i : ℕ) → nearestAt u i ≡ nearestAt s i
+  leading-alike : (i : ℕ) → leadingAt u i ≡ leadingAt s i
   unfolding filled slots
-  nearest-alike i = seen (λ h x. nearest (s .head) (x i .places) (filled (s .worst) h (x i)))
+  leading-alike i = seen (λ h x. leading (takenBefore s) (x i .places) (filled (s .worst) h (x i)))
 
   chosen-alike : chosen u ≡ chosen s
   unfolding chosen sentBefore filled slots
   chosen-alike =
       seen
       (λ h x.
-      let far : ℕ → ℕ = λ i. distance (s .head) (getD (x i .places) (nearest (s .head) (x i .places) (filled (s .worst) h (x i))) 0) in
+      let place : ℕ → ℕ = λ i. getD (x i .places) (leading (takenBefore s) (x i .places) (filled (s .worst) h (x i))) 0 in
       firstBest (λ i. leb 1 (filled (s .worst) h (x i)))
-      (λ a b. ltb (x a .deadline .0) (x b .deadline .0) || (eqb (x a .deadline .0) (x b .deadline .0) && ltb (far a) (far b))) (s .count))
+      (λ a b. ltb (x a .deadline .0) (x b .deadline .0) || (eqb (x a .deadline .0) (x b .deadline .0) && takenBefore s (place a) (place b))) (s .count))
 
   expiring-alike : expiring u ≡ expiring s
   unfolding expiring expiresFirst slots
@@ -109,13 +109,13 @@ module _ (s : Session) where
   turn-alike : turnEffect u ≡ turnEffect s
   unfolding turnEffect
   turn-alike =
-      let sends : send (chosen u) (nearestAt u (chosen u)) ≡ send (chosen s) (nearestAt s (chosen s)) =
-      ap (λ (c : ℕ). send c (nearestAt u c)) chosen-alike ∙ ap (send (chosen s)) (nearest-alike (chosen s)) in
+      let sends : send (chosen u) (leadingAt u (chosen u)) ≡ send (chosen s) (leadingAt s (chosen s)) =
+      ap (λ (c : ℕ). send c (leadingAt u c)) chosen-alike ∙ ap (send (chosen s)) (leading-alike (chosen s)) in
       let waits : if (ltb (s .clock .0) (latest u)) wait (expire (expiring u)) ≡ if (ltb (s .clock .0) (latest s)) wait (expire (expiring s)) =
       ap₂ (λ (l i : ℕ). if (ltb (s .clock .0) l) wait (expire i)) latest-alike expiring-alike in
       let moves : if (noSlot u) move (if (ltb (s .clock .0) (latest u)) wait (expire (expiring u))) ≡ if (noSlot s) move (if (ltb (s .clock .0) (latest s)) wait (expire (expiring s))) =
       ap₂ (λ (b : Bool) (v : Verdict). if b move v) no-slot-alike waits in
-      ap (λ (b : Bool). if b (send (chosen u) (nearestAt u (chosen u))) (if (noSlot u) move (if (ltb (s .clock .0) (latest u)) wait (expire (expiring u))))) some-filled-alike
+      ap (λ (b : Bool). if b (send (chosen u) (leadingAt u (chosen u))) (if (noSlot u) move (if (ltb (s .clock .0) (latest u)) wait (expire (expiring u))))) some-filled-alike
       ∙ ap₂ (λ (v w : Verdict). if (someFilled s) v w) sends moves
 
   effect-alike : (k : Call) → effect u k ≡ effect s k

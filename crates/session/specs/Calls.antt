@@ -8,7 +8,7 @@ use Rattle.table.specs.Refusal.{given, _or-next_, outside}
 use Rattle.time.specs.Time.{session-end, duration-max, moment, diskTime}
 use Rattle.stream.specs.Stream.{queue-max, closesPastEnd, arrived, without, charged, lapsed, moved}
 use Rattle.session.specs.Session.{streamAt, placeAt, tagAt, horizon, inSet, someFilled, noSlot, latest, sound, withStreams, withStream, withDisk, lookingAhead}
-use Rattle.session.specs.Choice.{nearestAt, chosen, expiring}
+use Rattle.session.specs.Choice.{leadingAt, chosen, expiring}
 use Rattle.session.specs.declared.Session.{Session}
 use Rattle.calls.specs.declared.Call.{Call}
 use Rattle.calls.specs.declared.Reply.{Reply}
@@ -66,7 +66,7 @@ refusal s k = given (not (sound s)) 31 or-next callRefusal s k
 -- "Turn, the first that applies": a. "some slot is filled: send", b. "no stream has a slot: move", c. "only empty slots and t < L: wait until L", d. "only empty slots and t ≥ L: expire one slot"
 unfoldable pub turnEffect : Session → Verdict
 turnEffect s =
-    if (someFilled s) (send (chosen s) (nearestAt s (chosen s)))
+    if (someFilled s) (send (chosen s) (leadingAt s (chosen s)))
     (if (noSlot s) move
     (if (ltb (s .clock .0) (latest s)) wait
     (expire (expiring s))))

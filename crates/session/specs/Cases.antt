@@ -3,7 +3,8 @@ use mathlib.Core.List.{List, [], _∷_, _++_, map}
 use Prim.Native.Nat.{ℕ, zero, suc, _-_, _/_, _%_}
 use lib.IntN.{ℤ, pos, negsuc}
 use lib.ListN.{length, replicate, set, take}
-use Rattle.table.specs.Fold.{listTo}
+use lib.Dec.{eqb}
+use Rattle.table.specs.Fold.{if, listTo}
 use Rattle.table.specs.Ranges.{streams-max}
 use Rattle.table.specs.Admission.{admissionOf}
 use Rattle.table.specs.Margin.{leftOf, overOf, numberIn, marginIn}
@@ -18,6 +19,8 @@ use Rattle.session.specs.Opening.{openingOf}
 use Rattle.stream.specs.declared.Job.{Job}
 use Rattle.stream.specs.declared.Stream.{Stream}
 use Rattle.calls.specs.Replies.{numberOf}
+use Rattle.order.specs.declared.Order.{Order}
+use Rattle.order.specs.declared.Order.the-variants.{Nearest, Sweep}
 use Rattle.session.specs.declared.Session.{Session}
 use Rattle.calls.specs.declared.Call.{Call}
 use Rattle.calls.specs.declared.Call.the-variants.{Arrival, Turn, OwnTurn, Done, Clock}
@@ -55,11 +58,15 @@ abbrev pub byZeroAndOne : ℕ → ℕ → ℕ → Case
 byZeroAndOne e by-zero by-one =
     record { rules = (admissionOf (alone 0 e) ∷ admissionOf (alone 1 e) ∷ []) ∷ []; document = (by-zero ∷ by-one ∷ []) ∷ [] }
 
+-- a session that is opened with a table, by the order of document 01
+abbrev pub newly : Table → Session
+newly t = openingOf t Nearest .session
+
 -- what opening answers of a table: the number, and its margin as what is left of the span and what is over it
 abbrev pub opens : Table → ℕ → ℕ → ℕ → Case
 opens t number left over =
-    let m = marginIn (openingOf t .admission) .0 in
-    record { rules = (numberIn (openingOf t .admission) ∷ leftOf m ∷ overOf m ∷ []) ∷ []; document = (number ∷ left ∷ over ∷ []) ∷ [] }
+    let m = marginIn (openingOf t Nearest .admission) .0 in
+    record { rules = (numberIn (openingOf t Nearest .admission) ∷ leftOf m ∷ overOf m ∷ []) ∷ []; document = (number ∷ left ∷ over ∷ []) ∷ [] }
 
 -- what is asked with three numbers, and of a session after some calls: 0 and the latest safe moment, or 31 and 0
 abbrev pub told : Latest → List ℕ
@@ -70,7 +77,7 @@ asks horizon sum span number at = record { rules = told (latestOf horizon sum sp
 
 abbrev pub asksAfter : Table → List Call → ℕ → Case
 asksAfter t calls at =
-    record { rules = told (asked (after (openingOf t .session) calls)) ∷ []; document = (0 ∷ at ∷ []) ∷ [] }
+    record { rules = told (asked (after (newly t) calls)) ∷ []; document = (0 ∷ at ∷ []) ∷ [] }
 
 -- a stream with a short period beside seven with a long one
 abbrev pub crowded : ℕ → Table
@@ -104,7 +111,15 @@ unfoldable pub row : Line → List ℕ
 row l = l .event ∷ l .answer ∷ l .stream ∷ l .value ∷ l .clock ∷ l .tag ∷ []
 
 abbrev pub prints : Table → List Call → List (List ℕ) → Case
-prints t calls rows = record { rules = map row (linesFrom 1 (openingOf t .session) calls); document = rows }
+prints t calls rows = record { rules = map row (linesFrom 1 (newly t) calls); document = rows }
+
+-- the requests that turns send, by an order: stream, place and tag of each
+unfoldable pub sentRows : List Line → List (List ℕ)
+sentRows [] = []
+sentRows (l ∷ ls) = if (eqb (l .answer) 21) ((l .stream ∷ l .value ∷ l .tag ∷ []) ∷ sentRows ls) (sentRows ls)
+
+abbrev pub sends : Order → Table → List Call → List (List ℕ) → Case
+sends order t calls rows = record { rules = sentRows (linesFrom 1 (openingOf t order .session) calls); document = rows }
 
 -- the record of the last closed job of a stream, counted from 0: charge, closing clock, deadline, expired count, and what it started with
 unfoldable pub recorded : Job → List ℕ
@@ -112,13 +127,13 @@ recorded j = j .charge .0 ∷ j .closed .0 ∷ j .deadline .0 ∷ j .expired ∷
 
 abbrev pub records : Table → List Call → ℕ → List ℕ → Case
 records t calls i cells =
-    record { rules = recorded (streamAt (after (openingOf t .session) calls) i .last) ∷ []; document = cells ∷ [] }
+    record { rules = recorded (streamAt (after (newly t) calls) i .last) ∷ []; document = cells ∷ [] }
 
 -- what the open job of each stream started with
 abbrev pub starts : Table → List Call → List ℕ → Case
 starts t calls cells =
     record {
-      rules = listTo (λ i. streamAt (after (openingOf t .session) calls) i .start .0) (length cells) ∷ [];
+      rules = listTo (λ i. streamAt (after (newly t) calls) i .start .0) (length cells) ∷ [];
       document = cells ∷ [];
     }
 
@@ -126,7 +141,7 @@ starts t calls cells =
 abbrev pub answers : Table → List Call → List ℕ → Case
 answers t calls numbers =
     record {
-      rules = map (λ l. l .answer) (linesFrom 1 (openingOf t .session) calls) ∷ [];
+      rules = map (λ l. l .answer) (linesFrom 1 (newly t) calls) ∷ [];
       document = numbers ∷ [];
     }
 
@@ -180,16 +195,35 @@ samePlace =
 abbrev pub overAMove : List Call
 overAMove = Arrival 1 100 5 ∷ Arrival 1 100 6 ∷ Turn ∷ Done 50_000 ∷ Turn ∷ Turn ∷ Done 1_000 ∷ []
 
+-- two streams with one deadline and room for all that is queued; requests at and around the head, alike and at the ends of 64 bits; and turns that each send one
+abbrev pub roomy : Table
+roomy = table 1_000 1_000_000 1 (400_000 ∷ 400_000 ∷ []) (1_000_000 ∷ 1_000_000 ∷ [])
+
+abbrev pub serving : ℕ → List Call
+serving zero = []
+serving (suc n) = Turn ∷ Done 1 ∷ serving n
+
+abbrev pub aroundTheHead : List Call
+aroundTheHead =
+    Arrival 2 500 1
+    ∷ serving 1
+    ++ (Arrival 1 499 2 ∷ Arrival 1 900 3 ∷ Arrival 2 500 4 ∷ Arrival 1 500 5 ∷ Arrival 1 500 6 ∷ Arrival 2 18_446_744_073_709_551_615 7 ∷ Arrival 2 0 8 ∷ [])
+    ++ serving 7
+
+-- stream 1 has the earlier deadline, and its place is below the head
+abbrev pub belowTheHead : List Call
+belowTheHead = Arrival 2 500 1 ∷ serving 1 ++ (Arrival 2 600 2 ∷ Arrival 1 100 3 ∷ []) ++ serving 2
+
 -- what a session answers to a turn: a fresh one with a tag at the idle disk, and with one in the last cell of an empty queue, of a stream that is used or of one past the count
 abbrev pub turnAnswers : Session → ℕ → Case
 turnAnswers s n = record { rules = (numberOf (answerTo s Turn .reply) ∷ []) ∷ []; document = (n ∷ []) ∷ [] }
 
 abbrev pub tagAtIdleDisk : ℕ → Session
-tagAtIdleDisk tag = let s = openingOf single .session in withDisk s (s .clock) (s .head) (s .served) (s .place) tag
+tagAtIdleDisk tag = let s = newly single in withDisk s (s .clock) (s .head) (s .served) (s .place) tag
 
 abbrev pub tagInLastCell : ℕ → ℕ → Session
 tagInLastCell i tag =
-    let s = openingOf single .session in
+    let s = newly single in
     let x = streamAt s i in
     withStream s i (withQueue x (x .queued) (x .places) (set (x .tags) (queue-max - 1) tag))
 
@@ -249,7 +283,7 @@ markedCases =
     ∷ answers listed (replicate 17 (Arrival 1 5 0)) (replicate 16 20 ++ (9 ∷ []))
     ∷ []
 
--- the lines of the document that are not marked, and what else a reader may ask: a duration of W, W + 1, 0, 10,000,000 and 10,000,001; a clock at L = 200,000, at L + 1, and at the present time past L; two streams that share a deadline both close; stream 1's 6 comes before stream 2's 5; document 02, Req 02, "A padding of 0 in a table now stands for 3": the lines of k 3 are those of k 0, and two tables that opened with 0 while it stood for 1 give 7 and 6 now; Req 03, "the new job starts with the old charge less the granted budget, or zero if that is negative": two due streams of which one has overrun, a charge above three budgets over three closings and one above four over five, one that just reaches the budget, one above it by 1, one below it, and a completion after a carry; Req 05, "the exact margin, span less load": of the listing's table, of one whose load is the span and of the same with a reserved time raised by 1, of the stream alone that is over by 1, and of one that 6 refuses; Req 06, "the horizon less the sum divided by the span, rounded down, is below 0 or does not fit 64 unsigned bits": numbers of no sound session that are told a moment, a span of 0, rounded once, at 0 and just below it, at the last moment of 64 bits and just past it, with the least sum of 64 bits, of the listing after its third call, and after an overrun and the move that carries it; Req 07, "the tag of the request sent or done, else 0": one place of three requests, in one stream and across two, and "every unused cell is 0", tags among them
+-- the lines of the document that are not marked, and what else a reader may ask: a duration of W, W + 1, 0, 10,000,000 and 10,000,001; a clock at L = 200,000, at L + 1, and at the present time past L; two streams that share a deadline both close; stream 1's 6 comes before stream 2's 5; document 02, Req 02, "A padding of 0 in a table now stands for 3": the lines of k 3 are those of k 0, and two tables that opened with 0 while it stood for 1 give 7 and 6 now; Req 03, "the new job starts with the old charge less the granted budget, or zero if that is negative": two due streams of which one has overrun, a charge above three budgets over three closings and one above four over five, one that just reaches the budget, one above it by 1, one below it, and a completion after a carry; Req 05, "the exact margin, span less load": of the listing's table, of one whose load is the span and of the same with a reserved time raised by 1, of the stream alone that is over by 1, and of one that 6 refuses; Req 06, "the horizon less the sum divided by the span, rounded down, is below 0 or does not fit 64 unsigned bits": numbers of no sound session that are told a moment, a span of 0, rounded once, at 0 and just below it, at the last moment of 64 bits and just past it, with the least sum of 64 bits, of the listing after its third call, and after an overrun and the move that carries it; Req 07, "the tag of the request sent or done, else 0": one place of three requests, in one stream and across two, and "every unused cell is 0", tags among them; Req 08, "the smallest place not below the head, and if there is none, the smallest place of all; ties as before": from a head at 500 the requests that are queued around it, by either order, and one below it that has the earlier deadline
 unfoldable pub otherCases : List Case
 otherCases =
     answers single (oneRequest 25_000) (20 ∷ 21 ∷ 25 ∷ [])
@@ -346,4 +380,25 @@ otherCases =
     ∷ (6 ∷ 21 ∷ 1 ∷ 100 ∷ 50_000 ∷ 6 ∷ [])
     ∷ (7 ∷ 25 ∷ 1 ∷ 1_000 ∷ 51_000 ∷ 6 ∷ [])
     ∷ [])
+    ∷ sends Sweep roomy aroundTheHead
+    ((2 ∷ 500 ∷ 1 ∷ [])
+    ∷ (1 ∷ 500 ∷ 5 ∷ [])
+    ∷ (1 ∷ 500 ∷ 6 ∷ [])
+    ∷ (2 ∷ 500 ∷ 4 ∷ [])
+    ∷ (1 ∷ 900 ∷ 3 ∷ [])
+    ∷ (2 ∷ 18_446_744_073_709_551_615 ∷ 7 ∷ [])
+    ∷ (2 ∷ 0 ∷ 8 ∷ [])
+    ∷ (1 ∷ 499 ∷ 2 ∷ [])
+    ∷ [])
+    ∷ sends Nearest roomy aroundTheHead
+    ((2 ∷ 500 ∷ 1 ∷ [])
+    ∷ (1 ∷ 500 ∷ 5 ∷ [])
+    ∷ (1 ∷ 500 ∷ 6 ∷ [])
+    ∷ (2 ∷ 500 ∷ 4 ∷ [])
+    ∷ (1 ∷ 499 ∷ 2 ∷ [])
+    ∷ (1 ∷ 900 ∷ 3 ∷ [])
+    ∷ (2 ∷ 0 ∷ 8 ∷ [])
+    ∷ (2 ∷ 18_446_744_073_709_551_615 ∷ 7 ∷ [])
+    ∷ [])
+    ∷ sends Sweep listed belowTheHead ((2 ∷ 500 ∷ 1 ∷ []) ∷ (1 ∷ 100 ∷ 3 ∷ []) ∷ (2 ∷ 600 ∷ 2 ∷ []) ∷ [])
     ∷ []

@@ -13,8 +13,10 @@ use Rattle.time.specs.declared.Clock.{Clock}
 use Rattle.time.specs.declared.remainders.Latest.the-variants.{At}
 use Rattle.stream.specs.Laws.{CarriedOn, GoesFirst}
 use Rattle.session.specs.Session.{streamAt, placeAt, horizon, slotsAt, filledAt, inSet, someFilled, noSlot, scaledPart, latest, asked, tableOf, sound}
-use Rattle.stream.specs.Choice.{distance}
-use Rattle.session.specs.Choice.{nearestAt, sentBefore, chosen, expiresBefore, expiring}
+use Rattle.order.specs.Order.{distance}
+use Rattle.order.specs.Laws.{SweptTo}
+use Rattle.order.specs.declared.Order.the-variants.{Nearest, Sweep}
+use Rattle.session.specs.Choice.{deadlineAt, takenBefore, leadingAt, leadingPlace, sentBefore, chosen, expiresBefore, expiring}
 use Rattle.calls.specs.Replies.{numberOf}
 use Rattle.session.specs.Calls.{answerTo, after, Line, linesFrom}
 use Rattle.session.specs.Opening.{zeroSession, NewlyOpened}
@@ -159,22 +161,44 @@ HorizonBetween =
     (s : Session) → sound s ≡ true → (i : ℕ) → i < s .count
     → (streamAt s i .release .0 ≤ horizon s) × (horizon s ≤ streamAt s i .deadline .0)
 
--- The stream that a turn serves is the first of those with a filled slot: by deadline, then by the distance from the head, then by number.
+-- The stream that a turn serves is the first of those with a filled slot: by deadline, then by the place of its request in the session's order, then by number.
 abbrev pub ChosenGoesFirst : Type 0
 ChosenGoesFirst = (s : Session) → someFilled s ≡ true → GoesFirst (filledAt s) (sentBefore s) (s .count) (chosen s)
 
--- So, with `NearestIsFirst` of a queue, the request sent goes before each request j of the set, of a stream i, in the order of the document: "Take the earliest deadline among streams with a filled slot; of the set's requests from streams with that deadline, the place nearest the head; ties go to the lower stream, then the earlier arrival."
+-- A turn's send, beside request j of stream i: it has no later deadline; of those with its deadline no place is taken before its own; and of those alike in that, none is of a lower stream, nor arrived earlier in its own.
+pub record First (s : Session) (i j : ℕ) : Type 0 where
+  pub earliest : deadlineAt s (chosen s) ≤ deadlineAt s i
+  pub foremost : deadlineAt s i ≡ deadlineAt s (chosen s) → takenBefore s (placeAt s i j) (leadingPlace s (chosen s)) ≡ false
+  pub lower : deadlineAt s i ≡ deadlineAt s (chosen s) → takenBefore s (leadingPlace s (chosen s)) (placeAt s i j) ≡ false → chosen s ≤ i
+  pub earlier : i ≡ chosen s → takenBefore s (leadingPlace s (chosen s)) (placeAt s i j) ≡ false → leadingAt s (chosen s) ≤ j
+
+-- So, with `LeadingIsFirst` of a queue, in either order the request sent goes first of the whole set: "Take the earliest deadline among streams with a filled slot; of the set's requests from streams with that deadline, the place nearest the head; ties go to the lower stream, then the earlier arrival", and of a sweep "ties as before".
 abbrev pub SentGoesFirst : Type 0
-SentGoesFirst =
-    (s : Session) (i j : ℕ) → someFilled s ≡ true → i < s .count → inSet s i j ≡ true
-    → let due : ℕ → ℕ = λ a. streamAt s a .deadline .0 in
-    let far : ℕ → ℕ → ℕ = λ a b. distance (s .head) (placeAt s a b) in
-    let stream = chosen s in
-    let request = nearestAt s stream in
-    (due stream ≤ due i)
-    × (due i ≡ due stream → far stream request ≤ far i j)
-    × (due i ≡ due stream → far i j ≡ far stream request → stream ≤ i)
-    × (i ≡ stream → far i j ≡ far stream request → request ≤ j)
+SentGoesFirst = (s : Session) (i j : ℕ) → someFilled s ≡ true → i < s .count → inSet s i j ≡ true → First s i j
+
+-- What that says of each order, as the documents have it. With nearest the place sent is "the place nearest the head", and a tie is a place as far from it.
+pub record SentNearest (s : Session) (i j : ℕ) : Type 0 where
+  pub nearest : distance (s .head) (leadingPlace s (chosen s)) ≤ distance (s .head) (placeAt s i j)
+  pub tie : distance (s .head) (placeAt s i j) ≡ distance (s .head) (leadingPlace s (chosen s)) → (chosen s ≤ i) × (i ≡ chosen s → leadingAt s (chosen s) ≤ j)
+
+abbrev pub NearestIsSent : Type 0
+NearestIsSent =
+    (s : Session) (i j : ℕ) → s .order ≡ Nearest → someFilled s ≡ true → i < s .count → inSet s i j ≡ true
+    → deadlineAt s i ≡ deadlineAt s (chosen s) → SentNearest s i j
+
+-- With sweep it is "the smallest place not below the head, and if there is none, the smallest place of all" (`SweptTo` of `order`), and a tie is the same place.
+pub record SentSwept (s : Session) (i j : ℕ) : Type 0 where
+  pub swept : SweptTo (s .head) (leadingPlace s (chosen s)) (placeAt s i j)
+  pub tie : placeAt s i j ≡ leadingPlace s (chosen s) → (chosen s ≤ i) × (i ≡ chosen s → leadingAt s (chosen s) ≤ j)
+
+abbrev pub SweepIsSent : Type 0
+SweepIsSent =
+    (s : Session) (i j : ℕ) → s .order ≡ Sweep → someFilled s ≡ true → i < s .count → inSet s i j ≡ true
+    → deadlineAt s i ≡ deadlineAt s (chosen s) → SentSwept s i j
+
+-- Document 02, Req 08: "Which order a session uses is one choice held in it." No call changes it.
+abbrev pub OrderIsKept : Type 0
+OrderIsKept = (s : Session) (k : Call) → answerTo s k .session .order ≡ s .order
 
 -- The stream that loses a slot is the first of those with a slot: by r + c × p / g, exactly, then by deadline, then by number.
 abbrev pub ExpiringGoesFirst : Type 0

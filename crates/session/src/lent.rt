@@ -7,25 +7,32 @@ use crate::Opened;
 use crate::Session;
 use calls::Call;
 use calls::Reply;
+use order::Order;
 use table::Records;
 use table::Reservation;
 use table::Table;
 use table::take_in;
 
 impl Session {
-    // Opens a session with W, H, k and a lent table of any length.
-    pub fn open_lent(worst: u32, span: u32, padding: u32, table: &[Reservation]) -> Opened
-        ensures { λ r. ⌜ r ≡ openingOf (lentTable worst span padding (now (table .entry))) ⌝ }
+    // Opens a session with W, H, k, an order and a lent table of any length.
+    pub fn open_lent(
+        worst: u32,
+        span: u32,
+        padding: u32,
+        order: Order,
+        table: &[Reservation],
+    ) -> Opened
+        ensures { λ r. ⌜ r ≡ openingOf (lentTable worst span padding (now (table .entry))) order ⌝ }
     {
-        Session::open_taken(worst, span, padding, take_in(table))
+        Session::open_taken(worst, span, padding, order, take_in(table))
     }
 
     // The same with what was taken of it.
-    pub fn open_taken(worst: u32, span: u32, padding: u32, records: Records) -> Opened
-        ensures { λ r. ⌜ r ≡ openingOf (tableOfRecords worst span padding (records .rows) (records .count)) ⌝ }
+    pub fn open_taken(worst: u32, span: u32, padding: u32, order: Order, records: Records) -> Opened
+        ensures { λ r. ⌜ r ≡ openingOf (tableOfRecords worst span padding (records .rows) (records .count)) order ⌝ }
     {
         let table = Table::of(worst, span, padding, records);
-        Session::open(table)
+        Session::open(table, order)
     }
 
     pub fn arrival_lent(&mut self, stream: u64, place: u64, tag: u32) -> Reply

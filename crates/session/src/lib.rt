@@ -19,6 +19,7 @@ ghost use Rattle.table.specs.Admission.{admissionOf};
 ghost use Rattle.table.specs.Margin.{marginOf};
 ghost use Rattle.session.specs.Opening.{openedStream, freshSession, zeroSession, openingOf};
 use calls::Reply;
+use order::Order;
 pub use searches::Outlook;
 use stream::Stream;
 use table::Admission;
@@ -34,6 +35,7 @@ pub struct Session {
     pub span: u32,
     pub padding: u32,
     pub tag: u32,
+    pub order: Order,
     pub count: usize,
     pub margin: Margin,
     pub horizon: Clock,
@@ -56,14 +58,14 @@ pub struct Opened {
 }
 
 impl Session {
-    // Opens a session with a table: a fresh one if the table is admitted, else the all-zero one beside the refusal.
-    pub fn open(table: Table) -> Opened
-        ensures { λ r. ⌜ r ≡ openingOf table ⌝ }
+    // Opens a session with a table and an order: a fresh one if the table is admitted, else the all-zero one beside the refusal.
+    pub fn open(table: Table, order: Order) -> Opened
+        ensures { λ r. ⌜ r ≡ openingOf table order ⌝ }
     {
         let admission = table.admission();
         match admission {
             Admission::Admitted(margin) => {
-                let session = fresh(table, margin);
+                let session = fresh(table, margin, order);
                 Opened {
                     session: session,
                     admission: admission,
@@ -93,6 +95,7 @@ impl Session {
             span: 0,
             padding: 0,
             tag: 0,
+            order: Order::Nearest,
             count: 0,
             margin: margin,
             horizon: start,
@@ -107,9 +110,9 @@ impl Session {
 }
 
 // A session at the first release of every stream, with the margin of its table. Nothing is charged yet, so that the sum of remainders is the horizon times the shares, and the shares are the load less W for each of the shortest periods: no stream's share is divided for again.
-fn fresh(t: Table, margin: Margin) -> Session
+fn fresh(t: Table, margin: Margin, order: Order) -> Session
     requires { ⌜ (admissionOf t ≡ 0) × (margin .0 ≡ marginOf t) ⌝ }
-    ensures { λ r. ⌜ r ≡ freshSession t ⌝ }
+    ensures { λ r. ⌜ r ≡ freshSession t order ⌝ }
 {
     let streams = opened_streams(t);
     let start = Clock::at(0);
@@ -119,6 +122,7 @@ fn fresh(t: Table, margin: Margin) -> Session
         span: t.span,
         padding: t.padding,
         tag: 0,
+        order: order,
         count: t.count,
         margin: margin,
         horizon: start,

@@ -2,7 +2,7 @@
 ghost use mathlib.Core.Path.{_≡_};
 ghost use mathlib.Core.Bool.{true};
 ghost use Rattle.session.specs.Session.{someFilled, sound};
-ghost use Rattle.session.specs.Choice.{nearestAt, chosen};
+ghost use Rattle.session.specs.Choice.{leadingAt, chosen};
 ghost use Rattle.session.specs.Inner.{outlookOf, surveyOf};
 use crate::Session;
 use stream::Lapse;
@@ -26,24 +26,25 @@ pub struct Survey {
 }
 
 impl Session {
-    // The request to send, where some slot is filled.
+    // The request to send, where some slot is filled, by the order that the session holds.
     pub(crate) fn pick(self) -> Pick
         requires { ⌜ sound self ≡ true ⌝ }
-        ensures { λ r. ⌜ (r .found ≡ someFilled self) × (r .stream ≡ chosen self) × (r .found ≡ true → r .index ≡ nearestAt self (chosen self)) ⌝ }
+        ensures { λ r. ⌜ (r .found ≡ someFilled self) × (r .stream ≡ chosen self) × (r .found ≡ true → r .index ≡ leadingAt self (chosen self)) ⌝ }
     {
         let h = self.horizon;
+        let order = self.order;
         let start = Clock::at(0);
         let mut pick = Pick {
             found: false,
             stream: 0,
             index: 0,
             deadline: start,
-            distance: 0,
+            place: 0,
         };
         let mut i: usize = 0;
         while i < self.count {
             let x = self.streams[i];
-            pick = consider(pick, x, i, self.worst, h, self.head);
+            pick = consider(pick, x, i, self.worst, h, order, self.head);
             i += 1;
         }
         pick

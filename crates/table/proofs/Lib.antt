@@ -9,6 +9,7 @@ pub mod Others
 pub mod Gathered
 pub mod Paddings
 pub mod LentTables
+pub mod Parameters
 pub mod Taking
 pub mod Loops
 pub mod Determined

@@ -29,14 +29,16 @@ none-requires c κs = search needs
 
 soonest-requires : tie.Need-soonest-requires
 soonest-requires c κs =
-    let t = c .before .before .before .args .t in
-    let pre = c .before .before .before .pre in
-    let fit = opened-fit t (pre .0) in
+    let start = c .before .before .before in
+    let t = start .args .t in
+    let order = start .args .order in
+    let pre = start .pre in
+    let fit = opened-fit t order (pre .0) in
     rw (c .none .ensures, c .before .at .ensures, c .before .before .opened-streams .ensures, ap margin (pre .1))
-    (bookkept (openedSession t) (fit .used))
+    (bookkept (openedSession t order) (fit .used))
 
 -- the horizon is that of the streams
-soonest-is : (c : tie.After-soonest) → c .soonest .result ≡ moment (horizon (openedSession (c .before .before .before .before .args .t)))
+soonest-is : (c : tie.After-soonest) → let start = c .before .before .before .before in c .soonest .result ≡ moment (horizon (openedSession (start .args .t) (start .args .order)))
 soonest-is c =
     rw (
       c .soonest .ensures,
@@ -54,10 +56,10 @@ left-requires c κs = tt
 
 -- what the margin leaves of the span is the load
 left-is : (c : tie.After-left) → let t = c .before .before .before .before .before .before .args .t in c .left .result ≡ t .span - loadOf t
-left-is c = let start = c .before .before .before .before .before .before in c .left .ensures ∙ ap leftOf (start .pre .1) ∙ margin-left (start .args .t) (start .pre .0)
+left-is c = let start = c .before .before .before .before .before .before in c .left .ensures ∙ ap leftOf (start .pre .1) ∙ margin-left (start .args .t) (start .args .order) (start .pre .0)
 
 load-is : (c : tie.After-left) → let t = c .before .before .before .before .before .before .args .t in t .span - c .left .result ≡ loadOf t
-load-is c = let start = c .before .before .before .before .before .before in omega (arith, left-is c, opening-fits (start .args .t) (start .pre .0) .0)
+load-is c = let start = c .before .before .before .before .before .before in omega (arith, left-is c, opening-fits (start .args .t) (start .args .order) (start .pre .0) .0)
 
 sub-load : tie.Need-sub-load
 sub-load c = omega (arith, left-is c)
@@ -72,7 +74,7 @@ micros-requires : tie.Need-micros-requires
 micros-requires c κs = tt
 
 -- so the first sum is the horizon times the load
-product-is : (c : tie.After-micros) → let t = c .before .before .before .before .before .before .before .before .before .args .t in c .micros .result * (t .span - c .before .before .before .left .result) ≡ horizon (openedSession t) * loadOf t
+product-is : (c : tie.After-micros) → let start = c .before .before .before .before .before .before .before .before .before in let t = start .args .t in c .micros .result * (t .span - c .before .before .before .left .result) ≡ horizon (openedSession t (start .args .order)) * loadOf t
 product-is c = ap₂ _*_ (c .micros .ensures ∙ ap (λ (h : Clock). h .0) (soonest-is (c .before .before .before .before .before))) (load-is (c .before .before .before))
 
 -- and W is what is taken off
@@ -80,20 +82,20 @@ blocking-is : (c : tie.After-of) → c .of .result .0 ≡ c .before .before .bef
 blocking-is c = ap (λ (d : Charge). d .0) (c .of .ensures)
 
 mul-of : tie.Need-mul-of
-mul-of c = let start = c .before .before .before .before .before .before .before .before .before in rw (product-is c) (record { fits = omega (arith, opening-fits (start .args .t) (start .pre .0) .1) })
+mul-of c = let start = c .before .before .before .before .before .before .before .before .before in rw (product-is c) (record { fits = omega (arith, opening-fits (start .args .t) (start .args .order) (start .pre .0) .1) })
 
 of-requires-2 : tie.Need-of-requires-2
 of-requires-2 c κs =
     let start = c .before .before .before .before .before .before .before .before .before in
-    let fits = opening-fits (start .args .t) (start .pre .0) in
+    let fits = opening-fits (start .args .t) (start .args .order) (start .pre .0) in
     rw (product-is c, blocking-is (c .before)) (fits .1, fits .2)
 
-sum-is : (c : tie.After-of2) → c .of2 .result ≡ remainders (remaindersOf (openedSession (c .before .before .before .before .before .before .before .before .before .before .args .t)))
+sum-is : (c : tie.After-of2) → let start = c .before .before .before .before .before .before .before .before .before .before in c .of2 .result ≡ remainders (remaindersOf (openedSession (start .args .t) (start .args .order)))
 sum-is c =
     let start = c .before .before .before .before .before .before .before .before .before .before in
     c .of2 .ensures
     ∙ ap₂ (λ (n m : ℕ). remainders (pos n -ℤ pos (m * start .args .t .span))) (product-is (c .before)) (blocking-is (c .before .before))
-    ∙ ap remainders (opened-sum (start .args .t) (start .pre .0))
+    ∙ ap remainders (opened-sum (start .args .t) (start .args .order) (start .pre .0))
 
 returns : tie.Need-returns
 unfolding freshSession

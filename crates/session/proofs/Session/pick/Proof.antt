@@ -10,10 +10,10 @@ use Rattle.session.proofs.Session.pick.Statement.{statement}
 use Rattle.session.proofs.Session.pick.Tie as tie
 
 abbrev Inv-loop : tie.InvT-loop
-Inv-loop s h pick₀ i₀ pick i = (i ≤ s .count) × Picked s i pick
+Inv-loop s h order pick₀ i₀ pick i = (i ≤ s .count) × Picked s i pick
 
 abbrev μ-loop : tie.MeasureT-loop
-μ-loop s h pick₀ i₀ pick i = s .count - i
+μ-loop s h order pick₀ i₀ pick i = s .count - i
 
 at-requires : tie.Need-at-requires Inv-loop μ-loop
 at-requires c κs = tt

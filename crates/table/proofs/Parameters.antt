@@ -51,10 +51,10 @@ uint w = record {
 }
 
 -- at exit a parameter is as it was passed: nothing is bound for it, and nothing is said of it
-last-of : (P : Param) (x : P .row .Denot) → Last (P .row .exit yes) x
+pub last-of : (P : Param) (x : P .row .Denot) → Last (P .row .exit yes) x
 last-of P x = subst⁻¹ (λ (e : Exit (P .row .Denot)). Last e x) (P .still) tt
 
-silent : (P : Param) (x : P .row .Denot) (l : Last (P .row .exit yes) x) → left (P .row .exit yes) x l ≡ ftrue
+pub silent : (P : Param) (x : P .row .Denot) (l : Last (P .row .exit yes) x) → left (P .row .exit yes) x l ≡ ftrue
 silent P x = subst⁻¹ (λ (e : Exit (P .row .Denot)). (l : Last e x) → left e x l ≡ ftrue) (P .still) (λ l. refl)
 
 -- ---- in a signature with n lifetimes

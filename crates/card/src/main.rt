@@ -22,13 +22,7 @@ fn main() {
     let len = io::read_full(STDIN_FILENO, &mut buffer);
     let file = &buffer[..len];
     let reading = file::read(file);
-    let Reading::LaidOut {
-        count: _,
-        start: _,
-        end: _,
-        events: _,
-    } = reading
-    else {
+    let Reading::LaidOut { .. } = reading else {
         say(b"refused 16: this is not laid out as a session file\n");
         return;
     };

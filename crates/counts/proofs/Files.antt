@@ -10,22 +10,24 @@ use Rattle.table.specs.Admission.{admissionOf}
 use Rattle.table.specs.Margin.{numberIn, overIn}
 use Rattle.table.specs.declared.Table.{Table}
 use Rattle.table.proofs.Margins.{answer-carries-margin}
+use Rattle.order.specs.declared.Order.{Order}
 use Rattle.session.specs.Opening.{openingOf}
 use Rattle.file.specs.Reading.{part, eventsIn, tableIn, isLaidOut, readOf}
+use Rattle.file.specs.declared.form.Form.{Form}
 use Rattle.file.specs.declared.Reading.the-variants as reading
 use Rattle.file.proofs.Accepted as accepted
 use Rattle.counts.specs.Counts.{refusedFile, openedFile, filedOf}
 
 -- the number that opening answers
-pub opened-number : (t : Table) → numberIn (openingOf t .admission) ≡ admissionOf t
+pub opened-number : (t : Table) (order : Order) → numberIn (openingOf t order .admission) ≡ admissionOf t
 unfolding openingOf
-opened-number t = answer-carries-margin t .0
+opened-number t order = answer-carries-margin t .0
 
 -- a table that it refuses
-pub opened-refused : (t : Table) (trace : List ℕ) → (admissionOf t ≡ 0 → ⊥)
-    → openedFile t trace ≡ refusedFile (admissionOf t) (overIn (openingOf t .admission))
+pub opened-refused : (t : Table) (order : Order) (trace : List ℕ) → (admissionOf t ≡ 0 → ⊥)
+    → openedFile t order trace ≡ refusedFile (admissionOf t) (overIn (openingOf t order .admission))
 unfolding openedFile if
-opened-refused t trace some = rw (ne-eqb (admissionOf t) 0 some)
+opened-refused t order trace some = rw (ne-eqb (admissionOf t) 0 some)
 
 -- a file that reading refuses
 pub filed-refused : (file : List ℕ) (n : ℕ) → readOf file ≡ reading.Refused n → filedOf file ≡ refusedFile 16 0
@@ -37,15 +39,15 @@ filed-refused file n h = go (isLaidOut file) refl h
     go false e r = rw e
 
 -- and one that it accepts
-pub filed-opened : (file : List ℕ) (count start end events : ℕ) → readOf file ≡ reading.LaidOut count start end events
-    → filedOf file ≡ openedFile (tableIn file) (part start end file)
+pub filed-opened : (file : List ℕ) (form : Form) (order : Order) (count start end events : ℕ) → readOf file ≡ reading.LaidOut form order count start end events
+    → filedOf file ≡ openedFile (tableIn file) order (part start end file)
 unfolding filedOf if
-filed-opened file count start end events h =
-    let a = accepted.answered file count start end events h in
-    rw (a .accepted, a .start-is, a .end-is)
+filed-opened file form order count start end events h =
+    let a = accepted.answered file form order count start end events h in
+    rw (a .accepted, a .order-is, a .start-is, a .end-is)
 
-pub events-of : (file : List ℕ) (count start end events : ℕ) → readOf file ≡ reading.LaidOut count start end events
+pub events-of : (file : List ℕ) (form : Form) (order : Order) (count start end events : ℕ) → readOf file ≡ reading.LaidOut form order count start end events
     → events ≡ eventsIn (part start end file)
-events-of file count start end events h =
-    let a = accepted.answered file count start end events h in
+events-of file form order count start end events h =
+    let a = accepted.answered file form order count start end events h in
     rw (← a .start-is, ← a .end-is) (sym (a .events-are))

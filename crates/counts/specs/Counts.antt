@@ -10,9 +10,10 @@ use Rattle.table.specs.Admission.{admissionOf}
 use Rattle.table.specs.Margin.{overIn}
 use Rattle.table.specs.declared.Table.{Table}
 use Rattle.calls.specs.declared.Call.{Call}
+use Rattle.order.specs.declared.Order.{Order}
 use Rattle.session.specs.Opening.{openingOf}
 use Rattle.session.specs.History.{Moment, historyOf}
-use Rattle.file.specs.Reading.{eventAt, eventsIn, tableIn, traceIn, isLaidOut}
+use Rattle.file.specs.Reading.{eventAt, eventsIn, tableIn, orderIn, traceIn, isLaidOut}
 use Rattle.file.specs.declared.event.Event.{Event}
 use Rattle.counts.specs.Tally.{nothing, together, tallyOf}
 use Rattle.counts.specs.declared.Tally.{Tally}
@@ -72,14 +73,15 @@ countsOf past = counts (λ i. tallyOf i past)
 abbrev pub refusedFile : ℕ → ℕ → Filed
 refusedFile number over = record { refusal = number; over = over; count = 0; counts = none }
 
-unfoldable pub openedFile : Table → List ℕ → Filed
-openedFile t trace =
+unfoldable pub openedFile : Table → Order → List ℕ → Filed
+openedFile t order trace =
+    let opened = openingOf t order in
     if (eqb (admissionOf t) 0)
-    (record { refusal = 0; over = 0; count = t .count; counts = countsOf (historyOf (openingOf t .session) (callsTo trace (eventsIn trace))) })
-    (refusedFile (admissionOf t) (overIn (openingOf t .admission)))
+    (record { refusal = 0; over = 0; count = t .count; counts = countsOf (historyOf (opened .session) (callsTo trace (eventsIn trace))) })
+    (refusedFile (admissionOf t) (overIn (opened .admission)))
 
 unfoldable pub filedOf : List ℕ → Filed
-filedOf file = if (isLaidOut file) (openedFile (tableIn file) (traceIn file)) (refusedFile 16 0)
+filedOf file = if (isLaidOut file) (openedFile (tableIn file) (orderIn file) (traceIn file)) (refusedFile 16 0)
 
 -- "Then the same per stream number over all files"
 unfoldable pub totalsOf : List (List ℕ) → Counts

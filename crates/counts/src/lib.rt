@@ -2,6 +2,7 @@
 mod run;
 
 use file::Reading;
+use order::Order;
 use session::Session;
 use table::Table;
 ghost use mathlib.Core.Path.{_≡_};
@@ -136,23 +137,24 @@ pub fn of_file(file: &[u8]) -> Filed
 {
     let reading = file::read(file);
     let Reading::LaidOut {
-        count: _,
+        order,
         start,
         end,
         events,
+        ..
     } = reading
     else {
         return refused(16, 0);
     };
-    of_opened(file::table_of(file), &file[start..end], events)
+    of_opened(file::table_of(file), order, &file[start..end], events)
 }
 
-// What is counted of a table and a trace of so many events.
-fn of_opened(table: Table, trace: &[u8], events: usize) -> Filed
+// What is counted of a table, an order and a trace of so many events.
+fn of_opened(table: Table, order: Order, trace: &[u8], events: usize) -> Filed
     requires { ⌜ events ≡ eventsIn (now trace) ⌝ }
-    ensures { λ r. ⌜ r ≡ openedFile table (now (trace .entry)) ⌝ }
+    ensures { λ r. ⌜ r ≡ openedFile table order (now (trace .entry)) ⌝ }
 {
-    let opened = Session::open(table);
+    let opened = Session::open(table, order);
     let admission = opened.admission;
     let number = admission.number();
     if number != 0 {

@@ -4,6 +4,7 @@
 use file::Event;
 use file::Reading;
 use listing::Text;
+use order::Order;
 use session::Session;
 use table::Table;
 ghost use Rattle.listing.specs.Line.{Within};
@@ -28,37 +29,39 @@ fn main() {
 fn meter(times: u64, file: &[u8]) {
     let reading = file::read(file);
     let Reading::LaidOut {
-        count: _,
+        order,
         start,
         end,
         events,
+        ..
     } = reading
     else {
         print_unread(reading);
         return;
     };
-    measure(file::table_of(file), &file[start..end], events, times);
+    measure(
+        file::table_of(file),
+        order,
+        &file[start..end],
+        events,
+        times,
+    );
 }
 
 fn print_unread(reading: Reading) {
     match reading {
-        Reading::LaidOut {
-            count: _,
-            start: _,
-            end: _,
-            events: _,
-        } => {}
+        Reading::LaidOut { .. } => {}
         Reading::Refused(number) => print(listing::refused(number, 0)),
     }
 }
 
-fn measure(table: Table, trace: &[u8], events: usize, times: u64) {
+fn measure(table: Table, order: Order, trace: &[u8], events: usize, times: u64) {
     if events == 0 {
-        tell(times, openings(table, times));
+        tell(times, openings(table, order, times));
         return;
     }
     let last = events - 1;
-    let opened = Session::open(table);
+    let opened = Session::open(table, order);
     let prepared = run(opened.session, trace, last);
     tell(
         times,
@@ -97,7 +100,7 @@ fn zero_of(times: u64) -> u64 {
     times / 4_294_967_296
 }
 
-fn openings(table: Table, times: u64) -> Tally {
+fn openings(table: Table, order: Order, times: u64) -> Tally {
     let mut number: u64 = 0;
     let mut mixed: u64 = 0;
     let mut kept = table;
@@ -105,7 +108,7 @@ fn openings(table: Table, times: u64) -> Tally {
     let mut i: u64 = 0;
     while i < times {
         kept.count = kept.count ^ zero as usize;
-        let opened = Session::open(kept);
+        let opened = Session::open(kept, order);
         let admission = opened.admission;
         number = admission.number();
         mixed = mixed ^ opened.session.head;

@@ -22,16 +22,17 @@ fn main() {
 fn replay(file: &[u8]) {
     let reading = file::read(file);
     let Reading::LaidOut {
-        count: _,
+        order,
         start,
         end,
         events,
+        ..
     } = reading
     else {
         print_unread(reading);
         return;
     };
-    let opened = Session::open(file::table_of(file));
+    let opened = Session::open(file::table_of(file), order);
     let admission = opened.admission;
     let Admission::Admitted(_) = admission else {
         print(listing::refused(admission.number(), admission.over()));
@@ -43,12 +44,7 @@ fn replay(file: &[u8]) {
 
 fn print_unread(reading: Reading) {
     match reading {
-        Reading::LaidOut {
-            count: _,
-            start: _,
-            end: _,
-            events: _,
-        } => {}
+        Reading::LaidOut { .. } => {}
         Reading::Refused(number) => print(listing::refused(number, 0)),
     }
 }

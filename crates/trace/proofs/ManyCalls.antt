@@ -9,6 +9,7 @@ use Rattle.table.specs.Fold.{if}
 use Rattle.table.specs.declared.Table.{Table}
 use Rattle.calls.specs.Replies.{numberOf, valueOf}
 use Rattle.session.specs.Calls.{answerTo, after}
+use Rattle.order.specs.declared.Order.the-variants.{Sweep}
 use Rattle.session.specs.Opening.{openingOf, NewlyOpened}
 use Rattle.session.specs.Cases.{padded, table}
 use Rattle.session.specs.History.{Moment, historyFrom, historyOf, inBounds, withinBounds}
@@ -40,7 +41,7 @@ callsFrom (suc n) s r =
     k ∷ callsFrom n (a .session) (a .reply)
 
 abbrev opened : Session
-opened = openingOf eight .session
+opened = openingOf eight Sweep .session
 
 abbrev manyCalls : List Call
 manyCalls = callsFrom 240 opened (Reply.Refused 0)
@@ -79,7 +80,7 @@ ran = refl
 
 new : NewlyOpened eight opened
 unfolding rules padded
-new = record { admitted = refl; made = refl }
+new = record { admitted = refl; order = Sweep; made = refl }
 
 none-past : withinBounds [] ≡ true
 unfolding withinBounds

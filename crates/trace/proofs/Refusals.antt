@@ -12,6 +12,7 @@ use Rattle.table.specs.Margin.{overOf, marginOf, overIn, answerOf}
 use Rattle.table.specs.declared.Table.{Table}
 use Rattle.table.specs.declared.margin.Margin.{Margin}
 use Rattle.table.proofs.Margins.{over-load, over-is-exact, answer-carries-margin, parts-or-load}
+use Rattle.order.specs.declared.Order.{Order}
 use Rattle.session.specs.Opening.{openingOf}
 use Rattle.listing.specs.Line.{ascii, decimal, rendered, refusedWord, wordedFields, refusedFields}
 use Rattle.listing.proofs.Words.{refused-with}
@@ -19,10 +20,10 @@ use Rattle.trace.specs.Trace.{runOf}
 use Rattle.trace.specs.Laws.{RefusalPrints}
 
 -- one line, of the number and the amount over
-refused-run : (t : Table) (trace : List ℕ) → (admissionOf t ≡ 0 → ⊥)
-    → runOf t trace ≡ rendered (refusedFields (admissionOf t) (overIn (answerOf t)))
+refused-run : (t : Table) (order : Order) (trace : List ℕ) → (admissionOf t ≡ 0 → ⊥)
+    → runOf t order trace ≡ rendered (refusedFields (admissionOf t) (overIn (answerOf t)))
 unfolding runOf openingOf if
-refused-run t trace some = rw (ne-eqb (admissionOf t) 0 some)
+refused-run t order trace some = rw (ne-eqb (admissionOf t) 0 some)
 
 -- with the amount, or without
 with-amount : (number over : ℕ) → 1 ≤ over → refusedFields number over ≡ refusedWord ∷ decimal number ∷ decimal over ∷ []
@@ -41,14 +42,14 @@ unfolding belowZero
 no-amount t some other = ap (λ (m : Margin). overOf (m .0)) (answer-carries-margin t .2 (λ z. ⊎-elim some other (parts-or-load t z)))
 
 pub refusal-prints : RefusalPrints
-refusal-prints t trace = (
+refusal-prints t order trace = (
   λ seven.
       let exact = over-is-exact t seven in (
         overOf (marginOf t),
         exact .0,
         exact .1,
-        refused-run t trace (λ z. omega (arith, z, seven))
+        refused-run t order trace (λ z. omega (arith, z, seven))
             ∙ ap rendered (rw (seven, over-7 t seven) (with-amount 7 (overOf (marginOf t)) (exact .1))),
       ),
-  λ some other. refused-run t trace some ∙ ap rendered (rw (no-amount t some other) (without-amount (admissionOf t))),
+  λ some other. refused-run t order trace some ∙ ap rendered (rw (no-amount t some other) (without-amount (admissionOf t))),
 )

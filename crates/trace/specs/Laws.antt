@@ -4,6 +4,7 @@ use mathlib.Core.Path.{_≡_}
 use Prim.Native.Nat.{ℕ, _+_, _≤_}
 use Rattle.table.specs.Admission.{loadOf, admissionOf}
 use Rattle.table.specs.declared.Table.{Table}
+use Rattle.order.specs.declared.Order.{Order}
 use Rattle.file.specs.Listing.{listing-file}
 use Rattle.listing.specs.Line.{ascii, decimal, rendered, refusedWord}
 use Rattle.trace.specs.Trace.{runOf, listingOf}
@@ -17,7 +18,7 @@ ListingPrints =
 -- Document 02, Req 05: "the program prints `refused 7 N` with N the amount over the span", which is what the load has above it, and never 0. "Other refusals [...] print as before."
 abbrev pub RefusalPrints : Type 0
 RefusalPrints =
-    (t : Table) (trace : List ℕ)
+    (t : Table) (order : Order) (trace : List ℕ)
     → (admissionOf t ≡ 7
-    → (n : ℕ) × (t .span + n ≡ loadOf t) × (1 ≤ n) × (runOf t trace ≡ rendered (refusedWord ∷ decimal 7 ∷ decimal n ∷ [])))
-    × ((admissionOf t ≡ 0 → ⊥) → (admissionOf t ≡ 7 → ⊥) → runOf t trace ≡ rendered (refusedWord ∷ decimal (admissionOf t) ∷ []))
+    → (n : ℕ) × (t .span + n ≡ loadOf t) × (1 ≤ n) × (runOf t order trace ≡ rendered (refusedWord ∷ decimal 7 ∷ decimal n ∷ [])))
+    × ((admissionOf t ≡ 0 → ⊥) → (admissionOf t ≡ 7 → ⊥) → runOf t order trace ≡ rendered (refusedWord ∷ decimal (admissionOf t) ∷ []))

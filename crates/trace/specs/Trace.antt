@@ -6,11 +6,12 @@ use Rattle.table.specs.Fold.{if}
 use Rattle.table.specs.Admission.{admissionOf}
 use Rattle.table.specs.Margin.{overIn}
 use Rattle.table.specs.declared.Table.{Table}
+use Rattle.order.specs.declared.Order.{Order}
 use Rattle.session.specs.Calls.{answerTo, Line, lineOf}
 use Rattle.session.specs.Opening.{openingOf}
 use Rattle.session.specs.declared.Session.{Session}
 use Rattle.calls.specs.declared.Call.{Call}
-use Rattle.file.specs.Reading.{eventAt, eventsIn, tableIn, traceIn, isLaidOut}
+use Rattle.file.specs.Reading.{eventAt, eventsIn, tableIn, orderIn, traceIn, isLaidOut}
 use Rattle.file.specs.declared.event.Event.{Event}
 use Rattle.listing.specs.Line.{rendered, headerFields, eventFields, refusedFields, textOf}
 use Rattle.trace.specs.declared.Stepped.{Stepped}
@@ -52,11 +53,12 @@ printedFrom s trace i (suc left) =
     rendered (fieldsOf (o .line)) ++ printedFrom (o .session) trace (i + 1) left
 
 -- "If reading or opening refuses it prints `refused N`, nothing more. Else a header, then a line per event", and of a load over the span "`refused 7 N` with N the amount over the span"
-unfoldable pub runOf : Table → List ℕ → List ℕ
-runOf t trace =
+unfoldable pub runOf : Table → Order → List ℕ → List ℕ
+runOf t order trace =
+    let opened = openingOf t order in
     if (eqb (admissionOf t) 0)
-    (rendered headerFields ++ printedFrom (openingOf t .session) trace 0 (eventsIn trace))
-    (rendered (refusedFields (admissionOf t) (overIn (openingOf t .admission))))
+    (rendered headerFields ++ printedFrom (opened .session) trace 0 (eventsIn trace))
+    (rendered (refusedFields (admissionOf t) (overIn (opened .admission))))
 
 unfoldable pub listingOf : List ℕ → List ℕ
-listingOf file = if (isLaidOut file) (runOf (tableIn file) (traceIn file)) (rendered (refusedFields 16 0))
+listingOf file = if (isLaidOut file) (runOf (tableIn file) (orderIn file) (traceIn file)) (rendered (refusedFields 16 0))

@@ -28,27 +28,27 @@ table-of-requires c κs = search needs
 sub-of-opened : tie.Need-sub-of-opened
 sub-of-opened c =
     let at = c .before .before in
-    omega (arith, accepted-is-within _ _ _ _ _ (sym (at .before .before .read .ensures) ∙ at .reading .given .1) .whole-events)
+    omega (arith, accepted-is-within _ _ _ _ _ _ _ (sym (at .before .before .read .ensures) ∙ at .reading .given .1) .whole-events)
 
 part-of-opened-start : tie.Need-part-of-opened-start
 part-of-opened-start c =
     let at = c .before .before in
-    omega (arith, accepted-is-within _ _ _ _ _ (sym (at .before .before .read .ensures) ∙ at .reading .given .1) .whole-events)
+    omega (arith, accepted-is-within _ _ _ _ _ _ _ (sym (at .before .before .read .ensures) ∙ at .reading .given .1) .whole-events)
 
 part-of-opened-end : tie.Need-part-of-opened-end
 part-of-opened-end c =
     let at = c .before .before in
-    omega (arith, accepted-is-within _ _ _ _ _ (sym (at .before .before .read .ensures) ∙ at .reading .given .1) .in-file)
+    omega (arith, accepted-is-within _ _ _ _ _ _ _ (sym (at .before .before .read .ensures) ∙ at .reading .given .1) .in-file)
 
 of-opened-requires : tie.Need-of-opened-requires
 of-opened-requires c κs =
     let at = c .before .before .before in
-    events-of _ _ _ _ _ (sym (at .before .before .read .ensures) ∙ at .reading .given .1)
+    events-of _ _ _ _ _ _ _ (sym (at .before .before .read .ensures) ∙ at .reading .given .1)
 
 returns-2 : tie.Need-returns-2
 returns-2 c =
     let at = c .before .before .before .before in
-    rw (c .before .before .table-of .ensures) at (c .of-opened .ensures) ∙ sym (filed-opened _ _ _ _ _ (sym (at .before .before .read .ensures) ∙ at .reading .given .1))
+    rw (c .before .before .table-of .ensures) at (c .of-opened .ensures) ∙ sym (filed-opened _ _ _ _ _ _ _ (sym (at .before .before .read .ensures) ∙ at .reading .given .1))
 
 pub of-file-spec : {M : Type 1} → statement M
 of-file-spec =

@@ -19,7 +19,7 @@ number-requires c κs = search needs
 
 -- the number that is asked for is that of the table
 number-is : (c : tie.After-number) → c .number .result ≡ admissionOf (c .before .before .before .args .table)
-number-is c = c .number .ensures ∙ ap (λ (o : Opened). numberIn (o .admission)) (c .before .open .ensures) ∙ opened-number _
+number-is c = c .number .ensures ∙ ap (λ (o : Opened). numberIn (o .admission)) (c .before .open .ensures) ∙ opened-number _ _
 
 over-requires : tie.Need-over-requires
 over-requires c κs = search needs
@@ -32,7 +32,7 @@ returns c =
     let at = c .before .before .before in
     let over = c .before .over .ensures ∙ ap (λ (o : Opened). overIn (o .admission)) (at .before .open .ensures) in
     rw (c .refused .ensures, over, number-is at)
-    (sym (opened-refused _ _ (λ z. c .before .before .if1 .taken (number-is at ∙ z))))
+    (sym (opened-refused _ _ _ (λ z. c .before .before .if1 .taken (number-is at ∙ z))))
 
 run-requires : tie.Need-run-requires
 run-requires c κs = search needs

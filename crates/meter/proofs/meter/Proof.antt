@@ -27,17 +27,17 @@ table-of-requires c κs = search needs
 sub-measure : tie.Need-sub-measure
 sub-measure c =
     let at = c .before .before in
-    omega (arith, accepted-is-within _ _ _ _ _ (sym (at .before .before .read .ensures) ∙ at .reading .given .1) .whole-events)
+    omega (arith, accepted-is-within _ _ _ _ _ _ _ (sym (at .before .before .read .ensures) ∙ at .reading .given .1) .whole-events)
 
 part-measure-start : tie.Need-part-measure-start
 part-measure-start c =
     let at = c .before .before in
-    omega (arith, accepted-is-within _ _ _ _ _ (sym (at .before .before .read .ensures) ∙ at .reading .given .1) .whole-events)
+    omega (arith, accepted-is-within _ _ _ _ _ _ _ (sym (at .before .before .read .ensures) ∙ at .reading .given .1) .whole-events)
 
 part-measure-end : tie.Need-part-measure-end
 part-measure-end c =
     let at = c .before .before in
-    omega (arith, accepted-is-within _ _ _ _ _ (sym (at .before .before .read .ensures) ∙ at .reading .given .1) .in-file)
+    omega (arith, accepted-is-within _ _ _ _ _ _ _ (sym (at .before .before .read .ensures) ∙ at .reading .given .1) .in-file)
 
 measure-requires : tie.Need-measure-requires
 measure-requires c κs = search needs

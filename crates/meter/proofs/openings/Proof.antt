@@ -6,10 +6,10 @@ use Rattle.meter.proofs.openings.Statement.{statement}
 use Rattle.meter.proofs.openings.Tie as tie
 
 abbrev Inv-loop : tie.InvT-loop
-Inv-loop times number₀ mixed₀ kept₀ zero i₀ number mixed kept i = i ≤ times
+Inv-loop order times number₀ mixed₀ kept₀ zero i₀ number mixed kept i = i ≤ times
 
 abbrev μ-loop : tie.MeasureT-loop
-μ-loop times number₀ mixed₀ kept₀ zero i₀ number mixed kept i = times - i
+μ-loop order times number₀ mixed₀ kept₀ zero i₀ number mixed kept i = times - i
 
 zero-of-requires : tie.Need-zero-of-requires Inv-loop μ-loop
 zero-of-requires c κs = search needs

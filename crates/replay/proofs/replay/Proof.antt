@@ -54,17 +54,17 @@ print-requires-2 c κs = search needs
 sub-run : tie.Need-sub-run
 sub-run c =
     let at = c .before .before .before .before .before .before .before in
-    omega (arith, accepted-is-within _ _ _ _ _ (sym (at .before .before .read .ensures) ∙ at .reading .given .1) .whole-events)
+    omega (arith, accepted-is-within _ _ _ _ _ _ _ (sym (at .before .before .read .ensures) ∙ at .reading .given .1) .whole-events)
 
 part-run-start : tie.Need-part-run-start
 part-run-start c =
     let at = c .before .before .before .before .before .before .before in
-    omega (arith, accepted-is-within _ _ _ _ _ (sym (at .before .before .read .ensures) ∙ at .reading .given .1) .whole-events)
+    omega (arith, accepted-is-within _ _ _ _ _ _ _ (sym (at .before .before .read .ensures) ∙ at .reading .given .1) .whole-events)
 
 part-run-end : tie.Need-part-run-end
 part-run-end c =
     let at = c .before .before .before .before .before .before .before in
-    omega (arith, accepted-is-within _ _ _ _ _ (sym (at .before .before .read .ensures) ∙ at .reading .given .1) .in-file)
+    omega (arith, accepted-is-within _ _ _ _ _ _ _ (sym (at .before .before .read .ensures) ∙ at .reading .given .1) .in-file)
 
 run-requires : tie.Need-run-requires
 run-requires c κs = search needs

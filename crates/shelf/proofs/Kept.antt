@@ -3,9 +3,10 @@ use mathlib.Core.Path.{_≡_, refl, sym, ap, _∙_}
 use mathlib.Core.Bool.{true, false≢true}
 use Prim.Native.Nat.{ℕ, suc}
 use native.Mathlib.Omega.{arith}
-use lib.Dec.{eqb}
-use borrow.Author.Tests.{eqb-true}
+use Rattle.table.specs.Fold.{if}
 use Rattle.table.proofs.Tests.{by-if}
+use Rattle.order.specs.Order.{isOrder}
+use Rattle.order.proofs.Orders.{numbers-are-orders}
 use Rattle.session.specs.Session.{asked, sound}
 use Rattle.session.specs.Opening.{zeroSession}
 use Rattle.session.proofs.Openings.{opening-is-sound, ask-is-latest}
@@ -14,18 +15,18 @@ use Rattle.view.specs.declared.View.{View}
 use Rattle.session.specs.Calls.{refusal, ruled, verdict, apply, answerTo}
 use Rattle.session.specs.declared.Session.{Session}
 use Rattle.calls.specs.declared.Call.{Call}
-use Rattle.shelf.specs.Image.{nearest-first, imageOf, sessionOf, answeredAs, shownOf, momentAs, latestAs}
-use Rattle.shelf.specs.Laws.{NothingIsLost, AskedAsShown, RefusalChangesNothing}
+use Rattle.shelf.specs.Image.{imageOf, sessionOf, openedAs, toldAs, answeredAs, shownOf, momentAs, latestAs}
+use Rattle.shelf.specs.Laws.{NothingIsLost, AskedAsShown, RefusalChangesNothing, OtherOrdersAreRefused}
 use Rattle.shelf.specs.declared.images.Image.{Image}
 use Rattle.shelf.specs.declared.images.Answered.{Answered}
 
-back : (i : Image) → i .order ≡ nearest-first → imageOf (sessionOf i) ≡ i
+back : (i : Image) → isOrder (i .order) ≡ true → imageOf (sessionOf i) ≡ i
 unfolding imageOf sessionOf
-back i e = rw (sym e)
+back i e = rw (numbers-are-orders .1 (i .order) e)
 
 pub nothing-is-lost : NothingIsLost
 unfolding imageOf sessionOf
-nothing-is-lost = (λ s. refl, back)
+nothing-is-lost = (λ s. rw (numbers-are-orders .0 (s .order) .1), back)
 
 same-session : (s : Session) (k : Call) (n : ℕ) → refusal s k ≡ suc n → answerTo s k .session ≡ s
 unfolding answerTo verdict ruled apply
@@ -34,8 +35,8 @@ same-session s k n e = rw e
 pub refusal-changes-nothing : RefusalChangesNothing
 unfolding answeredAs
 refusal-changes-nothing i k n e =
-    by-if (λ (a : Answered). a .session ≡ i) (eqb (i .order) nearest-first) _ _
-    (λ near. ap imageOf (same-session (sessionOf i) k n e) ∙ back i (eqb-true (i .order) nearest-first near))
+    by-if (λ (a : Answered). a .session ≡ i) (isOrder (i .order)) _ _
+    (λ of-one. ap imageOf (same-session (sessionOf i) k n e) ∙ back i of-one)
     (λ other. refl)
 
 -- a session that is shown is sound, and so is told its latest safe moment
@@ -50,6 +51,13 @@ shown-is i s same =
 pub asked-as-shown : AskedAsShown
 unfolding shownOf sessionOf
 asked-as-shown i =
-    by-if (λ (s : Session). viewOf s .number ≡ 0 → latestAs (i .horizon .0) (i .remainders .0) (i .span) ≡ record { number = 0; at = viewOf s .latest .0 }) (eqb (i .order) nearest-first) _ _
-    (λ near. shown-is i (sessionOf i) (λ ok. refl))
+    by-if (λ (s : Session). viewOf s .number ≡ 0 → latestAs (i .horizon .0) (i .remainders .0) (i .span) ≡ record { number = 0; at = viewOf s .latest .0 }) (isOrder (i .order)) _ _
+    (λ of-one. shown-is i (sessionOf i) (λ ok. refl))
     (λ other. shown-is i zeroSession (λ ok. absurd (false≢true (sym (opening-is-sound .1) ∙ ok))))
+
+pub other-orders-are-refused : OtherOrdersAreRefused
+unfolding openedAs answeredAs shownOf viewOf toldAs if
+other-orders-are-refused = (
+  λ t order none. rw none,
+  λ i k none. (rw none, rw none, rw (none, opening-is-sound .1)),
+)

@@ -1,10 +1,10 @@
 -- A session as numbers alone, and what is answered to it.
 use Prim.Native.Nat.{ℕ}
-use lib.Dec.{eqb}
-use lib.IntN.{ℤ}
+use lib.IntN.{ℤ, pos}
 use Rattle.table.specs.Fold.{if}
-use Rattle.table.specs.Margin.{numberIn, marginIn}
+use Rattle.table.specs.Margin.{margin, numberIn, marginIn}
 use Rattle.table.specs.declared.Table.{Table}
+use Rattle.order.specs.Order.{orderNumber, isOrder, orderOf}
 use Rattle.time.specs.Latest.{latestOf, askedNumber, askedMoment}
 use Rattle.time.specs.declared.remainders.Latest.{Latest}
 use Rattle.session.specs.Opening.{zeroSession, openingOf}
@@ -12,6 +12,7 @@ use Rattle.calls.specs.Replies.{numberOf, valueOf, streamOf, tagOf}
 use Rattle.session.specs.Calls.{answerTo}
 use Rattle.view.specs.View.{viewOf, stateOf, closingOf}
 use Rattle.session.specs.declared.Session.{Session}
+use Rattle.session.specs.declared.Opened.{Opened}
 use Rattle.calls.specs.declared.Call.{Call}
 use Rattle.calls.specs.declared.Reply.{Reply}
 use Rattle.view.specs.declared.View.{View}
@@ -23,10 +24,6 @@ use Rattle.shelf.specs.declared.images.Answered.{Answered}
 use Rattle.shelf.specs.declared.images.Opening.{Opening}
 use Rattle.shelf.specs.declared.images.Moment.{Moment}
 
--- the number of the one order there is, nearest first
-abbrev pub nearest-first : ℕ
-nearest-first = 0
-
 unfoldable pub imageOf : Session → Image
 imageOf s =
     record {
@@ -34,7 +31,7 @@ imageOf s =
       span = s .span;
       padding = s .padding;
       tag = s .tag;
-      order = nearest-first;
+      order = orderNumber (s .order);
       count = s .count;
       margin = s .margin;
       horizon = s .horizon;
@@ -62,17 +59,26 @@ sessionOf i =
       served = i .served;
       place = i .place;
       tag = i .tag;
+      order = orderOf (i .order);
       streams = i .streams;
     }
 
--- what opening answers: the number, and the margin that it carries
-unfoldable pub openedAs : Table → Opening
-openedAs t =
+-- an opening: the number that opening answers and the margin that it carries, and the session
+abbrev pub openingAs : Opened → Opening
+openingAs opened =
     record {
-      number = numberIn (openingOf t .admission);
-      margin = marginIn (openingOf t .admission);
-      session = imageOf (openingOf t .session);
+      number = numberIn (opened .admission);
+      margin = marginIn (opened .admission);
+      session = imageOf (opened .session);
     }
+
+-- where there is no such order: 31, as every call answers to an image with that number, and the all-zero session, which is not sound
+abbrev pub unopened : Opening
+unopened = record { number = 31; margin = margin (pos 0); session = imageOf zeroSession }
+
+-- What opening answers with a table and the number of an order.
+unfoldable pub openedAs : Table → ℕ → Opening
+openedAs t order = if (isOrder order) (openingAs (openingOf t (orderOf order))) unopened
 
 -- a reply to a call as four numbers
 unfoldable pub toldAs : Call → Reply → Told
@@ -81,13 +87,13 @@ toldAs k r = record { number = numberOf r; stream = streamOf k r; value = valueO
 -- What a call is answered. An image whose order stands for none is refused 31, and is what it was.
 unfoldable pub answeredAs : Image → Call → Answered
 answeredAs i k =
-    if (eqb (i .order) nearest-first)
+    if (isOrder (i .order))
     (record { session = imageOf (answerTo (sessionOf i) k .session); reply = toldAs k (answerTo (sessionOf i) k .reply) })
     (record { session = i; reply = toldAs k (Reply.Refused 31) })
 
 -- the session that an image shows: one whose order stands for none shows the all-zero one, which is not sound
 unfoldable pub shownOf : Image → Session
-shownOf i = if (eqb (i .order) nearest-first) (sessionOf i) zeroSession
+shownOf i = if (isOrder (i .order)) (sessionOf i) zeroSession
 
 abbrev pub viewedAs : Image → View
 viewedAs i = viewOf (shownOf i)

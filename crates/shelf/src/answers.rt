@@ -1,7 +1,7 @@
 // What is answered to an image, by value.
 ghost use mathlib.Core.Path.{_≡_};
 ghost use Rattle.table.specs.Reservations.{tableOfRecords};
-ghost use Rattle.shelf.specs.Image.{imageOf, openedAs, toldAs, answeredAs, shownOf, viewedAs, stateAs, closingAs, latestAs};
+ghost use Rattle.shelf.specs.Image.{imageOf, unopened, openedAs, toldAs, answeredAs, shownOf, viewedAs, stateAs, closingAs, latestAs};
 ghost use Rattle.shelf.specs.Filed.{readAs, writtenAs};
 use crate::Answered;
 use crate::Filed;
@@ -14,8 +14,10 @@ use calls::Call;
 use calls::Reply;
 use file::Reading;
 use file::Writing;
+use order::Order;
 use session::Answer;
 use session::Session;
+use table::Margin;
 use table::Records;
 use time::Clock;
 use time::Latest;
@@ -24,16 +26,32 @@ use view::Closing;
 use view::State;
 use view::View;
 
-// A session opened with what was taken of a table.
-pub(crate) fn open(worst: u32, span: u32, padding: u32, records: Records) -> Opening
-    ensures { λ r. ⌜ r ≡ openedAs (tableOfRecords worst span padding (records .rows) (records .count)) ⌝ }
+// A session opened with an order and with what was taken of a table. A number that is that of no order is refused before the table is looked at.
+pub(crate) fn open(worst: u32, span: u32, padding: u32, order: u64, records: Records) -> Opening
+    ensures { λ r. ⌜ r ≡ openedAs (tableOfRecords worst span padding (records .rows) (records .count)) order ⌝ }
 {
-    let opened = Session::open_taken(worst, span, padding, records);
+    if !Order::is_number(order) {
+        return unopened();
+    }
+    let opened = Session::open_taken(worst, span, padding, Order::of_number(order), records);
     let session = Image::of(opened.session);
     let admission = opened.admission;
     Opening {
         number: admission.number(),
         margin: admission.margin(),
+        session: session,
+    }
+}
+
+// What stands where there is no such order: 31, and the all-zero session.
+fn unopened() -> Opening
+    ensures { λ r. ⌜ r ≡ unopened ⌝ }
+{
+    let session = Image::of(Session::zero());
+    let margin = Margin::none();
+    Opening {
+        number: 31,
+        margin: margin,
         session: session,
     }
 }
@@ -78,7 +96,7 @@ pub(crate) fn arrival(image: Image, stream: u64, place: u64, tag: u32) -> Answer
     ensures { λ r. ⌜ r ≡ answeredAs image (Call.Arrival stream place tag) ⌝ }
 {
     let call = Call::Arrival { stream, place, tag };
-    if image.order != Image::NEAREST {
+    if !Order::is_number(image.order) {
         return refused(image, call);
     }
     let session = image.session();
@@ -90,7 +108,7 @@ pub(crate) fn turn(image: Image) -> Answered
     ensures { λ r. ⌜ r ≡ answeredAs image Call.Turn ⌝ }
 {
     let call = Call::Turn;
-    if image.order != Image::NEAREST {
+    if !Order::is_number(image.order) {
         return refused(image, call);
     }
     let session = image.session();
@@ -102,7 +120,7 @@ pub(crate) fn own_turn(image: Image, stream: u64, index: u64) -> Answered
     ensures { λ r. ⌜ r ≡ answeredAs image (Call.OwnTurn stream index) ⌝ }
 {
     let call = Call::OwnTurn { stream, index };
-    if image.order != Image::NEAREST {
+    if !Order::is_number(image.order) {
         return refused(image, call);
     }
     let session = image.session();
@@ -114,7 +132,7 @@ pub(crate) fn done(image: Image, duration: u64) -> Answered
     ensures { λ r. ⌜ r ≡ answeredAs image (Call.Done duration) ⌝ }
 {
     let call = Call::Done { duration };
-    if image.order != Image::NEAREST {
+    if !Order::is_number(image.order) {
         return refused(image, call);
     }
     let session = image.session();
@@ -126,7 +144,7 @@ pub(crate) fn clock(image: Image, time: u64) -> Answered
     ensures { λ r. ⌜ r ≡ answeredAs image (Call.Clock time) ⌝ }
 {
     let call = Call::Clock { time };
-    if image.order != Image::NEAREST {
+    if !Order::is_number(image.order) {
         return refused(image, call);
     }
     let session = image.session();
@@ -138,7 +156,7 @@ pub(crate) fn clock(image: Image, time: u64) -> Answered
 fn shown(image: Image) -> Session
     ensures { λ r. ⌜ r ≡ shownOf image ⌝ }
 {
-    if image.order != Image::NEAREST {
+    if !Order::is_number(image.order) {
         return Session::zero();
     }
     image.session()
@@ -186,6 +204,8 @@ pub(crate) fn filed(reading: Reading) -> Filed
 {
     match reading {
         Reading::LaidOut {
+            form,
+            order,
             count,
             start,
             end,
@@ -196,6 +216,8 @@ pub(crate) fn filed(reading: Reading) -> Filed
             start: start,
             end: end,
             events: events,
+            order: order.number(),
+            third: form.third(),
         },
         Reading::Refused(number) => Filed {
             number: number,
@@ -203,6 +225,8 @@ pub(crate) fn filed(reading: Reading) -> Filed
             start: 0,
             end: 0,
             events: 0,
+            order: 0,
+            third: 0,
         },
     }
 }

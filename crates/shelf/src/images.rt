@@ -1,6 +1,7 @@
 // What crosses to C and Rust: structs of numbers, with their fields in order.
 ghost use mathlib.Core.Path.{_≡_};
 ghost use Rattle.shelf.specs.Image.{sessionOf, imageOf};
+use order::Order;
 use session::Session;
 use stream::Stream;
 use table::Margin;
@@ -8,7 +9,7 @@ use table::Table;
 use time::Clock;
 use time::Remainders;
 
-// A session. The order of choice is 0, nearest first; another number stands for none. The four numbers of 32 bits come first, so that no byte is padding.
+// A session. The order is a number, 0 nearest or 1 sweep; another one stands for none. The four numbers of 32 bits come first, so that no byte is padding.
 #[repr(C)]
 pub struct Image {
     pub worst: u32,
@@ -57,7 +58,7 @@ pub struct Moment {
     pub at: u64,
 }
 
-// The parts of a session file, and 0; or the refusal, and zeros.
+// The parts of a session file, its order and the length of its third body, and 0; or the refusal, and zeros.
 #[repr(C)]
 pub struct Filed {
     pub number: u64,
@@ -65,6 +66,8 @@ pub struct Filed {
     pub start: usize,
     pub end: usize,
     pub events: usize,
+    pub order: u64,
+    pub third: u64,
 }
 
 // How long the file is that was written, and 0; or the refusal, and 0.
@@ -75,11 +78,10 @@ pub struct Wrote {
 }
 
 impl Image {
-    pub const NEAREST: u64 = 0;
-
     pub fn of(s: Session) -> Image
         ensures { λ r. ⌜ r ≡ imageOf s ⌝ }
     {
+        let order = s.order;
         let margin = s.margin;
         let horizon = s.horizon;
         let remainders = s.remainders;
@@ -90,7 +92,7 @@ impl Image {
             span: s.span,
             padding: s.padding,
             tag: s.tag,
-            order: Self::NEAREST,
+            order: order.number(),
             count: s.count,
             margin: margin,
             horizon: horizon,
@@ -107,6 +109,7 @@ impl Image {
     pub fn session(self) -> Session
         ensures { λ r. ⌜ r ≡ sessionOf self ⌝ }
     {
+        let order = Order::of_number(self.order);
         let margin = self.margin;
         let horizon = self.horizon;
         let remainders = self.remainders;
@@ -125,6 +128,7 @@ impl Image {
             served: self.served,
             place: self.place,
             tag: self.tag,
+            order: order,
             streams: streams,
         }
     }

@@ -5,9 +5,8 @@ mod images;
 ghost use mathlib.Core.Path.{_≡_};
 ghost use Rattle.table.specs.Reservations.{lentTable};
 ghost use Rattle.file.specs.Reading.{readOf, tableIn};
-ghost use Rattle.file.specs.Writing.{writeOf, writtenOn};
 ghost use Rattle.shelf.specs.Image.{openedAs, answeredAs, viewedAs, stateAs, closingAs, latestAs};
-ghost use Rattle.shelf.specs.Filed.{readAs, writtenAs};
+ghost use Rattle.shelf.specs.Filed.{readAs, wroteAs, wroteOn};
 use answers::arrival;
 use answers::clock;
 use answers::closing;
@@ -21,6 +20,8 @@ use answers::turn;
 use answers::view;
 use answers::written;
 use calls::Call;
+use file::Form;
+use file::Writing;
 pub use images::Answered;
 pub use images::Filed;
 pub use images::Image;
@@ -28,6 +29,7 @@ pub use images::Moment;
 pub use images::Opening;
 pub use images::Told;
 pub use images::Wrote;
+use order::Order;
 use table::Reservation;
 use table::Table;
 use table::take_in;
@@ -35,17 +37,18 @@ use view::Closing;
 use view::State;
 use view::View;
 
-// Opens a session with W, H, k and a lent table of any length.
+// Opens a session with W, H, k, the number of an order and a lent table of any length.
 #[no_mangle]
 pub extern "C" fn yerbagunt_open(
     worst: u32,
     span: u32,
     padding: u32,
+    order: u64,
     table: &[Reservation],
 ) -> Opening
-    ensures { λ r. ⌜ r ≡ openedAs (lentTable worst span padding (now (table .entry))) ⌝ }
+    ensures { λ r. ⌜ r ≡ openedAs (lentTable worst span padding (now (table .entry))) order ⌝ }
 {
-    open(worst, span, padding, take_in(table))
+    open(worst, span, padding, order, take_in(table))
 }
 
 #[no_mangle]
@@ -141,11 +144,22 @@ pub extern "C" fn yerbagunt_table(file: &[u8]) -> Table
     file::table_of(file)
 }
 
-// Writes the file of a table and a trace at the start of a buffer.
+// Writes the file of a table, the number of an order and a trace at the start of a buffer, with a third body of so many bytes.
 #[no_mangle]
-pub extern "C" fn yerbagunt_write(table: Table, trace: &[u8], out: &mut [u8]) -> Wrote
-    ensures { λ r. ⌜ r ≡ writtenAs (writeOf table (now (trace .entry)) (now (out .entry))) ⌝ }
-    ensures { λ _. ⌜ now (out .exit) ≡ writtenOn table (now (trace .entry)) (now (out .entry)) ⌝ }
+pub extern "C" fn yerbagunt_write(
+    table: Table,
+    order: u64,
+    third: u64,
+    trace: &[u8],
+    out: &mut [u8],
+) -> Wrote
+    ensures { λ r. ⌜ r ≡ wroteAs table order third (now (trace .entry)) (now (out .entry)) ⌝ }
+    ensures { λ _. ⌜ now (out .exit) ≡ wroteOn table order third (now (trace .entry)) (now (out .entry)) ⌝ }
 {
-    written(file::write(table, trace, out))
+    if !(Order::is_number(order) & Form::is_third(third)) {
+        return written(Writing::Refused(16));
+    }
+    let form = Form::of_third(third);
+    let by = Order::of_number(order);
+    written(file::write(table, form, by, trace, out))
 }

@@ -3,9 +3,9 @@ use mathlib.Core.Bool.{Bool, true, false}
 use mathlib.Core.Path.{_≡_, refl, sym, ap, _∙_}
 use mathlib.Core.Logic.{_⊎_, inl, inr, ⊎-elim}
 use mathlib.Core.List.{List, [], _++_, append-nil}
-use Prim.Native.Nat.{ℕ, _+_, _-_, _*_, _^_, _≤_, _<_}
+use Prim.Native.Nat.{ℕ, _+_, _*_, _^_, _≤_, _<_}
 use native.Mathlib.Omega.{arith}
-use borrow.Author.Tests.{eqb-true, le-leb, le-ltb}
+use borrow.Author.Tests.{eqb-true, le-ltb}
 use lib.Dec.{eqb}
 use lib.ListN.{length, take, drop}
 use lib.Seq.{take-at, drop-at}
@@ -21,7 +21,7 @@ use Rattle.cells.proofs.Numbers.{number-lt}
 use Rattle.file.specs.File.{tableStart, thirdLength, thirdBody, entry, contents, tableBody, fileOf}
 use Rattle.file.specs.Reading.{eventsIn, formIn, startIn, tableLength, part, countAt, traceStart, traceEnd, orderIn, traceIn, tableAt, tableIn, isLaidOut, readOf}
 use Rattle.file.specs.Writing.{isWritable, writeRefusal, writeOf, writtenOn}
-use Rattle.file.specs.Laws.{Words, trimmed, WrittenIsWithin, WrittenReadsBack, RefusedChangesNothing, RestIsUnchanged, TableReadIsTrimmed, AcceptedWritesBack, AcceptedAreTheWritten, Within, AcceptedIsWithin, LongestFile, oldFile, TwoMeansNearest, SweepNeedsThree, ThreeEntries, AcceptedHasItsEntries, OthersAreRefused, OldTrace, OldFileReads}
+use Rattle.file.specs.Laws.{Words, trimmed, WrittenIsWithin, WrittenReadsBack, RefusedChangesNothing, RestIsUnchanged, TableReadIsTrimmed, AcceptedWritesBack, AcceptedAreTheWritten, Within, AcceptedIsWithin, LongestFile, oldFile, TwoMeansNearest, SweepNeedsThree, ThreeEntries, AcceptedHasItsEntries, OthersAreRefused, OldFileReads}
 use Rattle.file.specs.declared.form.Form.{Form}
 use Rattle.file.specs.declared.form.Form.the-variants.{Two, Three}
 use Rattle.file.specs.declared.Reading.the-variants.{LaidOut, Refused as NotLaidOut}

@@ -8,7 +8,6 @@ use lib.ListN.{length, take, drop, length-drop}
 use lib.Seq.{take-add, drop-drop, take-all, length-take-le}
 use Rattle.table.specs.Admission.{reservedAt, periodAt}
 use Rattle.table.specs.declared.Table.{Table}
-use Rattle.order.specs.Order.{orderOf, orderNumber, isOrder}
 use Rattle.order.proofs.Orders.{numbers-are-orders}
 use Rattle.cells.specs.Cells.{cell, numberAt, Bytes}
 use Rattle.cells.proofs.Numbers.{cell-number}

@@ -13,7 +13,11 @@ pub enum Form {
 }
 
 impl Form {
-    // How many bytes an order has.
+    // How many bytes count the entries, and how many an entry and an order have.
+    const COUNT_SIZE: usize = 2;
+
+    const ENTRY_SIZE: usize = 12;
+
     const ORDER_SIZE: u64 = 4;
 
     pub(crate) fn entries(self) -> u64
@@ -25,11 +29,11 @@ impl Form {
         }
     }
 
-    // Where the table body starts: after the two bytes that count the entries, and 12 for each.
+    // Where the table body starts: after the last entry.
     pub(crate) fn table_start(self) -> usize
         ensures { λ r. ⌜ r ≡ tableStart self ⌝ }
     {
-        2 + 12 * (self.entries() as usize)
+        Form::COUNT_SIZE + Form::ENTRY_SIZE * (self.entries() as usize)
     }
 
     // How long the third body is; of a form without one, 0.

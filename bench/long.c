@@ -97,7 +97,7 @@ int main(int words, char **word)
         t.reservations[t.count++] = (struct reservation){(uint32_t)atoi(word[i]), (uint32_t)atoi(word[i + 1])};
     struct session s;
     int64_t margin;
-    if (session_open(&s, &t, &margin) != ADMITTED)
+    if (session_open(&s, &t, ORDER_NEAREST, &margin) != ADMITTED)
         return 1;
     bool waiting = false;
     for (int i = 0; i < FILE_EVENTS; i++) {

@@ -20,14 +20,14 @@ static void table_stream(size_t i, uint32_t reserved, uint32_t period)
 static void prepare(image *session)
 {
     int64_t margin;
-    session_open(session, &table, &margin);
+    session_open(session, &table, ORDER_NEAREST, &margin);
 }
 
 static uint64_t open_again(void)
 {
     image session;
     int64_t margin;
-    return session_open(&session, &table, &margin);
+    return session_open(&session, &table, ORDER_NEAREST, &margin);
 }
 
 static uint64_t arrival(image *session, uint64_t stream, uint64_t place, uint32_t tag)

@@ -363,7 +363,7 @@ static void open_one(const struct booked *b, unsigned long at)
     int64_t margin;
     for (size_t i = 0; i < b->length && i < STREAM_MAX; i++)
         t.reservations[i] = (struct reservation){records[i].reserved, records[i].period};
-    hold(session_open(&other, &t, &margin) == o.number && margin == o.margin, "the number and the margin are the second engine's", at);
+    hold(session_open(&other, &t, ORDER_NEAREST, &margin) == o.number && margin == o.margin, "the number and the margin are the second engine's", at);
     hold(to_second(&o.session, &opened) && memcmp(&opened, &other, sizeof other) == 0, "the opened session is the second engine's", at);
 }
 

@@ -242,6 +242,12 @@ static bool disk_sound(const struct session *s, uint64_t horizon)
     return s->disk_stream <= s->table.count && slot_fits(s, (uint32_t)s->disk_stream - 1, horizon, 1);
 }
 
+// Document 02, Req 08: "0 nearest, 1 sweep"
+bool is_order(uint64_t number)
+{
+    return number == ORDER_NEAREST || number == ORDER_SWEEP;
+}
+
 // "A session is sound if its table numbers are ones that opening admits; ..", line by line. Gives the horizon as well.
 static bool sound(const struct session *s, uint64_t *horizon)
 {
@@ -250,6 +256,9 @@ static bool sound(const struct session *s, uint64_t *horizon)
         return false;
     // "What a later request adds to the state joins this rule": the margin of Req 05 is span less load of the table.
     if (s->margin != margin)
+        return false;
+    // The order of Req 08 is one of the two.
+    if (!is_order(s->order))
         return false;
     uint32_t count = s->table.count;
     for (uint32_t i = 0; i < count; i++)
@@ -272,13 +281,17 @@ static bool sound(const struct session *s, uint64_t *horizon)
 // --- Calls ---
 
 // "no session is made, and an all-zero one, which is not sound, stands in its place"; document 02, Req 05: "Opening
-// passes it on with 7, the session keeps it when admitted"
-enum number session_open(struct session *s, const struct table *t, int64_t *margin)
+// passes it on with 7, the session keeps it when admitted"; Req 08: "Which order a session uses is one choice held in it."
+enum number session_open(struct session *s, const struct table *t, uint64_t order, int64_t *margin)
 {
-    enum number number = admit(t, margin);
     *s = (struct session){0};
+    *margin = 0;
+    if (!is_order(order))
+        return UNSOUND;
+    enum number number = admit(t, margin);
     if (number != ADMITTED)
         return number;
+    s->order = order;
     s->table.worst = t->worst;
     s->table.span = t->span;
     s->table.padding = t->padding;
@@ -341,7 +354,15 @@ static uint64_t distance(uint64_t a, uint64_t b)
     return a > b ? a - b : b - a;
 }
 
-// A request of the set: its stream (STREAM_MAX for none), its index in that queue, its distance from the head.
+// How far a place is from the head by the order of the session: the least is sent. "the place nearest the head"; document
+// 02, Req 08: "With sweep order .. the smallest place not below the head, and if there is none, the smallest place of all".
+// That is how far the head goes if it only goes up, and from the end of 64 bits on from 0.
+static uint64_t way_to(const struct session *s, uint64_t place)
+{
+    return s->order == ORDER_SWEEP ? place - s->head : distance(place, s->head);
+}
+
+// A request of the set: its stream (STREAM_MAX for none), its index in that queue, and how far it is from the head.
 struct choice {
     uint32_t stream;
     uint64_t index;
@@ -349,8 +370,8 @@ struct choice {
 };
 
 // "Take the earliest deadline among streams with a filled slot; of the set's requests from streams with that deadline,
-// the place nearest the head; ties go to the lower stream, then the earlier arrival."; document 02, Req 07: "The queue, its
-// order and the choice rule do not look at tags."
+// the place nearest the head; ties go to the lower stream, then the earlier arrival."; document 02, Req 08: "ties as before";
+// Req 07: "The queue, its order and the choice rule do not look at tags."
 static struct choice choose(const struct session *s, uint64_t horizon)
 {
     struct choice best = {STREAM_MAX, 0, 0};
@@ -360,7 +381,7 @@ static struct choice choose(const struct session *s, uint64_t horizon)
             continue;
         uint64_t set = filled(s, i, horizon);
         for (uint64_t j = 0; j < set; j++) {
-            uint64_t far = distance(m->places[j], s->head);
+            uint64_t far = way_to(s, m->places[j]);
             if (best.stream == STREAM_MAX || m->deadline < s->streams[best.stream].deadline || far < best.far)
                 best = (struct choice){i, j, far};
         }

@@ -52,6 +52,9 @@ enum number {
     UNSOUND = 31
 };
 
+// Document 02, Req 08: "Which order a session uses is one choice held in it", by its number in a file: "0 nearest, 1 sweep"
+enum order { ORDER_NEAREST = 0, ORDER_SWEEP = 1 };
+
 // "per stream: reserved time e and period p"
 struct reservation {
     uint32_t reserved;
@@ -94,10 +97,11 @@ struct stream {
 
 // Streams are numbered from 1; stream 0 at the disk stands for none. The margin is H less the load of the table; document
 // 02, Req 05: "the session keeps it when admitted". The horizon and the remainders are what Req 06 asks by: "The session
-// keeps the sum of remainders, scaled by the span so that it is whole". No member leaves a gap, so each byte is a cell's;
-// for this the tag at the disk, of 32 bits, has a cell of 64.
+// keeps the sum of remainders, scaled by the span so that it is whole". The order is a number of `enum order`. No member
+// leaves a gap, so each byte is a cell's; for this the tag at the disk, of 32 bits, and the order have cells of 64.
 struct session {
     struct table table;
+    uint64_t order;
     int64_t margin;
     uint64_t horizon;
     int64_t remainders;
@@ -118,8 +122,9 @@ struct reply {
 };
 
 // ADMITTED, or the refusal; a refused opening leaves the all-zero session. Through the pointer goes the margin: not
-// negative if admitted, negative with 7, and 0 with every other refusal.
-enum number session_open(struct session *s, const struct table *t, int64_t *margin);
+// negative if admitted, negative with 7, and 0 with every other refusal. A number that is no order is refused by UNSOUND,
+// before the table is looked at.
+enum number session_open(struct session *s, const struct table *t, uint64_t order, int64_t *margin);
 
 struct reply session_arrival(struct session *s, uint64_t stream, uint64_t place, uint32_t tag);
 struct reply session_turn(struct session *s);
@@ -136,6 +141,7 @@ uint64_t session_horizon(const struct session *s);
 uint64_t session_latest_safe(const struct session *s);
 uint64_t session_filled(const struct session *s, uint64_t stream);
 uint32_t padding_of(const struct table *t);
+bool is_order(uint64_t number);
 uint64_t granted_budget(const struct table *t, const struct reservation *r);
 
 #endif

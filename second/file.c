@@ -4,9 +4,8 @@
 #include <inttypes.h>
 #include <string.h>
 
-#define ENTRIES 2
-#define KIND_TABLE 1
-#define KIND_TRACE 2
+// The bodies in the order in which they stand; the kind of each entry is one more.
+enum body { BODY_TABLE, BODY_TRACE, BODY_ORDER, BODIES };
 
 enum kind { EVENT_ARRIVAL = 1, EVENT_TURN, EVENT_OWN_TURN, EVENT_DONE, EVENT_CLOCK };
 
@@ -72,42 +71,82 @@ static void read_table(const uint8_t *body, struct table *t)
     }
 }
 
-// "Entry one is kind 1 (table), at offset 26; entry two is kind 2 (trace), right after it; the file ends with it."
-// The count tells the table's length and the file's end the trace's, so each byte of the contents has one right value.
-static enum number read_file(struct run *run, size_t size, struct table *t)
+// How many entries a file has, and where each of its bodies starts: it ends where the next one starts, and the last with
+// the file. Of two entries there is no body with the order, and it is as if it were empty.
+struct layout {
+    size_t entries;
+    size_t at[BODIES + 1];
+};
+
+// "Entry one is kind 1 (table) .. ; entry two is kind 2 (trace), right after it; the file ends with it."; document 02, Req
+// 08: "the first body starts after the last entry". The table's count and the file's end tell where the bodies are.
+static bool find_bodies(const uint8_t *file, size_t size, struct layout *l)
+{
+    l->entries = number_at(file, NUMBER_BYTES);
+    if (l->entries != ENTRIES_PLAIN && l->entries != ENTRIES_ORDERED)
+        return false;
+    size_t order_length = l->entries == ENTRIES_ORDERED ? ORDER_BYTES : 0;
+    size_t table_at = CONTENTS_BYTES(l->entries);
+    if (size < table_at + TABLE_BYTES + order_length || size > FILE_MAX)
+        return false;
+    uint32_t count = four_at(file + table_at + 12);
+    if (count > STREAM_MAX)
+        return false;
+    size_t trace_at = table_at + TABLE_BYTES + count * RESERVATION_BYTES;
+    if (size < trace_at + order_length)
+        return false;
+    size_t trace_length = size - order_length - trace_at;
+    if (trace_length % EVENT_BYTES != 0 || trace_length / EVENT_BYTES > EVENT_MAX)
+        return false;
+    l->at[BODY_TABLE] = table_at;
+    l->at[BODY_TRACE] = trace_at;
+    l->at[BODY_ORDER] = trace_at + trace_length;
+    l->at[BODIES] = size;
+    return true;
+}
+
+// Each byte of the contents has one right value, by the bodies. "Refusals: another value, or the entry in another place than
+// last, is 16": the entries stand in the order of their bodies.
+static bool contents_sound(const uint8_t *file, const struct layout *l)
+{
+    for (size_t i = 0; i < l->entries; i++)
+        if (!entry_is(file + CONTENTS_BYTES(i), (uint32_t)i + 1, l->at[i], l->at[i + 1] - l->at[i]))
+            return false;
+    return true;
+}
+
+// Req 08: "holds four bytes: 0 nearest, 1 sweep; a file with two entries means nearest"
+static uint32_t order_in(const uint8_t *file, const struct layout *l)
+{
+    return l->entries == ENTRIES_ORDERED ? four_at(file + l->at[BODY_ORDER]) : ORDER_NEAREST;
+}
+
+static enum number read_file(struct run *run, size_t size, struct table *t, uint32_t *order)
 {
     const uint8_t *file = run->file;
-    if (size < CONTENTS_BYTES + TABLE_BYTES || size > FILE_MAX)
+    struct layout l;
+    if (size < NUMBER_BYTES || !find_bodies(file, size, &l) || !contents_sound(file, &l))
         return BAD_LAYOUT;
-    uint32_t count = four_at(file + CONTENTS_BYTES + 12);
-    if (count > STREAM_MAX)
+    *order = order_in(file, &l);
+    if (!is_order(*order))
         return BAD_LAYOUT;
-    size_t table_length = TABLE_BYTES + count * RESERVATION_BYTES;
-    size_t trace_at = CONTENTS_BYTES + table_length;
-    if (size < trace_at)
-        return BAD_LAYOUT;
-    size_t trace_length = size - trace_at;
-    if (trace_length % EVENT_BYTES != 0 || trace_length / EVENT_BYTES > EVENT_MAX)
-        return BAD_LAYOUT;
-    if (number_at(file, 2) != ENTRIES || !entry_is(file + 2, KIND_TABLE, CONTENTS_BYTES, table_length)
-        || !entry_is(file + 14, KIND_TRACE, trace_at, trace_length))
-        return BAD_LAYOUT;
-    for (size_t at = trace_at; at < size; at += EVENT_BYTES)
+    for (size_t at = l.at[BODY_TRACE]; at < l.at[BODY_ORDER]; at += EVENT_BYTES)
         if (!event_sound(file + at))
             return BAD_LAYOUT;
-    read_table(file + CONTENTS_BYTES, t);
-    run->trace = file + trace_at;
-    run->count = trace_length / EVENT_BYTES;
+    read_table(file + l.at[BODY_TABLE], t);
+    run->trace = file + l.at[BODY_TRACE];
+    run->count = (l.at[BODY_ORDER] - l.at[BODY_TRACE]) / EVENT_BYTES;
     return ADMITTED;
 }
 
 struct opening start_run(struct run *run, FILE *in)
 {
     struct table t;
+    uint32_t order;
     size_t size = fread(run->file, 1, sizeof run->file, in);
-    struct opening o = {read_file(run, size, &t), 0};
+    struct opening o = {read_file(run, size, &t, &order), 0};
     if (o.number == ADMITTED)
-        o.number = session_open(&run->session, &t, &o.margin);
+        o.number = session_open(&run->session, &t, order, &o.margin);
     return o;
 }
 

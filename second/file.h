@@ -1,4 +1,4 @@
-// The session file of document 01 and its run, for every program of this folder.
+// The session file of document 01, as document 02 changes it, and its run, for every program of this folder.
 #ifndef SECOND_FILE_H
 #define SECOND_FILE_H
 
@@ -6,13 +6,20 @@
 
 #include <stdio.h>
 
-// "Two bytes: number of entries, always 2. Two entries of 12 bytes: kind, offset, length, four bytes each."
-#define CONTENTS_BYTES 26
+// "Two bytes: number of entries", "entries of 12 bytes: kind, offset, length, four bytes each"; document 02, Req 08: "A third
+// entry in the contents table, kind 3, holds four bytes", and a file may have two entries or three.
+#define NUMBER_BYTES 2
+#define ENTRY_BYTES 12
+#define ENTRIES_PLAIN 2
+#define ENTRIES_ORDERED 3
+#define CONTENTS_BYTES(entries) (NUMBER_BYTES + ENTRY_BYTES * (entries))
 #define TABLE_BYTES 16
 #define RESERVATION_BYTES 8
 #define EVENT_BYTES 16
 #define EVENT_MAX 4000
-#define FILE_MAX (CONTENTS_BYTES + TABLE_BYTES + STREAM_MAX * RESERVATION_BYTES + EVENT_MAX * EVENT_BYTES)
+#define ORDER_BYTES 4
+#define FILE_MAX \
+    (CONTENTS_BYTES(ENTRIES_ORDERED) + TABLE_BYTES + STREAM_MAX * RESERVATION_BYTES + EVENT_MAX * EVENT_BYTES + ORDER_BYTES)
 
 // The tag is an arrival's, and 0 in every other event.
 struct event {

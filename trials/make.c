@@ -13,35 +13,68 @@ void put(uint8_t *at, uint64_t number, size_t width)
         at[i] = (uint8_t)(number >> 8 * i);
 }
 
-size_t lay_out(const struct table *t, const struct trace *trace, uint8_t *file)
+size_t entry_at(size_t i)
 {
-    size_t table_length = 16 + 8 * (size_t)t->count;
-    size_t trace_length = 16 * trace->count;
-    uint8_t *at = file + 26;
-    put(file, 2, 2);
-    put(file + 2, 1, 4);
-    put(file + 6, 26, 4);
-    put(file + 10, table_length, 4);
-    put(file + 14, 2, 4);
-    put(file + 18, 26 + table_length, 4);
-    put(file + 22, trace_length, 4);
+    return 2 + 12 * i;
+}
+
+void put_entry(uint8_t *file, size_t i, size_t offset, size_t length)
+{
+    uint8_t *entry = file + entry_at(i);
+    put(entry, i + 1, 4);
+    put(entry + 4, offset, 4);
+    put(entry + 8, length, 4);
+}
+
+static size_t put_table(uint8_t *at, const struct table *t)
+{
     put(at, t->worst, 4);
     put(at + 4, t->span, 4);
     put(at + 8, t->padding, 4);
     put(at + 12, t->count, 4);
     for (uint32_t i = 0; i < t->count; i++) {
-        put(at + 16 + 8 * i, t->reservations[i].reserved, 4);
-        put(at + 20 + 8 * i, t->reservations[i].period, 4);
+        uint8_t *r = at + TABLE_BYTES + RESERVATION_BYTES * i;
+        put(r, t->reservations[i].reserved, 4);
+        put(r + 4, t->reservations[i].period, 4);
     }
-    at += table_length;
-    for (size_t i = 0; i < trace->count; i++, at += 16) {
-        memset(at, 0, 16);
+    return TABLE_BYTES + RESERVATION_BYTES * (size_t)t->count;
+}
+
+static size_t put_trace(uint8_t *at, const struct trace *trace)
+{
+    for (size_t i = 0; i < trace->count; i++, at += EVENT_BYTES) {
+        memset(at, 0, EVENT_BYTES);
         at[0] = trace->events[i].kind;
         at[1] = trace->events[i].stream;
         put(at + 2, trace->events[i].tag, 4);
         put(at + 8, trace->events[i].value, 8);
     }
-    return 26 + table_length + trace_length;
+    return EVENT_BYTES * trace->count;
+}
+
+size_t lay_out(const struct table *t, struct ordering o, const struct trace *trace, uint8_t *file)
+{
+    size_t entries = o.told ? 3 : 2;
+    size_t table_at = entry_at(entries);
+    size_t trace_at = table_at + put_table(file + table_at, t);
+    size_t end = trace_at + put_trace(file + trace_at, trace);
+    put(file, entries, 2);
+    put_entry(file, 0, table_at, trace_at - table_at);
+    put_entry(file, 1, trace_at, end - trace_at);
+    if (!o.told)
+        return end;
+    put_entry(file, 2, end, ORDER_BYTES);
+    put(file + end, o.order, ORDER_BYTES);
+    return end + ORDER_BYTES;
+}
+
+// Of twenty files eight have two entries, three a third one that says nearest, and nine one that says sweep. This has a chance
+// of its own: a table does not depend on it, nor do events before the order decides one.
+static struct ordering pick_ordering(const struct chance *c)
+{
+    struct chance own = {c->state ^ 0x5851f42d4c957f2du};
+    uint64_t sort = below(&own, 20);
+    return (struct ordering){sort < 9 ? ORDER_SWEEP : ORDER_NEAREST, sort < 12};
 }
 
 // Mostly a few hundred events; now and then none, and all 4,000.
@@ -61,26 +94,27 @@ static size_t make_file(struct chance *c, uint64_t index, uint8_t *file)
 {
     static struct trace trace;
     struct table t;
+    struct ordering o = pick_ordering(c);
     uint64_t sort = index % 20;
     if (sort < 4) {
         make_faulty_table(c, &t);
-        make_trace(c, &t, below(c, 40), &trace);
-        return lay_out(&t, &trace, file);
+        make_trace(c, &t, o.order, below(c, 40), &trace);
+        return lay_out(&t, o, &trace, file);
     }
     if (sort >= 9 && percent(c, 2)) {
         make_far_table(c, &t);
-        make_far_trace(c, &t, EVENT_MAX, &trace);
-        return lay_out(&t, &trace, file);
+        make_far_trace(c, &t, o.order, EVENT_MAX, &trace);
+        return lay_out(&t, o, &trace, file);
     }
     make_table(c, &t);
     if (sort >= 9) {
-        make_trace(c, &t, trace_length(c), &trace);
-        return lay_out(&t, &trace, file);
+        make_trace(c, &t, o.order, trace_length(c), &trace);
+        return lay_out(&t, o, &trace, file);
     }
     // With one event too many the layout is sound but for the number of events.
     bool too_many = percent(c, 4);
-    make_trace(c, &t, too_many ? EVENT_MAX + 1 : percent(c, 5) ? EVENT_MAX : below(c, 60), &trace);
-    size_t size = lay_out(&t, &trace, file);
+    make_trace(c, &t, o.order, too_many ? EVENT_MAX + 1 : percent(c, 5) ? EVENT_MAX : below(c, 60), &trace);
+    size_t size = lay_out(&t, o, &trace, file);
     if (!too_many)
         damage(c, file, &size, ROOM);
     return size;

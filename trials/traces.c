@@ -393,19 +393,19 @@ static void follow(struct run *r, size_t most)
 }
 
 // Opens the session that the events follow; false if the table is refused.
-static bool opened(struct run *r, const struct table *t)
+static bool opened(struct run *r, const struct table *t, enum order order)
 {
     int64_t margin;
     r->tags = (struct chance){~r->c->state};
     r->tag_mode = (unsigned)below(&r->tags, 4);
-    return session_open(&r->s, t, &margin) == ADMITTED;
+    return session_open(&r->s, t, order, &margin) == ADMITTED;
 }
 
-void make_trace(struct chance *c, const struct table *t, size_t most, struct trace *trace)
+void make_trace(struct chance *c, const struct table *t, enum order order, size_t most, struct trace *trace)
 {
     struct run r = {.c = c, .trace = trace, .lean = lean(c, most)};
     trace->count = 0;
-    if (!opened(&r, t)) {
+    if (!opened(&r, t, order)) {
         any_events(c, most, trace);
         return;
     }
@@ -414,11 +414,11 @@ void make_trace(struct chance *c, const struct table *t, size_t most, struct tra
     follow(&r, most);
 }
 
-void make_far_trace(struct chance *c, const struct table *t, size_t most, struct trace *trace)
+void make_far_trace(struct chance *c, const struct table *t, enum order order, size_t most, struct trace *trace)
 {
     struct run r = {.c = c, .trace = trace};
     trace->count = 0;
-    if (!opened(&r, t))
+    if (!opened(&r, t, order))
         return;
     step(&r, EVENT_CLOCK, 0, FAR_CLOCK + below(c, FAR_CLOCK));
     while (trace->count < most && r.waiting_for == 0)

@@ -8,6 +8,9 @@ EVENT = "<BBI2xQ"
 TURN = Event(2, 0, 0, 0)
 # What a padding of 0 stands for.
 PADDING_DEFAULT = 3
+# The orders by their numbers. A file that tells its order has a third entry, whose body is the last: four bytes.
+NEAREST, SWEEP = 0, 1
+ENTRIES_TOLD, ORDER_BYTES = 3, 4
 
 
 def arrival(stream, place, tag=0):
@@ -31,18 +34,35 @@ def padding_meant(k):
     return k or PADDING_DEFAULT
 
 
-def session_file(worst, span, padding, streams, events):
-    """The bytes of a table, whose streams are pairs of e and p, and a trace."""
+def session_file(worst, span, padding, streams, events, order=None):
+    """The bytes of a table, whose streams are pairs of e and p, and a trace; and, if it is given, of an order, which takes a third entry."""
     table = struct.pack("<IIII", worst, span, padding, len(streams))
     table += b"".join(struct.pack("<II", reserved, period) for reserved, period in streams)
     trace = b"".join(struct.pack(EVENT, *event) for event in events)
-    contents = struct.pack("<HIIIIII", 2, 1, 26, len(table), 2, 26 + len(table), len(trace))
-    return contents + table + trace
+    bodies = [table, trace] + ([] if order is None else [struct.pack("<I", order)])
+    contents, at = struct.pack("<H", len(bodies)), 2 + 12 * len(bodies)
+    for kind, body in enumerate(bodies, 1):
+        contents += struct.pack("<III", kind, at, len(body))
+        at += len(body)
+    return contents + b"".join(bodies)
+
+
+def bounds(data):
+    """Where the table of a file starts and where its trace ends, by its first two bytes alone."""
+    told = data[:2] == struct.pack("<H", ENTRIES_TOLD)
+    return (38, len(data) - ORDER_BYTES) if told else (26, len(data))
+
+
+def order_told(data):
+    """The number of the order that a file tells which a reader accepts; None where it has two entries, which means nearest."""
+    _, end = bounds(data)
+    return struct.unpack_from("<I", data, end)[0] if end < len(data) else None
 
 
 def parts(data):
     """The table's numbers W, H and k, its pairs of e and p, and the events of a file that a reader accepts."""
-    worst, span, padding, count = struct.unpack_from("<4I", data, 26)
-    streams = [struct.unpack_from("<2I", data, 42 + 8 * i) for i in range(count)]
-    events = [Event(*struct.unpack_from(EVENT, data, at)) for at in range(42 + 8 * count, len(data), 16)]
+    start, end = bounds(data)
+    worst, span, padding, count = struct.unpack_from("<4I", data, start)
+    streams = [struct.unpack_from("<2I", data, start + 16 + 8 * i) for i in range(count)]
+    events = [Event(*struct.unpack_from(EVENT, data, at)) for at in range(start + 16 + 8 * count, end, 16)]
     return (worst, span, padding), streams, events

@@ -10,6 +10,7 @@ TURN = Event(2, 0, 0, 0)
 PADDING_DEFAULT = 3
 # The orders by their numbers. A file that tells its order has a third entry, whose body is the last: four bytes.
 NEAREST, SWEEP = 0, 1
+ORDER_WORDS = {NEAREST: "nearest first", SWEEP: "sweep"}
 ENTRIES_TOLD, ORDER_BYTES = 3, 4
 
 

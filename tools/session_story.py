@@ -5,7 +5,7 @@ but that a move closes every job whose deadline is the horizon, and that the nex
 """
 import struct
 
-from session_file import padding_meant, parts
+from session_file import order_told, padding_meant, parts
 
 ARRIVAL, TURN, OWN_TURN, DONE, CLOCK = range(1, 6)
 CALLS = {ARRIVAL: "arrival", TURN: "turn", OWN_TURN: "own turn", DONE: "done", CLOCK: "clock"}
@@ -74,11 +74,12 @@ class Job:
 class Session:
     """What a listing tells: each thing that is drawn, with its times.
 
-    Most are lines; a request is its send, its completion or None, and its end; a wait is its line and its end.
+    Most are lines; a request is its send, its completion or None, and its end; a wait is its line and its end. The order is None where the
+    file tells none.
     """
 
-    def __init__(self, table, streams, lines):
-        self.worst, self.span, self.padding = table
+    def __init__(self, table, order, streams, lines):
+        (self.worst, self.span, self.padding), self.order = table, order
         self.streams, self.lines = streams, lines
         self.arrivals, self.requests, self.expired, self.refusals, self.reports, self.moves = [], [], [], [], [], []
         self.waits, self.waiting = [], []
@@ -163,7 +164,7 @@ def story(data, listing):
             raise ValueError(f"line {len(lines) + 2} cannot follow the one before it")
         sent = line if line.answer == SENT else None if line.answer in (FINISHED, OVERLONG) else sent
         lines.append(line)
-    return Session(table, streams, lines)
+    return Session(table, order_told(data), streams, lines)
 
 
 def fits(line, number, count, sent):

@@ -7,7 +7,7 @@
 #include "hold.h"
 #include "yerbagunt.h"
 
-#define STACK 16384 /* what the header says that a call takes */
+#define STACK 20480 /* what the header says that a call takes */
 
 static const struct yerbagunt_table table = {25000, 1000000, 1, 2, {25000, 175000}, {250000, 500000}};
 static const uint8_t trace[32] = {1, 1, 255, 255, 255, 255, 0, 0, 100, 0, 0, 0, 0, 0, 0, 0, 2};
@@ -221,6 +221,7 @@ static void copied(void)
 }
 
 static uint8_t *edge; /* the end of the stack that `every_call` takes for itself */
+static long taken;    /* the most that a call took below it */
 
 static void *every_call(void *file)
 {
@@ -249,8 +250,9 @@ static void stack(void)
     hold(pthread_create(&thread, &own, every_call, file) == 0 && pthread_join(thread, NULL) == 0, "a thread runs on its own stack", 0);
     while (left < sizeof room && room[left] == 0xa5)
         left++;
-    hold(edge - (room + left) > (long)sizeof(struct yerbagunt_session), "a call takes some of the stack", left);
-    hold(edge - (room + left) <= STACK, "a call takes no more of the stack than is said", left);
+    taken = edge - (room + left);
+    hold(taken > (long)sizeof(struct yerbagunt_session), "a call takes some of the stack", left);
+    hold(taken <= STACK, "a call takes no more of the stack than is said", left);
 }
 
 #define TEXT(number) #number
@@ -267,6 +269,6 @@ int main(void)
     copied();
     stack();
     hold(strcmp(YERBAGUNT_VERSION, JOINED(YERBAGUNT_VERSION_MAJOR, YERBAGUNT_VERSION_MINOR, YERBAGUNT_VERSION_PATCH)) == 0, "the version is its three numbers", 0);
-    printf("%lu facts, %lu wrong\n", held, wrong);
+    printf("%lu facts, %lu wrong; a call takes up to %ld bytes of stack\n", held, wrong, taken);
     return wrong != 0;
 }

@@ -23,7 +23,7 @@ static void table_stream(size_t i, uint32_t reserved, uint32_t period)
 /* Opening hands the session over by value. */
 static struct yerbagunt_opening opened(void)
 {
-    return yerbagunt_open(worst, span, padding, (struct yerbagunt_reservations){records, count});
+    return yerbagunt_open(worst, span, padding, YERBAGUNT_NEAREST, records, count);
 }
 
 static void prepare(image *session)

@@ -11,20 +11,21 @@
 
 static const struct yerbagunt_table table = {25000, 1000000, 1, 2, {25000, 175000}, {250000, 500000}};
 static const uint8_t trace[32] = {1, 1, 255, 255, 255, 255, 0, 0, 100, 0, 0, 0, 0, 0, 0, 0, 2};
-#define FILE_LENGTH 90
+#define EMPTY_LENGTH 74 /* of the file of that table and no event, with three entries */
+#define FILE_LENGTH (EMPTY_LENGTH + sizeof trace)
 
 static struct yerbagunt_written written(const uint8_t *from, size_t length, uint8_t *out, size_t room)
 {
-    return yerbagunt_write(table, (struct yerbagunt_bytes){from, length}, (struct yerbagunt_buffer){out, room});
+    return yerbagunt_write(table, YERBAGUNT_SWEEP, YERBAGUNT_ORDER_SIZE, (struct yerbagunt_bytes){from, length}, (struct yerbagunt_buffer){out, room});
 }
 
 /* At every other horizon the second stream is owed half a microsecond beside whole ones. */
 static const struct yerbagunt_reservation records[2] = {{25000, 250000}, {175001, 500000}};
 
-static struct yerbagunt_session opened(void)
+static struct yerbagunt_session opened(uint64_t order)
 {
-    struct yerbagunt_opening o = yerbagunt_open(25000, 1000000, 1, (struct yerbagunt_reservations){records, 2});
-    hold(o.number == YERBAGUNT_OK, "the table is admitted", 0);
+    struct yerbagunt_opening o = yerbagunt_open(25000, 1000000, 1, order, records, 2);
+    hold(o.number == YERBAGUNT_OK && o.session.order == order, "the table is admitted, in either order", order);
     return o.session;
 }
 
@@ -88,14 +89,15 @@ static void nothing_lent(void)
     uint8_t *const pointers[] = {NULL, (uint8_t *)4, (uint8_t *)-1, other};
     for (size_t i = 0; i < sizeof pointers / sizeof pointers[0]; i++) {
         uint8_t *p = pointers[i];
-        struct yerbagunt_opening o = yerbagunt_open(25000, 1000000, 1, (struct yerbagunt_reservations){(const void *)p, 0});
+        struct yerbagunt_opening o = yerbagunt_open(25000, 1000000, 1, YERBAGUNT_SWEEP, (const void *)p, 0);
         hold(memcmp(&o, &none, sizeof o) == 0, "a table of no records is refused", i);
+        hold(yerbagunt_open(25000, 1000000, 1, 2, (const void *)p, 0).number == YERBAGUNT_UNSOUND, "another order is refused first", i);
         hold(yerbagunt_read((struct yerbagunt_bytes){p, 0}).number == YERBAGUNT_LAYOUT, "no bytes are no file", i);
         struct yerbagunt_table t = yerbagunt_table((struct yerbagunt_bytes){p, 0});
         hold(t.worst == 0 && t.span == 0 && t.padding == 0 && t.count == 0 && memcmp(t.reserved, empty.reserved, 64) == 0, "the table of no bytes is all zero", i);
         hold(written(trace, sizeof trace, p, 0).number == YERBAGUNT_ROOM, "no file fits in no room", i);
         hold(written(p, 0, p, 0).number == YERBAGUNT_ROOM, "no file fits in no room, without a trace too", i);
-        hold(written(p, 0, file, sizeof file).length == 58 && yerbagunt_read((struct yerbagunt_bytes){file, 58}).number == YERBAGUNT_OK, "a file without events is written", i);
+        hold(written(p, 0, file, sizeof file).length == EMPTY_LENGTH && yerbagunt_read((struct yerbagunt_bytes){file, EMPTY_LENGTH}).number == YERBAGUNT_OK, "a file without events is written", i);
     }
 }
 
@@ -127,8 +129,8 @@ static void alignment(void)
     } four;
     static _Alignas(64) struct yerbagunt_session usual;
     memcpy(four.records, records, sizeof records);
-    usual = opened();
-    eight.session = yerbagunt_open(25000, 1000000, 1, (struct yerbagunt_reservations){four.records, 2}).session;
+    usual = opened(YERBAGUNT_NEAREST);
+    eight.session = yerbagunt_open(25000, 1000000, 1, YERBAGUNT_NEAREST, four.records, 2).session;
     hold(memcmp(&eight.session, &usual, sizeof usual) == 0, "records at a multiple of 4 are taken", 0);
     hold(worked(&eight.session, 1) == worked(&usual, 1), "a session at a multiple of 8 is called", 0);
 
@@ -156,7 +158,7 @@ static void *work(void *given)
     return NULL;
 }
 
-/* One thread at a time: sessions of two threads go on at once, and a session goes from one thread to another. */
+/* One thread at a time: sessions of two threads, one in each order, go on at once, and a session goes from one thread to another. */
 static void threads(void)
 {
     static struct work alone[2], together[2];
@@ -164,7 +166,7 @@ static void threads(void)
         pthread_t thread[2];
         for (int i = 0; i < 2; i++) {
             if (round == 0)
-                alone[i].session = together[i].session = opened();
+                alone[i].session = together[i].session = opened((uint64_t)i);
             alone[i].seed = together[i].seed = 100 * round + i;
             work(&alone[i]);
         }
@@ -180,11 +182,14 @@ static void threads(void)
 /* Asking looks at three cells: a session that no call has made may get a moment. */
 static void not_judged(void)
 {
-    struct yerbagunt_session session = opened(), none = {0};
+    struct yerbagunt_session session = opened(YERBAGUNT_NEAREST), none = {0};
     struct yerbagunt_moment latest = yerbagunt_latest_of(&session), no_moment = yerbagunt_latest_of(&none);
     hold(no_moment.number == YERBAGUNT_UNSOUND && no_moment.at == 0 && !yerbagunt_fits(&none, 0), "the all-zero session has no moment, and nothing fits", 0);
     session.horizon++;
     hold(yerbagunt_view(session).number == YERBAGUNT_UNSOUND && yerbagunt_latest_of(&session).at == latest.at + 1, "a session with another horizon is not sound, and has another moment", 0);
+    session.horizon--;
+    session.order = 2;
+    hold(yerbagunt_view(session).number == YERBAGUNT_UNSOUND && yerbagunt_latest_of(&session).at == latest.at, "a session with another order is not sound, and has its moment", 0);
 }
 
 /* A request of the caller's own fits up to the latest safe moment, and is then reported in time. Nothing is at the disk, and no report was late. */
@@ -200,17 +205,19 @@ static void own_request(const struct yerbagunt_session *session, unsigned long a
 
 static void own_requests(void)
 {
-    struct yerbagunt_session session = opened();
-    for (uint64_t n = 0; n < 2000; n++) {
-        stepped(&session, picked(n));
-        own_request(&session, n);
+    for (uint64_t order = YERBAGUNT_NEAREST; order <= YERBAGUNT_SWEEP; order++) {
+        struct yerbagunt_session session = opened(order);
+        for (uint64_t n = 0; n < 2000; n++) {
+            stepped(&session, picked(n));
+            own_request(&session, n);
+        }
     }
 }
 
 /* A copy goes on from where it was taken, and its original is none of its concern. */
 static void copied(void)
 {
-    struct yerbagunt_session original = opened(), before;
+    struct yerbagunt_session original = opened(YERBAGUNT_SWEEP), before;
     static uint64_t place[sizeof original / 8];
     worked(&original, 5);
     memcpy(&before, &original, sizeof before);
@@ -225,8 +232,10 @@ static long taken;    /* the most that a call took below it */
 
 static void *every_call(void *file)
 {
-    struct yerbagunt_session s = opened();
+    struct yerbagunt_session s = opened(YERBAGUNT_NEAREST);
     edge = __builtin_alloca(16);
+    worked(&s, 7);
+    s = opened(YERBAGUNT_SWEEP);
     worked(&s, 7);
     yerbagunt_own_turn(&s, 1, 0);
     hold(yerbagunt_view(s).number + yerbagunt_stream(s, 1).number + yerbagunt_last_job(s, 1).number == 0, "a session is shown", 0);

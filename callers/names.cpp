@@ -7,10 +7,11 @@ static yerbagunt_session session;
 static void calls()
 {
     const yerbagunt_reservation records[2] = {{25000, 250000}, {175000, 500000}};
-    yerbagunt_reservations reservations = {records, 2};
-    yerbagunt_opening opening = yerbagunt_open(25000, 1000000, 1, reservations);
+    yerbagunt_order order = YERBAGUNT_SWEEP;
+    yerbagunt_opening opening = yerbagunt_open(25000, 1000000, 1, order, records, 2);
     hold(opening.number == YERBAGUNT_OK, "the table is admitted", 0);
     session = opening.session;
+    hold(session.order == order, "the session has the order", 0);
     hold(opening.margin == 300000 && session.margin == 300000, "opening and the session tell the margin", 0);
     hold(yerbagunt_arrival(&session, 1, 100, 7).number == YERBAGUNT_ARRIVED, "a request arrives", 0);
     hold(yerbagunt_arrival(&session, 2, 900, UINT32_MAX).number == YERBAGUNT_ARRIVED, "another arrives", 0);
@@ -46,19 +47,19 @@ static void shown()
 
 static void files()
 {
-    static uint8_t file[58];
+    static uint8_t file[74];
     yerbagunt_table table = {25000, 1000000, 1, 2, {25000, 175000}, {250000, 500000}};
     yerbagunt_buffer buffer = {file, sizeof file};
-    yerbagunt_written written = yerbagunt_write(table, yerbagunt_bytes{nullptr, 0}, buffer);
-    hold(written.number == YERBAGUNT_OK && written.length == 58, "a file is written", 0);
+    yerbagunt_written written = yerbagunt_write(table, YERBAGUNT_SWEEP, YERBAGUNT_ORDER_SIZE, yerbagunt_bytes{nullptr, 0}, buffer);
+    hold(written.number == YERBAGUNT_OK && written.length == 74, "a file is written", 0);
     yerbagunt_bytes bytes = {file, sizeof file};
     yerbagunt_file parts = yerbagunt_read(bytes);
-    hold(parts.number == YERBAGUNT_OK && parts.count == 2, "a file is read", 0);
+    hold(parts.number == YERBAGUNT_OK && parts.count == 2 && parts.order == YERBAGUNT_SWEEP && parts.third == YERBAGUNT_ORDER_SIZE, "a file is read", 0);
     struct yerbagunt_table as_in_c = yerbagunt_table(bytes);
     hold(as_in_c.span == 1000000 && as_in_c.period[1] == 500000, "its table is read", 0);
     yerbagunt_number number = YERBAGUNT_ROOM;
-    buffer.length = 57;
-    hold(yerbagunt_write(table, yerbagunt_bytes{nullptr, 0}, buffer).number == number, "a number has a type", 0);
+    buffer.length = 73;
+    hold(yerbagunt_write(table, parts.order, parts.third, yerbagunt_bytes{nullptr, 0}, buffer).number == number, "a number has a type", 0);
 }
 
 int main()

@@ -1,18 +1,40 @@
 //! Uses a part of the wrapper, which is copied beside this file as a product copies it.
 mod yerbagunt;
 
-use yerbagunt::{Refusal, Reservation, Session};
+use yerbagunt::{ORDER_SIZE, Order, Refusal, Reservation, Session, Table, read, write};
 
-fn opened(reserved: u32) -> Result<Session, Refusal> {
-    Session::open(25000, 1000000, 1, &[Reservation { reserved, period: 1000000 }])
+fn opened(order: Order, reserved: u32) -> Result<Session, Refusal> {
+    Session::open(25000, 1000000, 1, order, &[Reservation { reserved, period: 1000000 }])
+}
+
+/// The place that is sent from 500, where 510 and 495 are queued.
+fn sent_from_500(order: Order) -> u64 {
+    let mut session = opened(order, 950000).expect("a load that is the span");
+    session.arrival(1, 500, 0);
+    session.turn();
+    session.done(1000);
+    session.arrival(1, 510, 0);
+    session.arrival(1, 495, 0);
+    session.turn().value
+}
+
+/// What is read of a file with one turn, and whether it is written again byte for byte; or 16.
+fn there_and_back(order: Order, third: u64) -> Result<(Order, u64, bool), u64> {
+    let empty = Table { worst: 25000, span: 1000000, padding: 1, count: 0, reserved: [0; 8], period: [0; 8] };
+    let turn = [2, 0, 0, 0, 0, 0, 0, 0, 0, 0, 0, 0, 0, 0, 0, 0];
+    let (mut out, mut again) = ([0; 80], [0; 80]);
+    let length = write(empty, order, third, &turn, &mut out)?;
+    let (file, table) = read(&out[..length as usize])?;
+    write(table, file.order, file.third, &out[file.start as usize..file.end as usize], &mut again)?;
+    Ok((file.order, file.third, out == again))
 }
 
 fn main() {
-    let none = Session::open(25000, 1000000, 1, &[]).err();
-    let over = opened(950001).err();
+    let none = Session::open(25000, 1000000, 1, Order::Nearest, &[]).err();
+    let over = opened(Order::Sweep, 950001).err();
     println!("refused {none:?} and {over:?}");
 
-    let mut session = opened(950000).expect("a load that is the span");
+    let mut session = opened(Order::Sweep, 950000).expect("a load that is the span");
     session.clock(10000);
     let without_span = Session { span: 0, ..session };
     println!("latest {:?} and {:?}", session.latest(), without_span.latest());
@@ -26,4 +48,9 @@ fn main() {
     let at_disk = session.tag;
     let done = session.done(5000);
     println!("tags {:?}", [sent.tag, at_disk, done.tag, session.tag]);
+
+    println!("sent from 500 {:?}", [Order::Nearest, Order::Sweep].map(sent_from_500));
+    for (order, third) in [(Order::Nearest, 0), (Order::Nearest, ORDER_SIZE), (Order::Sweep, ORDER_SIZE), (Order::Sweep, 0)] {
+        println!("a file of {order:?} and {third}: {:?}", there_and_back(order, third));
+    }
 }

@@ -13,12 +13,13 @@ static int is_refusal(uint64_t number) { return number < YERBAGUNT_ARRIVED || nu
 static int to_second(const struct yerbagunt_session *i, struct session *s)
 {
     memset(s, 0, sizeof *s);
-    if (i->order != 0 || i->count > UINT32_MAX)
+    if (i->count > UINT32_MAX)
         return 0;
     s->table.worst = i->worst;
     s->table.span = i->span;
     s->table.padding = i->padding;
     s->table.count = (uint32_t)i->count;
+    s->order = i->order;
     s->margin = i->margin;
     s->horizon = i->horizon;
     s->remainders = i->remainders;
@@ -283,7 +284,7 @@ static int moves(struct yerbagunt_session s) { return yerbagunt_turn(&s).number 
 static void sessions(struct yerbagunt_session made[MADE])
 {
     const struct yerbagunt_reservation table[2] = {{25000, 250000}, {175000, 500000}};
-    struct yerbagunt_opening o = yerbagunt_open(25000, 1000000, 1, (struct yerbagunt_reservations){table, 2});
+    struct yerbagunt_opening o = yerbagunt_open(25000, 1000000, 1, YERBAGUNT_NEAREST, table, 2);
     hold(o.number == YERBAGUNT_OK && o.session.margin == 300000, "the table is admitted, and leaves 300,000 of its span", 0);
     for (int i = 0; i < MADE; i++)
         made[i] = o.session;
@@ -317,7 +318,7 @@ static void one_place(void)
 {
     static const struct yerbagunt_reservation table[2] = {{25000, 250000}, {175000, 500000}};
     static const uint32_t tags[3] = {7, UINT32_MAX, 0x01020304};
-    struct yerbagunt_session s = yerbagunt_open(25000, 1000000, 1, (struct yerbagunt_reservations){table, 2}).session;
+    struct yerbagunt_session s = yerbagunt_open(25000, 1000000, 1, YERBAGUNT_NEAREST, table, 2).session;
     const struct yerbagunt_stream *two = &s.streams[1];
     for (int i = 0; i < 3; i++)
         hold(yerbagunt_arrival(&s, 2, 900, tags[i]).tag == 0 && two->tags[i] == tags[i], "an arrival keeps the tag, and its reply has none", i);
@@ -348,7 +349,7 @@ static void open_one(const struct booked *b, unsigned long at)
     struct yerbagunt_reservation records[9];
     for (size_t i = 0; i < 9; i++)
         records[i] = i == 0 ? b->first : b->others;
-    struct yerbagunt_opening o = yerbagunt_open(b->worst, b->span, b->padding, (struct yerbagunt_reservations){records, b->length});
+    struct yerbagunt_opening o = yerbagunt_open(b->worst, b->span, b->padding, YERBAGUNT_NEAREST, records, b->length);
     hold(o.number == b->number, "opening answers by number", at);
     hold(o.margin == b->margin, "opening tells the margin, and 0 with 1 to 6", at);
     if (o.number == YERBAGUNT_OK) {
@@ -400,19 +401,19 @@ static void files(void)
     memcpy(before, out, sizeof out);
     hold(yerbagunt_read((struct yerbagunt_bytes){out, 0}).number == YERBAGUNT_LAYOUT, "no bytes are no file", 0);
     for (size_t room = 0; room < 90; room++)
-        hold(yerbagunt_write(t, (struct yerbagunt_bytes){trace, 32}, (struct yerbagunt_buffer){out, room}).number == YERBAGUNT_ROOM, "a short buffer is refused", room);
+        hold(yerbagunt_write(t, YERBAGUNT_NEAREST, 0, (struct yerbagunt_bytes){trace, 32}, (struct yerbagunt_buffer){out, room}).number == YERBAGUNT_ROOM, "a short buffer is refused", room);
     t.count = 9;
-    hold(yerbagunt_write(t, (struct yerbagunt_bytes){trace, 32}, (struct yerbagunt_buffer){out, sizeof out}).number == YERBAGUNT_LAYOUT, "nine streams are not written", 0);
+    hold(yerbagunt_write(t, YERBAGUNT_NEAREST, 0, (struct yerbagunt_bytes){trace, 32}, (struct yerbagunt_buffer){out, sizeof out}).number == YERBAGUNT_LAYOUT, "nine streams are not written", 0);
     t.count = 2;
-    hold(yerbagunt_write(t, (struct yerbagunt_bytes){trace, 31}, (struct yerbagunt_buffer){out, sizeof out}).number == YERBAGUNT_LAYOUT, "part of an event is not written", 0);
-    hold(yerbagunt_write(t, (struct yerbagunt_bytes){trace, sizeof trace}, (struct yerbagunt_buffer){out, sizeof out}).number == YERBAGUNT_LAYOUT, "4,001 events are not written", 0);
+    hold(yerbagunt_write(t, YERBAGUNT_NEAREST, 0, (struct yerbagunt_bytes){trace, 31}, (struct yerbagunt_buffer){out, sizeof out}).number == YERBAGUNT_LAYOUT, "part of an event is not written", 0);
+    hold(yerbagunt_write(t, YERBAGUNT_NEAREST, 0, (struct yerbagunt_bytes){trace, sizeof trace}, (struct yerbagunt_buffer){out, sizeof out}).number == YERBAGUNT_LAYOUT, "4,001 events are not written", 0);
     for (size_t at = 6; at < 24; at = at == 7 ? 18 : at + 1) {
         trace[at] = 1;
-        hold(yerbagunt_write(t, (struct yerbagunt_bytes){trace, 32}, (struct yerbagunt_buffer){out, sizeof out}).number == YERBAGUNT_LAYOUT, "of an arrival the two bytes after the tag are 0, of a turn all six", at);
+        hold(yerbagunt_write(t, YERBAGUNT_NEAREST, 0, (struct yerbagunt_bytes){trace, 32}, (struct yerbagunt_buffer){out, sizeof out}).number == YERBAGUNT_LAYOUT, "of an arrival the two bytes after the tag are 0, of a turn all six", at);
         trace[at] = 0;
     }
     hold(memcmp(out, before, sizeof out) == 0, "a refused writing left every byte as it was", 0);
-    struct yerbagunt_written w = yerbagunt_write(t, (struct yerbagunt_bytes){trace, 32}, (struct yerbagunt_buffer){out, sizeof out});
+    struct yerbagunt_written w = yerbagunt_write(t, YERBAGUNT_NEAREST, 0, (struct yerbagunt_bytes){trace, 32}, (struct yerbagunt_buffer){out, sizeof out});
     hold(w.number == YERBAGUNT_OK && w.length == 90, "the file is written", 0);
     hold(memcmp(out + 90, before + 90, sizeof out - 90) == 0, "the bytes after the file are as they were", 0);
     struct yerbagunt_file f = yerbagunt_read((struct yerbagunt_bytes){out, 90});

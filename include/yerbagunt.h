@@ -24,8 +24,8 @@
 /* The version of this header and of its library. Another major number: the layout of a struct changed, or the answer to some input; read what
  * changed, and compile anew. Another minor number: something was added, and programs go on as they are. Another patch: neither.
  * The numbers of replies keep their meaning through all of them. */
-#define YERBAGUNT_VERSION "6.0.0"
-#define YERBAGUNT_VERSION_MAJOR 6
+#define YERBAGUNT_VERSION "7.0.0"
+#define YERBAGUNT_VERSION_MAJOR 7
 #define YERBAGUNT_VERSION_MINOR 0
 #define YERBAGUNT_VERSION_PATCH 0
 
@@ -50,6 +50,7 @@ extern "C" {
 #define YERBAGUNT_QUEUE_MAX 16
 #define YERBAGUNT_EVENT_SIZE 16
 #define YERBAGUNT_EVENTS_MAX 4000
+#define YERBAGUNT_ORDER_SIZE 4 /* of the third body of a file, which says the order */
 
 /* The numbers of replies. Their meaning does not change. */
 enum yerbagunt_number {
@@ -80,7 +81,15 @@ enum yerbagunt_number {
     YERBAGUNT_OVERLONG = 26,   /* value: charge after; with the request's tag */
     YERBAGUNT_CLOCK = 27,      /* value: time */
     YERBAGUNT_LATE = 28,       /* value: time */
-    YERBAGUNT_UNSOUND = 31     /* the session handed to a call is not sound; of yerbagunt_latest: there is no such moment */
+    YERBAGUNT_UNSOUND = 31     /* the session handed to a call is not sound; of yerbagunt_open: no such order; of yerbagunt_latest: no such moment */
+};
+
+/* The order in which a turn takes requests. It chooses among those of the set that belong to the streams with the earliest deadline. The head is
+ * the place of the last request sent, and 0 at first. Of requests that are equally near, or for one place, that of the lower stream goes first,
+ * and of one stream the one that arrived earlier. The promise is the same in both, and nothing but what a turn sends depends on the order. */
+enum yerbagunt_order {
+    YERBAGUNT_NEAREST = 0, /* nearest first: the place nearest to the head, above it or below */
+    YERBAGUNT_SWEEP = 1    /* sweep (C-SCAN): the smallest place not below the head, and where there is none, the smallest of all */
 };
 
 /* A stream's last closed job; all zero before the first. */
@@ -105,7 +114,7 @@ struct yerbagunt_session {
     uint32_t worst, span;
     uint32_t padding; /* k as it was given; 0 stands for 3 */
     uint32_t tag;     /* the tag of the request at the disk, or 0 */
-    uint64_t order;   /* 0, nearest first; any other number is answered 31 */
+    uint64_t order;   /* as it was given: 0 nearest, 1 sweep; any other number is answered 31 */
     uint64_t count;
     int64_t margin;     /* H less the load, 0 or more; it follows from the table and never changes, and any other number is answered 31 */
     uint64_t horizon;   /* the smallest deadline; any other number is answered 31 */
@@ -143,11 +152,6 @@ struct yerbagunt_reservation {
 };
 
 /* Slices that are lent for the time of a call. */
-struct yerbagunt_reservations {
-    const struct yerbagunt_reservation *records;
-    size_t length;
-};
-
 struct yerbagunt_bytes {
     const uint8_t *bytes;
     size_t length;
@@ -165,10 +169,10 @@ struct yerbagunt_reply {
     uint32_t tag; /* with 21, 25 and 26 the tag of the request, as it was given on arrival; else 0 */
 };
 
-/* number 0 and a session; or 1 to 7 and the all-zero session, which is not sound. */
+/* number 0 and a session; or 31 or 1 to 7 and the all-zero session, which is not sound. */
 struct yerbagunt_opening {
     uint64_t number;
-    int64_t margin; /* H less the load: with 0 the session's, with 7 below 0, so that the load is -margin above H; with 1 to 6 it is 0 */
+    int64_t margin; /* H less the load: with 0 the session's, with 7 below 0, so that the load is -margin above H; with 31 and 1 to 6 it is 0 */
     struct yerbagunt_session session;
 };
 
@@ -212,25 +216,34 @@ struct yerbagunt_table {
     uint32_t reserved[YERBAGUNT_STREAMS_MAX], period[YERBAGUNT_STREAMS_MAX];
 };
 
-/* The trace is the bytes from start up to end. */
+/* number 0 and the parts of a session file; or 16 beside zeros. The trace is the bytes from start up to end. */
 struct yerbagunt_file {
     uint64_t number, count, start, end, events;
+    uint64_t order; /* 0 nearest, 1 sweep; a file of two entries means nearest */
+    uint64_t third; /* the length of the third body: 0 in a file of two entries, YERBAGUNT_ORDER_SIZE in one of three */
 };
+
+YERBAGUNT_ASSERT(sizeof(struct yerbagunt_file) == 56, "file");
+YERBAGUNT_ASSERT(offsetof(struct yerbagunt_file, order) == 40, "file.order");
+YERBAGUNT_ASSERT(offsetof(struct yerbagunt_file, third) == 48, "file.third");
 
 struct yerbagunt_written {
     uint64_t number, length;
 };
 
-/* Opens a session with W, H, k and the records of a table, of any length: 1 to 7.
+/* Opens a session with W, H, k, an order and the records of a table, of any length: 31 where the order is neither YERBAGUNT_NEAREST nor
+ * YERBAGUNT_SWEEP, whatever the table is; 1 to 7.
  * A stream's granted budget g is e and k times W, where a k of 0 stands for 3. The load is the sum of g * (H / p)
- * over the streams, plus W * (H / smallest p), and the margin is H less the load. Both are exact. */
-struct yerbagunt_opening yerbagunt_open(uint32_t worst, uint32_t span, uint32_t padding, struct yerbagunt_reservations table);
+ * over the streams, plus W * (H / smallest p), and the margin is H less the load. Both are exact.
+ * The records are handed over by a pointer and a length, and not by a struct of both: C would pass that in another way than the library takes it. */
+struct yerbagunt_opening yerbagunt_open(uint32_t worst, uint32_t span, uint32_t padding, uint64_t order,
+                                        const struct yerbagunt_reservation *records, size_t length);
 
 /* Puts a request for a place at the end of a stream's queue: 31, 8, 9; 20. The tag is your own number for it, any of 32 bits, and comes back
  * when the request is sent and when it is done. What is sent, and when, does not depend on it, and two requests may have the same. */
 struct yerbagunt_reply yerbagunt_arrival(struct yerbagunt_session *session, uint64_t stream, uint64_t place, uint32_t tag);
 
-/* What the house does next: 31, 10, 14; 21 sent, 23 moved, 24 wait, 22 expired. */
+/* What the house does next: 31, 10, 14; 21 sent, by the session's order, 23 moved, 24 wait, 22 expired. */
 struct yerbagunt_reply yerbagunt_turn(struct yerbagunt_session *session);
 
 /* The caller's own choice from the set, a stream and an index of its queue: 31, 10, 8, 15; 21. */
@@ -282,8 +295,12 @@ struct yerbagunt_file yerbagunt_read(struct yerbagunt_bytes file);
 /* The table of a file that was read. */
 struct yerbagunt_table yerbagunt_table(struct yerbagunt_bytes file);
 
-/* Writes the file of a table and a trace at the start of a buffer: 16, 17. Bytes after the file stay as they were. */
-struct yerbagunt_written yerbagunt_write(struct yerbagunt_table table, struct yerbagunt_bytes trace, struct yerbagunt_buffer out);
+/* Writes the file of a table, an order and a trace at the start of a buffer, with a third body of so many bytes: 16, 17. Bytes after the file
+ * stay as they were. With a third of 0 the file has two entries, which older programs read too, and no place for an order but nearest; with
+ * YERBAGUNT_ORDER_SIZE it has three, and says its order. Any other order or third is 16. To write a file again byte for byte, hand in the order
+ * and the third that reading it answered. */
+struct yerbagunt_written yerbagunt_write(struct yerbagunt_table table, uint64_t order, uint64_t third, struct yerbagunt_bytes trace,
+                                         struct yerbagunt_buffer out);
 
 #ifdef __cplusplus
 }

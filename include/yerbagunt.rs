@@ -8,10 +8,12 @@
 use core::mem::offset_of;
 
 /// The version of this wrapper and its library, that of `yerbagunt.h`.
-pub const VERSION: &str = "6.0.0";
+pub const VERSION: &str = "7.0.0";
 
 pub const STREAMS_MAX: usize = 8;
 pub const QUEUE_MAX: usize = 16;
+/// Of the third body of a session file, which says the order.
+pub const ORDER_SIZE: u64 = 4;
 
 /// The numbers of replies, as in `yerbagunt.h`.
 pub mod number {
@@ -43,6 +45,17 @@ pub mod number {
     pub const CLOCK: u64 = 27;
     pub const LATE: u64 = 28;
     pub const UNSOUND: u64 = 31;
+}
+
+/// The order in which a turn takes requests. It chooses among those of the set that belong to the streams with the earliest deadline; of requests
+/// that are equally near, or for one place, that of the lower stream goes first, and of one stream the one that arrived earlier.
+#[repr(u64)]
+#[derive(Clone, Copy, Debug, PartialEq, Eq)]
+pub enum Order {
+    /// The place nearest to the head, above it or below.
+    Nearest = 0,
+    /// C-SCAN: the smallest place not below the head, and where there is none, the smallest of all.
+    Sweep = 1,
 }
 
 /// A stream's last closed job; all zero before the first.
@@ -86,6 +99,7 @@ pub struct Session {
     pub padding: u32,
     /// The tag of the request at the disk, or 0.
     pub tag: u32,
+    /// The number of the `Order` that was given; any other number is answered 31.
     pub order: u64,
     pub count: u64,
     /// H less the load, 0 or more; it follows from the table and never changes, and any other number is answered 31.
@@ -167,7 +181,14 @@ pub struct File {
     pub start: u64,
     pub end: u64,
     pub events: u64,
+    /// A file of two entries means nearest. The library is proved to answer 0 or 1 here.
+    pub order: Order,
+    /// The length of the third body: 0 in a file of two entries, `ORDER_SIZE` in one of three.
+    pub third: u64,
 }
+
+const _: () = assert!(size_of::<Order>() == 8 && Order::Nearest as u64 == 0 && Order::Sweep as u64 == 1);
+const _: () = assert!(size_of::<File>() == 56 && offset_of!(File, order) == 40 && offset_of!(File, third) == 48);
 
 #[repr(C)]
 struct Opening {
@@ -206,26 +227,27 @@ struct Written {
     length: u64,
 }
 
-// A slice as it crosses: its pointer and its length.
+// Bytes as they cross: their pointer and their length.
 #[repr(C)]
-struct Lent<T> {
-    start: *const T,
+struct Lent {
+    start: *const u8,
     length: usize,
 }
 
 #[repr(C)]
-struct LentMut<T> {
-    start: *mut T,
+struct LentMut {
+    start: *mut u8,
     length: usize,
 }
 
-fn lent<T>(slice: &[T]) -> Lent<T> {
-    Lent { start: slice.as_ptr(), length: slice.len() }
+fn lent(bytes: &[u8]) -> Lent {
+    Lent { start: bytes.as_ptr(), length: bytes.len() }
 }
 
 #[link(name = "shelf", kind = "static")]
 unsafe extern "C" {
-    fn yerbagunt_open(worst: u32, span: u32, padding: u32, table: Lent<Reservation>) -> Opening;
+    // The library takes the records by a pointer and a length; a struct of both would be passed otherwise here.
+    fn yerbagunt_open(worst: u32, span: u32, padding: u32, order: Order, records: *const Reservation, length: usize) -> Opening;
     fn yerbagunt_arrival(session: &mut Session, stream: u64, place: u64, tag: u32) -> Reply;
     fn yerbagunt_turn(session: &mut Session) -> Reply;
     fn yerbagunt_own_turn(session: &mut Session, stream: u64, index: u64) -> Reply;
@@ -235,17 +257,17 @@ unsafe extern "C" {
     fn yerbagunt_latest(horizon: u64, remainders: i64, span: u64) -> Moment;
     fn yerbagunt_stream(session: Session, stream: u64) -> State;
     fn yerbagunt_last_job(session: Session, stream: u64) -> Closing;
-    fn yerbagunt_read(file: Lent<u8>) -> File;
-    fn yerbagunt_table(file: Lent<u8>) -> Table;
-    fn yerbagunt_write(table: Table, trace: Lent<u8>, out: LentMut<u8>) -> Written;
+    fn yerbagunt_read(file: Lent) -> File;
+    fn yerbagunt_table(file: Lent) -> Table;
+    fn yerbagunt_write(table: Table, order: Order, third: u64, trace: Lent, out: LentMut) -> Written;
 }
 
 // Each call is safe. What `yerbagunt.h` asks of a caller holds of Rust's references: they are valid and aligned, what one may change overlaps
 // with no other, and one thread at a time has it.
 impl Session {
-    /// Opens a session with W, H, k, where 0 stands for 3, and a table of any length; or says by which number it is refused, and by how much.
-    pub fn open(worst: u32, span: u32, padding: u32, table: &[Reservation]) -> Result<Session, Refusal> {
-        let opening = unsafe { yerbagunt_open(worst, span, padding, lent(table)) };
+    /// Opens a session with W, H, k, where 0 stands for 3, an order and a table of any length; or says by which number it is refused, and how far.
+    pub fn open(worst: u32, span: u32, padding: u32, order: Order, table: &[Reservation]) -> Result<Session, Refusal> {
+        let opening = unsafe { yerbagunt_open(worst, span, padding, order, table.as_ptr(), table.len()) };
         if opening.number == number::OK { Ok(opening.session) } else { Err(Refusal { number: opening.number, margin: opening.margin }) }
     }
 
@@ -310,9 +332,11 @@ pub fn read(file: &[u8]) -> Result<(File, Table), u64> {
     Ok((parts, unsafe { yerbagunt_table(lent(file)) }))
 }
 
-/// Writes the file of a table and a trace at the start of a buffer: how long it is, or 16 or 17.
-pub fn write(table: Table, trace: &[u8], out: &mut [u8]) -> Result<u64, u64> {
+/// Writes the file of a table, an order and a trace at the start of a buffer: how long it is, or 16 or 17. With a `third` of 0 the file has two
+/// entries, and no place for an order but nearest; with `ORDER_SIZE` it has three, and says its order; any other is 16. With the order and the
+/// `third` of a `File` it is written again byte for byte.
+pub fn write(table: Table, order: Order, third: u64, trace: &[u8], out: &mut [u8]) -> Result<u64, u64> {
     let out = LentMut { start: out.as_mut_ptr(), length: out.len() };
-    let written = unsafe { yerbagunt_write(table, lent(trace), out) };
+    let written = unsafe { yerbagunt_write(table, order, third, lent(trace), out) };
     if written.number == number::OK { Ok(written.length) } else { Err(written.number) }
 }

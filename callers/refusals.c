@@ -154,7 +154,7 @@ static void try_all(const struct yerbagunt_session *given, unsigned long at)
         struct session other, after;
         struct yerbagunt_reply r = called(&s, &trials[k]);
         hold(r.number < 32, "the reply has a number of the table", at);
-        hold(s.margin == given->margin, "no call changes the margin", at);
+        hold(s.margin == given->margin && s.order == given->order, "no call changes the margin or the order", at);
         met[r.number & 31]++;
         if (is_refusal(r.number)) {
             hold(memcmp(&s, given, sizeof s) == 0, "a refusal left every byte as it was", at);
@@ -208,6 +208,22 @@ static unsigned long try_cells(const struct yerbagunt_session *given)
     try_wrong(&s, offsetof(struct yerbagunt_session, horizon));
     return 1 + try_cell(given, offsetof(struct yerbagunt_session, margin)) + try_cell(given, offsetof(struct yerbagunt_session, horizon))
         + try_cell(given, offsetof(struct yerbagunt_session, remainders));
+}
+
+/* Numbers that are those of no order. */
+static const uint64_t no_orders[] = {2, 3, 255, 256, UINT32_MAX, 4294967296, 4294967297, INT64_MAX, (uint64_t)INT64_MIN, UINT64_MAX};
+#define NO_ORDERS (sizeof no_orders / sizeof no_orders[0])
+
+/* Copies of one session with another order: a number that is that of none, which every call but the ask refuses. Answers how many. */
+static unsigned long try_orders(const struct yerbagunt_session *given)
+{
+    for (size_t i = 0; i < NO_ORDERS; i++) {
+        struct yerbagunt_session s = *given;
+        s.order = no_orders[i];
+        try_wrong(&s, offsetof(struct yerbagunt_session, order));
+        hold(yerbagunt_latest_of(&s).number == YERBAGUNT_OK && yerbagunt_latest_of(&s).at == yerbagunt_latest_of(given).at, "an ask does not look at the order", i);
+    }
+    return NO_ORDERS;
 }
 
 /* Copies of one session with a tag where no request is: in a cell past a queue's end, or at the disk while nothing is there. Answers how many. */
@@ -279,15 +295,33 @@ static void overrun(struct yerbagunt_session *s)
 /* Whether the next turn moves. */
 static int moves(struct yerbagunt_session s) { return yerbagunt_turn(&s).number == YERBAGUNT_MOVED; }
 
-/* Sessions to start from: fresh, with a full queue, with a request at the disk, after closed jobs, with a job that started with an overrun and lost a slot, and with a move ahead that carries one. */
-#define MADE 6
-static void sessions(struct yerbagunt_session made[MADE])
+/* A session of two streams in either order. */
+static struct yerbagunt_session opened(uint64_t order)
 {
-    const struct yerbagunt_reservation table[2] = {{25000, 250000}, {175000, 500000}};
-    struct yerbagunt_opening o = yerbagunt_open(25000, 1000000, 1, YERBAGUNT_NEAREST, table, 2);
-    hold(o.number == YERBAGUNT_OK && o.session.margin == 300000, "the table is admitted, and leaves 300,000 of its span", 0);
+    static const struct yerbagunt_reservation table[2] = {{25000, 250000}, {175000, 500000}};
+    struct yerbagunt_opening o = yerbagunt_open(25000, 1000000, 1, order, table, 2);
+    hold(o.number == YERBAGUNT_OK && o.session.margin == 300000 && o.session.order == order, "the table is admitted in either order, and leaves 300,000 of its span", order);
+    return o.session;
+}
+
+/* The head stands at 500, and stream 2 has requests at either side of it: nearest first they go one way, and by sweep another. */
+static void around_the_head(struct yerbagunt_session *s)
+{
+    static const uint64_t places[3] = {510, 495, 490};
+    yerbagunt_arrival(s, 2, 500, 0);
+    yerbagunt_turn(s);
+    yerbagunt_done(s, 1000);
+    for (int i = 0; i < 3; i++)
+        yerbagunt_arrival(s, 2, places[i], i);
+    hold(s->head == 500 && s->streams[1].queued == 3, "three requests wait around the head", s->order);
+}
+
+/* Sessions of one order to start from: fresh, with a full queue, with a request at the disk, after closed jobs, with a job that started with an overrun and lost a slot, with a move ahead that carries one, and with requests at either side of the head. */
+#define MADE 7
+static void sessions(struct yerbagunt_session made[MADE], uint64_t order)
+{
     for (int i = 0; i < MADE; i++)
-        made[i] = o.session;
+        made[i] = opened(order);
     for (int i = 0; i < YERBAGUNT_QUEUE_MAX; i++)
         yerbagunt_arrival(&made[1], 1, 100 + i, UINT32_MAX - i);
     yerbagunt_arrival(&made[2], 2, 900, 0x80000001);
@@ -305,6 +339,22 @@ static void sessions(struct yerbagunt_session made[MADE])
     for (int i = 0; i < 60 && !moves(made[5]); i++)
         go_on(&made[5]);
     hold(moves(made[5]) && made[5].streams[0].charge == 110000, "the next turn moves, and carries 60,000", 0);
+    around_the_head(&made[6]);
+}
+
+/* Requests around the head go nearest first, or by sweep, which goes on above the head and then starts at the smallest place again. */
+static void both_orders(void)
+{
+    static const uint64_t places[2][3] = {{495, 490, 510}, {510, 490, 495}};
+    for (uint64_t order = 0; order < 2; order++) {
+        struct yerbagunt_session s = opened(order);
+        around_the_head(&s);
+        for (int i = 0; i < 3; i++) {
+            struct yerbagunt_reply r = yerbagunt_turn(&s);
+            hold(r.number == YERBAGUNT_SENT && r.value == places[order][i], "a turn sends by the session's order", 10 * order + i);
+            yerbagunt_done(&s, 1000);
+        }
+    }
 }
 
 /* A reply that hands a request of stream 2 back. */
@@ -313,12 +363,11 @@ static void hold_back(struct yerbagunt_reply r, uint64_t number, uint64_t value,
     hold(r.number == number && r.stream == 2 && r.value == value && r.tag == tag, "a request comes back with its own tag", tag);
 }
 
-/* Three requests for one place: the caller's own turn takes the second, and the house's the first and then the last. */
-static void one_place(void)
+/* Three requests for one place, in either order: the caller's own turn takes the second, and the house's the first and then the last. */
+static void one_place(uint64_t order)
 {
-    static const struct yerbagunt_reservation table[2] = {{25000, 250000}, {175000, 500000}};
     static const uint32_t tags[3] = {7, UINT32_MAX, 0x01020304};
-    struct yerbagunt_session s = yerbagunt_open(25000, 1000000, 1, YERBAGUNT_NEAREST, table, 2).session;
+    struct yerbagunt_session s = opened(order);
     const struct yerbagunt_stream *two = &s.streams[1];
     for (int i = 0; i < 3; i++)
         hold(yerbagunt_arrival(&s, 2, 900, tags[i]).tag == 0 && two->tags[i] == tags[i], "an arrival keeps the tag, and its reply has none", i);
@@ -343,18 +392,18 @@ struct booked {
     int64_t margin;
 };
 
-static void open_one(const struct booked *b, unsigned long at)
+static void open_one(const struct booked *b, uint64_t order, unsigned long at)
 {
     static const struct yerbagunt_session zero;
     struct yerbagunt_reservation records[9];
     for (size_t i = 0; i < 9; i++)
         records[i] = i == 0 ? b->first : b->others;
-    struct yerbagunt_opening o = yerbagunt_open(b->worst, b->span, b->padding, YERBAGUNT_NEAREST, records, b->length);
-    hold(o.number == b->number, "opening answers by number", at);
-    hold(o.margin == b->margin, "opening tells the margin, and 0 with 1 to 6", at);
+    struct yerbagunt_opening o = yerbagunt_open(b->worst, b->span, b->padding, order, records, b->length);
+    hold(o.number == (order < 2 ? b->number : YERBAGUNT_UNSOUND), "opening answers by number, and to another order by 31 whatever the table", at);
+    hold(o.margin == (order < 2 ? b->margin : 0), "opening tells the margin, and 0 with 31 and 1 to 6", at);
     if (o.number == YERBAGUNT_OK) {
         struct yerbagunt_view v = yerbagunt_view(o.session);
-        hold(o.session.padding == b->padding, "a session keeps its padding as given", at);
+        hold(o.session.padding == b->padding && o.session.order == order, "a session keeps its padding and its order as given", at);
         hold(o.session.margin == b->margin && v.number == YERBAGUNT_OK && v.margin == b->margin, "a session keeps its margin and shows it", at);
     } else {
         hold(memcmp(&o.session, &zero, sizeof zero) == 0, "a refused opening stands beside the all-zero session", at);
@@ -364,7 +413,7 @@ static void open_one(const struct booked *b, unsigned long at)
     int64_t margin;
     for (size_t i = 0; i < b->length && i < STREAM_MAX; i++)
         t.reservations[i] = (struct reservation){records[i].reserved, records[i].period};
-    hold(session_open(&other, &t, ORDER_NEAREST, &margin) == o.number && margin == o.margin, "the number and the margin are the second engine's", at);
+    hold(session_open(&other, &t, order, &margin) == o.number && margin == o.margin, "the number and the margin are the second engine's", at);
     hold(to_second(&o.session, &opened) && memcmp(&opened, &other, sizeof other) == 0, "the opened session is the second engine's", at);
 }
 
@@ -387,41 +436,130 @@ static void openings(void)
         /* the least margin that there is, which takes more than 32 bits, and the largest */
         {999999, 600000000, 1, {1, 1000000}, {1, 1000000}, 8, 7, -4799999400}, {1, 600000000, 1, {1, 60000000}, {0, 0}, 1, 0, 599999970},
     };
-    for (size_t i = 0; i < sizeof tried / sizeof tried[0]; i++)
-        open_one(&tried[i], i);
+    for (size_t i = 0; i < sizeof tried / sizeof tried[0]; i++) {
+        open_one(&tried[i], YERBAGUNT_NEAREST, i);
+        open_one(&tried[i], YERBAGUNT_SWEEP, i);
+        for (size_t n = 0; n < NO_ORDERS; n++)
+            open_one(&tried[i], no_orders[n], i);
+    }
+}
+
+/* What is written in every trial below: a table of two streams, and a trace of an arrival with a tag and a turn. */
+static const struct yerbagunt_table filed = {25000, 1000000, 1, 2, {25000, 175000}, {250000, 500000}};
+static uint8_t trace[16 * YERBAGUNT_EVENTS_MAX + 16] = {1, 1, 255, 255, 255, 255, 0, 0, 100, 0, 0, 0, 0, 0, 0, 0, 2};
+#define TRACE 32
+static uint8_t out[70000], before[sizeof out];
+
+static struct yerbagunt_written written(struct yerbagunt_table t, uint64_t order, uint64_t third, size_t length, size_t room)
+{
+    return yerbagunt_write(t, order, third, (struct yerbagunt_bytes){trace, length}, (struct yerbagunt_buffer){out, room});
+}
+
+static void not_written(struct yerbagunt_table t, uint64_t order, uint64_t third, size_t length, size_t room, uint64_t number, const char *what, unsigned long at)
+{
+    struct yerbagunt_written w = written(t, order, third, length, room);
+    hold(w.number == number && w.length == 0, what, at);
+    hold(memcmp(out, before, sizeof out) == 0, "a refused writing left every byte as it was", at);
+}
+
+/* A file that is written: its order, the length of its third body, where its table is, and how long it is. */
+struct form {
+    uint64_t order, third;
+    size_t table, length;
+};
+
+static const struct form forms[] = {{0, 0, 26, 90}, {0, YERBAGUNT_ORDER_SIZE, 38, 106}, {1, YERBAGUNT_ORDER_SIZE, 38, 106}};
+#define FORMS (sizeof forms / sizeof forms[0])
+
+/* An order that is none, a third body of a length that there is not, and a sweep without a place for it are refused by 16, in a buffer without room too. */
+static void other_forms(void)
+{
+    static const uint64_t lengths[] = {1, 2, 3, 5, 8, 12, 4294967296, 4294967300, INT64_MAX, (uint64_t)INT64_MIN, UINT64_MAX};
+    static const size_t rooms[] = {0, 89, sizeof out};
+    for (size_t r = 0; r < 3; r++) {
+        for (size_t i = 0; i < NO_ORDERS; i++)
+            for (uint64_t third = 0; third <= YERBAGUNT_ORDER_SIZE; third++)
+                not_written(filed, no_orders[i], third, TRACE, rooms[r], YERBAGUNT_LAYOUT, "another order is not written", i);
+        for (size_t i = 0; i < sizeof lengths / sizeof lengths[0]; i++)
+            for (uint64_t order = 0; order < 2; order++)
+                not_written(filed, order, lengths[i], TRACE, rooms[r], YERBAGUNT_LAYOUT, "a third body of another length is not written", i);
+        not_written(filed, YERBAGUNT_SWEEP, 0, TRACE, rooms[r], YERBAGUNT_LAYOUT, "sweep has no place in two entries", r);
+    }
+}
+
+/* Each refusal of a table and a trace, in one form. */
+static void refused_writings(const struct form *f)
+{
+    struct yerbagunt_table nine = filed;
+    nine.count = 9;
+    for (size_t room = 0; room < f->length; room++)
+        not_written(filed, f->order, f->third, TRACE, room, YERBAGUNT_ROOM, "a short buffer is refused", room);
+    not_written(nine, f->order, f->third, TRACE, sizeof out, YERBAGUNT_LAYOUT, "nine streams are not written", 0);
+    not_written(filed, f->order, f->third, TRACE - 1, 0, YERBAGUNT_LAYOUT, "part of an event is not written", 0);
+    not_written(filed, f->order, f->third, sizeof trace, sizeof out, YERBAGUNT_LAYOUT, "4,001 events are not written", 0);
+    for (size_t at = 6; at < 24; at = at == 7 ? 18 : at + 1) {
+        trace[at] = 1;
+        not_written(filed, f->order, f->third, TRACE, sizeof out, YERBAGUNT_LAYOUT, "of an arrival the two bytes after the tag are 0, of a turn all six", at);
+        trace[at] = 0;
+    }
+}
+
+static void not_read(struct yerbagunt_bytes file, const char *what, unsigned long at)
+{
+    static const struct yerbagunt_file refused = {.number = YERBAGUNT_LAYOUT};
+    struct yerbagunt_file f = yerbagunt_read(file);
+    hold(memcmp(&f, &refused, sizeof f) == 0, what, at);
+}
+
+/* Every byte of the contents and of the third body has one right value, but that either order may stand there. */
+static void other_contents(const struct form *f)
+{
+    static const uint8_t flips[] = {0x01, 0x02, 0x80, 0xff};
+    for (size_t at = 0; at < f->length; at = at + 1 == f->table ? f->length - f->third : at + 1)
+        for (size_t i = 0; i < sizeof flips; i++) {
+            out[at] ^= flips[i];
+            if (f->third != 0 && at == f->length - f->third && flips[i] == 0x01)
+                hold(yerbagunt_read((struct yerbagunt_bytes){out, f->length}).order == 1 - f->order, "a third body may say the other order", at);
+            else
+                not_read((struct yerbagunt_bytes){out, f->length}, "contents of another value are refused, beside zeros", at);
+            out[at] ^= flips[i];
+        }
+}
+
+/* A file is written, read, and written again byte for byte by the order and the third that reading answers. */
+static void there_and_back(const struct form *f)
+{
+    static uint8_t kept[sizeof out];
+    struct yerbagunt_written w = written(filed, f->order, f->third, TRACE, f->length);
+    hold(w.number == YERBAGUNT_OK && w.length == f->length, "the file is written, in just its length", f->length);
+    hold(memcmp(out + f->length, before + f->length, sizeof out - f->length) == 0, "the bytes after the file are as they were", 0);
+    struct yerbagunt_bytes file = {out, f->length};
+    struct yerbagunt_file p = yerbagunt_read(file);
+    size_t start = f->table + 32;
+    hold(p.number == YERBAGUNT_OK && p.count == 2 && p.start == start && p.end == start + TRACE && p.events == 2 && memcmp(out + start, trace, TRACE) == 0, "it reads back, with its tag", 0);
+    hold(p.order == f->order && p.third == f->third, "it reads back in its form and order", f->third);
+    struct yerbagunt_table t = yerbagunt_table(file);
+    hold(t.worst == filed.worst && t.span == filed.span && t.padding == filed.padding && t.count == filed.count && memcmp(t.reserved, filed.reserved, sizeof t.reserved) == 0 && memcmp(t.period, filed.period, sizeof t.period) == 0, "the table reads back", 0);
+    for (size_t length = 0; length < f->length; length++)
+        not_read((struct yerbagunt_bytes){out, length}, "a file cut short is refused", length);
+    not_read((struct yerbagunt_bytes){out, f->length + 1}, "a byte after the file is refused", 0);
+    other_contents(f);
+    memcpy(kept, before, sizeof kept);
+    w = yerbagunt_write(t, p.order, p.third, (struct yerbagunt_bytes){out + p.start, p.end - p.start}, (struct yerbagunt_buffer){kept, sizeof kept});
+    hold(w.number == YERBAGUNT_OK && memcmp(kept, out, sizeof kept) == 0, "a file that was read is written again byte for byte", f->third);
+    memcpy(out, before, sizeof out);
 }
 
 static void files(void)
 {
-    static uint8_t trace[16 * YERBAGUNT_EVENTS_MAX + 16], out[70000], before[70000];
-    struct yerbagunt_table t = {25000, 1000000, 1, 2, {25000, 175000}, {250000, 500000}};
-    trace[0] = 1, trace[1] = 1, trace[8] = 100, trace[16] = 2;
-    memset(trace + 2, 0xff, 4); /* the arrival's tag */
-    memset(out, 0xa5, sizeof out);
-    memcpy(before, out, sizeof out);
-    hold(yerbagunt_read((struct yerbagunt_bytes){out, 0}).number == YERBAGUNT_LAYOUT, "no bytes are no file", 0);
-    for (size_t room = 0; room < 90; room++)
-        hold(yerbagunt_write(t, YERBAGUNT_NEAREST, 0, (struct yerbagunt_bytes){trace, 32}, (struct yerbagunt_buffer){out, room}).number == YERBAGUNT_ROOM, "a short buffer is refused", room);
-    t.count = 9;
-    hold(yerbagunt_write(t, YERBAGUNT_NEAREST, 0, (struct yerbagunt_bytes){trace, 32}, (struct yerbagunt_buffer){out, sizeof out}).number == YERBAGUNT_LAYOUT, "nine streams are not written", 0);
-    t.count = 2;
-    hold(yerbagunt_write(t, YERBAGUNT_NEAREST, 0, (struct yerbagunt_bytes){trace, 31}, (struct yerbagunt_buffer){out, sizeof out}).number == YERBAGUNT_LAYOUT, "part of an event is not written", 0);
-    hold(yerbagunt_write(t, YERBAGUNT_NEAREST, 0, (struct yerbagunt_bytes){trace, sizeof trace}, (struct yerbagunt_buffer){out, sizeof out}).number == YERBAGUNT_LAYOUT, "4,001 events are not written", 0);
-    for (size_t at = 6; at < 24; at = at == 7 ? 18 : at + 1) {
-        trace[at] = 1;
-        hold(yerbagunt_write(t, YERBAGUNT_NEAREST, 0, (struct yerbagunt_bytes){trace, 32}, (struct yerbagunt_buffer){out, sizeof out}).number == YERBAGUNT_LAYOUT, "of an arrival the two bytes after the tag are 0, of a turn all six", at);
-        trace[at] = 0;
+    memset(before, 0xa5, sizeof before);
+    memcpy(out, before, sizeof out);
+    not_read((struct yerbagunt_bytes){out, 0}, "no bytes are no file", 0);
+    other_forms();
+    for (size_t i = 0; i < FORMS; i++) {
+        refused_writings(&forms[i]);
+        there_and_back(&forms[i]);
     }
-    hold(memcmp(out, before, sizeof out) == 0, "a refused writing left every byte as it was", 0);
-    struct yerbagunt_written w = yerbagunt_write(t, YERBAGUNT_NEAREST, 0, (struct yerbagunt_bytes){trace, 32}, (struct yerbagunt_buffer){out, sizeof out});
-    hold(w.number == YERBAGUNT_OK && w.length == 90, "the file is written", 0);
-    hold(memcmp(out + 90, before + 90, sizeof out - 90) == 0, "the bytes after the file are as they were", 0);
-    struct yerbagunt_file f = yerbagunt_read((struct yerbagunt_bytes){out, 90});
-    hold(f.number == YERBAGUNT_OK && f.count == 2 && f.start == 58 && f.end == 90 && f.events == 2 && memcmp(out + 58, trace, 32) == 0, "it reads back, with its tag", 0);
-    struct yerbagunt_table u = yerbagunt_table((struct yerbagunt_bytes){out, 90});
-    hold(u.worst == t.worst && u.span == t.span && u.padding == t.padding && u.count == t.count && memcmp(u.reserved, t.reserved, sizeof t.reserved) == 0 && memcmp(u.period, t.period, sizeof t.period) == 0, "the table reads back", 0);
-    for (size_t length = 0; length < 90; length++)
-        hold(yerbagunt_read((struct yerbagunt_bytes){out, length}).number == YERBAGUNT_LAYOUT, "a file cut short is refused", length);
 }
 
 /* A number from a fixed row; and one that may have few bits or many. */
@@ -499,21 +637,32 @@ static void three_numbers(void)
     }
 }
 
-int main(void)
+/* Every session of one order, as it was made and with a change in each of its cells. Answers how many sessions were changed. */
+static unsigned long try_order(uint64_t order)
 {
     static struct yerbagunt_session made[MADE];
     static const uint8_t flips[] = {0x01, 0x80, 0xff};
     unsigned long tried = 0;
-    openings();
-    files();
-    one_place();
-    sessions(made);
+    sessions(made, order);
     for (int m = 0; m < MADE; m++) {
         try_all(&made[m], 0);
-        tried += try_cells(&made[m]) + try_tags(&made[m]);
+        tried += try_cells(&made[m]) + try_orders(&made[m]) + try_tags(&made[m]);
         for (size_t at = 0; at < sizeof made[m]; at++)
             for (size_t f = 0; f < sizeof flips; f++)
                 tried += try_byte(&made[m], at, flips[f]);
+    }
+    return tried;
+}
+
+int main(void)
+{
+    unsigned long tried = 0;
+    openings();
+    files();
+    both_orders();
+    for (uint64_t order = YERBAGUNT_NEAREST; order <= YERBAGUNT_SWEEP; order++) {
+        one_place(order);
+        tried += try_order(order);
     }
     static struct yerbagunt_session extreme;
     memset(&extreme, 0xff, sizeof extreme);

@@ -10,7 +10,10 @@
 #include <string.h>
 
 #define TIMES_BYTES 8
-#define TABLE_AT (TIMES_BYTES + 26)
+#define ENTRIES_BYTES 2
+#define ENTRY_BYTES 12
+#define ENTRIES_TOLD 3 /* of a file that says its order; one of two entries means nearest, 0 */
+#define ORDER_BYTES 4
 #define EVENT_BYTES 16
 #define ROOM 65536
 
@@ -36,11 +39,22 @@ static uint64_t number_at(size_t at, int width)
     return n;
 }
 
-static void take_table(void)
+/* The trace of the file: where it starts and where it ends. */
+struct trace {
+    size_t start, end;
+};
+
+/* Hands on the table and the order of a file that ends there. */
+static struct trace take_file(size_t end)
 {
-    table_numbers(number_at(TABLE_AT, 4), number_at(TABLE_AT + 4, 4), number_at(TABLE_AT + 8, 4), number_at(TABLE_AT + 12, 4));
-    for (size_t i = 0; i < number_at(TABLE_AT + 12, 4); i++)
-        table_stream(i, number_at(TABLE_AT + 16 + 8 * i, 4), number_at(TABLE_AT + 20 + 8 * i, 4));
+    size_t entries = number_at(TIMES_BYTES, ENTRIES_BYTES);
+    size_t table = TIMES_BYTES + ENTRIES_BYTES + ENTRY_BYTES * entries;
+    size_t count = number_at(table + 12, 4);
+    size_t trace_end = entries == ENTRIES_TOLD ? end - ORDER_BYTES : end;
+    table_numbers(number_at(table, 4), number_at(table + 4, 4), number_at(table + 8, 4), count, number_at(trace_end, (int)(end - trace_end)));
+    for (size_t i = 0; i < count; i++)
+        table_stream(i, number_at(table + 16 + 8 * i, 4), number_at(table + 20 + 8 * i, 4));
+    return (struct trace){table + 16 + 8 * count, trace_end};
 }
 
 /* Makes the call of an event so many times, each time on the prepared session, which is left in `work`. */
@@ -98,10 +112,10 @@ int main(int words, char **word)
     const char *instead = words > 1 ? word[1] : "";
     size_t length = fread(input, 1, ROOM, stdin);
     uint64_t times = number_at(0, TIMES_BYTES), number;
-    take_table();
-    size_t event = TABLE_AT + 16 + 8 * number_at(TABLE_AT + 12, 4);
+    struct trace trace = take_file(length);
+    size_t event = trace.start;
     prepare(&prepared);
-    for (; event + EVENT_BYTES < length; event += EVENT_BYTES) {
+    for (; event + EVENT_BYTES < trace.end; event += EVENT_BYTES) {
         repeat(event, 1);
         prepared = work;
     }
@@ -109,7 +123,7 @@ int main(int words, char **word)
         number = restore_only(times);
     else if (strcmp(instead, "ask") == 0)
         number = ask_only(times);
-    else if (event == length)
+    else if (event == trace.end)
         number = open_only(times);
     else
         number = repeat(event, times);

@@ -4,15 +4,17 @@
 typedef struct yerbagunt_session image;
 
 static uint32_t worst, span, padding;
+static uint64_t order;
 static struct yerbagunt_reservation records[YERBAGUNT_STREAMS_MAX];
 static size_t count;
 
-static void table_numbers(uint32_t w, uint32_t h, uint32_t k, uint32_t streams)
+static void table_numbers(uint32_t w, uint32_t h, uint32_t k, uint32_t streams, uint64_t by)
 {
     worst = w;
     span = h;
     padding = k;
     count = streams;
+    order = by;
 }
 
 static void table_stream(size_t i, uint32_t reserved, uint32_t period)
@@ -23,7 +25,7 @@ static void table_stream(size_t i, uint32_t reserved, uint32_t period)
 /* Opening hands the session over by value. */
 static struct yerbagunt_opening opened(void)
 {
-    return yerbagunt_open(worst, span, padding, YERBAGUNT_NEAREST, records, count);
+    return yerbagunt_open(worst, span, padding, order, records, count);
 }
 
 static void prepare(image *session)

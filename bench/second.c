@@ -6,10 +6,12 @@
 typedef struct session image;
 
 static struct table table;
+static uint64_t order;
 
-static void table_numbers(uint32_t worst, uint32_t span, uint32_t padding, uint32_t count)
+static void table_numbers(uint32_t worst, uint32_t span, uint32_t padding, uint32_t count, uint64_t by)
 {
     table = (struct table){worst, span, padding, count, {{0, 0}}};
+    order = by;
 }
 
 static void table_stream(size_t i, uint32_t reserved, uint32_t period)
@@ -20,14 +22,14 @@ static void table_stream(size_t i, uint32_t reserved, uint32_t period)
 static void prepare(image *session)
 {
     int64_t margin;
-    session_open(session, &table, ORDER_NEAREST, &margin);
+    session_open(session, &table, order, &margin);
 }
 
 static uint64_t open_again(void)
 {
     image session;
     int64_t margin;
-    return session_open(&session, &table, ORDER_NEAREST, &margin);
+    return session_open(&session, &table, order, &margin);
 }
 
 static uint64_t arrival(image *session, uint64_t stream, uint64_t place, uint32_t tag)

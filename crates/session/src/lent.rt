@@ -14,21 +14,21 @@ use table::Table;
 use table::take_in;
 
 impl Session {
-    // Opens a session with W, H, k, an order and a lent table of any length.
+    // Opens a session with W, H, k, a lent table of any length and an order.
     pub fn open_lent(
         worst: u32,
         span: u32,
         padding: u32,
-        order: Order,
         table: &[Reservation],
+        order: Order,
     ) -> Opened
         ensures { λ r. ⌜ r ≡ openingOf (lentTable worst span padding (now (table .entry))) order ⌝ }
     {
-        Session::open_taken(worst, span, padding, order, take_in(table))
+        Session::open_taken(worst, span, padding, take_in(table), order)
     }
 
     // The same with what was taken of it.
-    pub fn open_taken(worst: u32, span: u32, padding: u32, order: Order, records: Records) -> Opened
+    pub fn open_taken(worst: u32, span: u32, padding: u32, records: Records, order: Order) -> Opened
         ensures { λ r. ⌜ r ≡ openingOf (tableOfRecords worst span padding (records .rows) (records .count)) order ⌝ }
     {
         let table = Table::of(worst, span, padding, records);

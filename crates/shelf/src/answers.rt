@@ -26,14 +26,14 @@ use view::Closing;
 use view::State;
 use view::View;
 
-// A session opened with an order and with what was taken of a table. A number that is that of no order is refused before the table is looked at.
-pub(crate) fn open(worst: u32, span: u32, padding: u32, order: u64, records: Records) -> Opening
+// A session opened with what was taken of a table, and with an order. A number that is that of no order is refused before the table is looked at.
+pub(crate) fn open(worst: u32, span: u32, padding: u32, records: Records, order: u64) -> Opening
     ensures { λ r. ⌜ r ≡ openedAs (tableOfRecords worst span padding (records .rows) (records .count)) order ⌝ }
 {
     if !Order::is_number(order) {
         return unopened();
     }
-    let opened = Session::open_taken(worst, span, padding, Order::of_number(order), records);
+    let opened = Session::open_taken(worst, span, padding, records, Order::of_number(order));
     let session = Image::of(opened.session);
     let admission = opened.admission;
     Opening {

@@ -37,18 +37,18 @@ use view::Closing;
 use view::State;
 use view::View;
 
-// Opens a session with W, H, k, the number of an order and a lent table of any length.
+// Opens a session with W, H, k, a lent table of any length and the number of an order.
 #[no_mangle]
 pub extern "C" fn yerbagunt_open(
     worst: u32,
     span: u32,
     padding: u32,
-    order: u64,
     table: &[Reservation],
+    order: u64,
 ) -> Opening
     ensures { λ r. ⌜ r ≡ openedAs (lentTable worst span padding (now (table .entry))) order ⌝ }
 {
-    open(worst, span, padding, order, take_in(table))
+    open(worst, span, padding, take_in(table), order)
 }
 
 #[no_mangle]
@@ -144,14 +144,14 @@ pub extern "C" fn yerbagunt_table(file: &[u8]) -> Table
     file::table_of(file)
 }
 
-// Writes the file of a table, the number of an order and a trace at the start of a buffer, with a third body of so many bytes.
+// Writes the file of a table, a trace and the number of an order at the start of a buffer, with a third body of so many bytes.
 #[no_mangle]
 pub extern "C" fn yerbagunt_write(
     table: Table,
-    order: u64,
-    third: u64,
     trace: &[u8],
     out: &mut [u8],
+    order: u64,
+    third: u64,
 ) -> Wrote
     ensures { λ r. ⌜ r ≡ wroteAs table order third (now (trace .entry)) (now (out .entry)) ⌝ }
     ensures { λ _. ⌜ now (out .exit) ≡ wroteOn table order third (now (trace .entry)) (now (out .entry)) ⌝ }

@@ -6,11 +6,13 @@ use Prim.Native.Nat.{ℕ, _≤_, _<_}
 use lib.Dec.{ltb, eqb}
 use borrow.Author.Tests.{eq-eqb, ne-eqb, lt-ltb, le-ltb}
 use Rattle.table.specs.Fold.{if}
+use Rattle.order.specs.declared.Order.{Order}
 use Rattle.file.specs.Reading.{eventsIn}
 use Rattle.table.specs.declared.Table.{Table}
 use Rattle.table.proofs.Tests.{by-if}
 use Rattle.file.specs.Writing.{writeOf, writtenOn}
 use Rattle.file.specs.declared.Writing.{Writing}
+use Rattle.file.specs.declared.form.Form.{Form}
 use Rattle.file.proofs.Round.{refused-changes-nothing}
 use Rattle.listing.specs.Line.{newline}
 use Rattle.notes.specs.declared.Notes.{Notes}
@@ -53,7 +55,7 @@ module _ (n : Notes) (trace : List ℕ) (byte : ℕ) where
 -- the end of the notes
 module _ (n : Notes) (trace out : List ℕ) where
   abbrev fileWritten : Filed
-  fileWritten = filed (told (n .table .count) (n .began) (writeOf (n .table) (traceOfNotes n trace) out)) (writtenOn (n .table) (traceOfNotes n trace) out)
+  fileWritten = filed (told (n .table .count) (n .began) (writeOf (n .form) (n .order) (n .table) (traceOfNotes n trace) out)) (writtenOn (n .form) (n .order) (n .table) (traceOfNotes n trace) out)
 
   abbrev stored : Filed
   stored = if (ltb (eventsIn trace) (n .events)) (filed (Refused 17) out) fileWritten
@@ -100,11 +102,11 @@ not-written : (streams began len : ℕ) (A : Type 0) → (writtenBy streams bega
 unfolding writtenBy
 not-written streams began len A = by-if (λ (c : Composed). (c ≡ Written len → A) → (c ≡ Streamless len began → A) → A) (eqb streams 0) (Streamless len began) (Written len) (λ _ f g. g refl) (λ _ f g. f refl)
 
-not-told : (reply : Writing) (table : Table) (began : ℕ) (trace out : List ℕ) → writeOf table trace out ≡ reply
+not-told : (reply : Writing) (form : Form) (order : Order) (table : Table) (began : ℕ) (trace out : List ℕ) → writeOf form order table trace out ≡ reply
     → ((len : ℕ) → told (table .count) began reply ≡ Written len → ⊥) → ((len event : ℕ) → told (table .count) began reply ≡ Streamless len event → ⊥)
-    → writtenOn table trace out ≡ out
-not-told (Writing.Written len) table began trace out is none bare = absurd (not-written (table .count) began len ⊥ (none len) (bare len began))
-not-told (Writing.Refused number) table began trace out is none bare = refused-changes-nothing table trace out number is
+    → writtenOn form order table trace out ≡ out
+not-told (Writing.Written len) form order table began trace out is none bare = absurd (not-written (table .count) began len ⊥ (none len) (bare len began))
+not-told (Writing.Refused number) form order table began trace out is none bare = refused-changes-nothing form order table trace out number is
 
 pub nothing-else-written : NothingElseWritten
 unfolding filedBy
@@ -117,4 +119,4 @@ nothing-else-written n trace out =
     by-if P (not (eqb (n .refused) 0)) (filed (Refused (n .refused)) out) (stored n trace out) (λ _ _ _. refl)
     (λ _.
     by-if P (ltb (eventsIn trace) (n .events)) (filed (Refused 17) out) (fileWritten n trace out) (λ _ _ _. refl)
-    (λ _ none bare. not-told (writeOf (n .table) (traceOfNotes n trace) out) (n .table) (n .began) (traceOfNotes n trace) out refl none bare))))
+    (λ _ none bare. not-told (writeOf (n .form) (n .order) (n .table) (traceOfNotes n trace) out) (n .form) (n .order) (n .table) (n .began) (traceOfNotes n trace) out refl none bare))))

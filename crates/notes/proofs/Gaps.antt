@@ -12,7 +12,7 @@ use Rattle.listing.specs.Line.{space, newline}
 use Rattle.notes.specs.declared.Notes.{Notes}
 use Rattle.notes.specs.declared.Composed.the-variants as composed
 use Rattle.notes.specs.declared.line.Line.{Line}
-use Rattle.notes.specs.declared.line.Line.the-variants.{Blank, Worst, Span, Padding, Stream, Call, Wrong}
+use Rattle.notes.specs.declared.line.Line.the-variants.{Blank, Worst, Span, Padding, Ordered, Stream, Call, Wrong}
 use Rattle.notes.specs.declared.draft.Place.{Place}
 use Rattle.notes.specs.declared.draft.Place.the-variants.{Between, Within, Comment, Returned, Stray, Amiss}
 use Rattle.notes.specs.declared.draft.Draft.{Draft}
@@ -22,8 +22,8 @@ use Rattle.notes.specs.Draft.{tab, carriage-return, afterGap, afterField
 use Rattle.notes.specs.Line.{fieldsLine, lineOf}
 use Rattle.notes.specs.Numbers.{fits, firstOf, roomAt}
 use Rattle.notes.specs.Heard.{heardOf, heardWith}
-use Rattle.notes.specs.Fault.{numberFault, faultOf, faultBy}
-use Rattle.notes.specs.Notes.{stopped, afterNumber, afterStream, beganBy, afterEvent, after, expectedBy, Read, read, lineRefusal, refusedBy, traceAfter, lineEnded, byteRead, bytesRead, Filed, filed, filedBy}
+use Rattle.notes.specs.Fault.{fieldFault, valueFault, faultOf, faultBy}
+use Rattle.notes.specs.Notes.{stopped, afterNumber, takesOrder, afterOrder, afterStream, beganBy, afterEvent, after, expectedBy, Read, read, lineRefusal, refusedBy, traceAfter, lineEnded, byteRead, bytesRead, Filed, filed, filedBy}
 use Rattle.notes.specs.Laws.{TabIsSpace, ReturnIsDropped, HeardStays, composedOf}
 use Rattle.notes.proofs.Grammar.{test}
 use Rattle.notes.proofs.Choices.{byte-stopped, byte-ends, byte-lengthens, filed-wrong}
@@ -42,7 +42,7 @@ tab-continues Amiss d = refl
 -- the same notes, with another line so far
 abbrev with-draft : Notes → Draft → Heard → Notes
 with-draft n d h =
-    record { line = n .line; numbers = n .numbers; table = n .table; events = n .events; began = n .began; draft = d; heard = h; refused = n .refused; wrong = n .wrong }
+    record { line = n .line; numbers = n .numbers; form = n .form; order = n .order; table = n .table; events = n .events; began = n .began; draft = d; heard = h; refused = n .refused; wrong = n .wrong }
 
 tab-read : (n : Notes) (trace : List ℕ) → byteRead (read n trace) tab ≡ byteRead (read n trace) space
 unfolding byteRead heardWith if
@@ -71,7 +71,7 @@ abbrev returned : Notes → Notes
 returned n = with-draft n (withByte (n .draft) carriage-return) (heardWith (n .heard) (n .draft) carriage-return)
 
 return-fault : (place : Place) (n : Notes) → (place ≡ Returned → ⊥) → n .draft .place ≡ place → faultBy (stopped (returned n)) ≡ faultBy (stopped n)
-unfolding afterGap afterField fieldsLine fits firstOf roomAt heardWith numberFault faultOf if
+unfolding afterGap afterField fieldsLine fits firstOf roomAt heardWith fieldFault valueFault faultOf if
 return-fault Between n other is = rw is
 return-fault Within n other is = rw is
 return-fault Comment n other is = rw is
@@ -93,11 +93,12 @@ module _ (n : Notes) (trace : List ℕ) (d : Draft) (h : Heard) (same : lineOf d
   either false x = inr (refl, refl)
 
   alike : (l : Line) → Alike (after other l) (after n l)
-  unfolding afterNumber afterStream beganBy afterEvent Alike
+  unfolding afterNumber takesOrder afterOrder afterStream beganBy afterEvent Alike
   alike Blank = inl refl
   alike (Worst x) = either _ _
   alike (Span x) = either _ _
   alike (Padding x) = either _ _
+  alike (Ordered o) = either _ _
   alike (Stream e p) = either _ _
   alike (Call event) = either _ _
   alike Wrong = inr (refl, refl)
@@ -139,7 +140,7 @@ module _ (n : Notes) (trace more out : List ℕ) where
 
   module _ (right : n .wrong ≡ false) (d : Draft) (h : Heard) (same : lineOf d ≡ lineOf (n .draft)) (fault : faultBy (stopped (with-draft n d h)) ≡ faultBy (stopped n)) where
     ended-alike : composed-after (byteRead (read (with-draft n d h) trace) newline) ≡ composed-after (byteRead (read n trace) newline)
-    unfolding expectedBy
+    unfolding takesOrder expectedBy
     ended-alike =
         ap composed-after (byte-ends (with-draft n d h) trace newline right refl)
         ∙ go (ends-alike n trace d h same)
@@ -183,11 +184,12 @@ kept-or-on n true x right = λ wrong. absurd (false≢true (sym right ∙ wrong)
 kept-or-on n false x right = λ wrong. refl
 
 after-keeps : (n : Notes) (l : Line) → Kept n (after n l)
-unfolding afterNumber afterStream beganBy afterEvent Kept
+unfolding afterNumber takesOrder afterOrder afterStream beganBy afterEvent Kept
 after-keeps n Blank = λ wrong. absurd (false≢true wrong)
 after-keeps n (Worst x) = kept-or-on n _ _ refl
 after-keeps n (Span x) = kept-or-on n _ _ refl
 after-keeps n (Padding x) = kept-or-on n _ _ refl
+after-keeps n (Ordered o) = kept-or-on n _ _ refl
 after-keeps n (Stream e p) = kept-or-on n _ _ refl
 after-keeps n (Call event) = kept-or-on n _ _ refl
 after-keeps n Wrong = λ wrong. refl

@@ -18,9 +18,9 @@ use Rattle.notes.specs.declared.line.Line.the-variants.{Wrong}
 use Rattle.notes.specs.declared.draft.Place.{Place}
 use Rattle.notes.specs.declared.draft.Place.the-variants.{Between, Within, Comment, Returned, Stray, Amiss}
 use Rattle.notes.specs.declared.draft.Draft.{Draft}
-use Rattle.notes.specs.Draft.{drafted, placed, amiss, tab, isGap, hash, carriage-return, isLetter, lettered, isDigit, longer, lengthens, numbered, inField, begun, afterGap, afterField, withByte}
-use Rattle.notes.specs.Line.{heldAfter, fieldsLine, lineOf}
-use Rattle.notes.specs.Words.{unreturned, uncommented, ended-word, wordsAfter, allOf, isName, isNumber, numbersLine, lineOfWords}
+use Rattle.notes.specs.Draft.{heldAfter, takesName, drafted, placed, amiss, tab, isGap, hash, carriage-return, isLetter, isDigit, longer, lengthens, lettered, valued, inField, begun, afterGap, afterField, withByte}
+use Rattle.notes.specs.Line.{fieldsLine, lineOf}
+use Rattle.notes.specs.Words.{unreturned, uncommented, ended-word, wordsAfter, allOf, isName, isNumber, isValue, valueOf, numbersLine, lineOfWords}
 use Rattle.notes.specs.Laws.{drawn, LineByWords}
 use Rattle.notes.proofs.Words.{held-append, held-grows}
 
@@ -82,25 +82,17 @@ number-spoilt : (a b : List ℕ) → isNumber a ≡ false → isNumber (a ++ b) 
 unfolding isNumber
 number-spoilt = spoilt isDigit (speltAfter 0) spelt-onward
 
--- a letter more is what the code's test says
-letter-more : (a : List ℕ) (byte : ℕ) → isName a ≡ true → isName (a ++ (byte ∷ [])) ≡ (isLetter byte && ltb (heldAfter 0 a) (256 ^ 7))
-unfolding isName heldAfter
-letter-more a byte h =
-    fine-more isLetter (heldAfter 0) held-onward a byte h ∙ rw (held-append a (byte ∷ []) 0) (go (test (isLetter byte)))
-  where
-    go : (isLetter byte ≡ true) ⊎ (isLetter byte ≡ false)
-        → (isLetter byte && ltb (heldAfter 0 a * 256 + byte) (2 ^ 64)) ≡ (isLetter byte && ltb (heldAfter 0 a) (256 ^ 7))
-    go (inl letter) =
-        let low = leb-true byte 122 (both (leb 97 byte) (leb byte 122) letter .1) in
-        ap (λ (k : Bool). isLetter byte && k)
-        (same-test (ltb (heldAfter 0 a * 256 + byte) (2 ^ 64)) (ltb (heldAfter 0 a) (256 ^ 7))
-        (λ l. lt-ltb (heldAfter 0 a) (256 ^ 7) (omega (arith, ltb-true (heldAfter 0 a * 256 + byte) (2 ^ 64) l)))
-        (λ l. lt-ltb (heldAfter 0 a * 256 + byte) (2 ^ 64) (omega (arith, low, ltb-true (heldAfter 0 a) (256 ^ 7) l))))
-    go (inr no-letter) = rw no-letter
+-- ---- a byte more: `names` says whether a word is a name or a number
 
-digit-more : (a : List ℕ) (byte : ℕ) → isNumber a ≡ true → isNumber (a ++ (byte ∷ [])) ≡ lengthens (speltAfter 0 a) byte
-unfolding isNumber lengthens speltAfter
-digit-more a byte h = fine-more isDigit (speltAfter 0) spelt-onward a byte h ∙ rw (spelt-append 0 a (byte ∷ []))
+value-more : (names : Bool) (a : List ℕ) (byte : ℕ) → isValue names a ≡ true → isValue names (a ++ (byte ∷ [])) ≡ lengthens names (valueOf names a) byte
+unfolding isValue valueOf isName isNumber lengthens heldAfter speltAfter if
+value-more true a byte h = fine-more isLetter (heldAfter 0) held-onward a byte h ∙ rw (held-append a (byte ∷ []) 0)
+value-more false a byte h = fine-more isDigit (speltAfter 0) spelt-onward a byte h ∙ rw (spelt-append 0 a (byte ∷ []))
+
+value-longer : (names : Bool) (a : List ℕ) (byte : ℕ) → valueOf names (a ++ (byte ∷ [])) ≡ longer names (valueOf names a) byte
+unfolding valueOf heldAfter speltAfter if
+value-longer true a byte = held-append a (byte ∷ []) 0
+value-longer false a byte = spelt-append 0 a (byte ∷ [])
 
 -- ---- what does not depend on the word that is being read
 
@@ -349,7 +341,7 @@ module _ (done : List (List ℕ)) (k h earlier before last : ℕ) (named spelt :
     gap-reads [] = kind .none
     gap-reads (byte ∷ rest) = gap-byte byte rest (gap-reads rest) (test (isGap byte)) (test (eqb byte hash)) (test (eqb byte carriage-return))
 
--- ---- a byte more in a number, and in a name
+-- ---- a word with a byte more
 
 no-digits : isNumber [] ≡ true
 unfolding isNumber allOf speltAfter
@@ -359,21 +351,12 @@ no-letters : isName [] ≡ true
 unfolding isName allOf heldAfter
 no-letters = refl
 
-module _ (number : ℕ → Draft) (bad : Draft) (w : List ℕ) (byte : ℕ) (fine : isNumber w ≡ true) where
-  digit-on : if (lengthens (speltAfter 0 w) byte) (number (longer (speltAfter 0 w) byte)) bad
-      ≡ if (isNumber (w ++ (byte ∷ []))) (number (speltAfter 0 (w ++ (byte ∷ [])))) bad
-  unfolding speltAfter
-  digit-on =
-      ap (λ (v : ℕ). if (lengthens (speltAfter 0 w) byte) (number v) bad) (sym (spelt-append 0 w (byte ∷ [])))
-      ∙ ap (λ (t : Bool). if t (number (speltAfter 0 (w ++ (byte ∷ [])))) bad) (sym (digit-more w byte fine))
-
-module _ (bad : Draft) (w : List ℕ) (byte : ℕ) (fine : isName w ≡ true) where
-  letter-on : if (isLetter byte && ltb (heldAfter 0 w) (256 ^ 7)) (drafted Within 1 (heldAfter 0 w * 256 + byte) 0 0 0) bad
-      ≡ if (isName (w ++ (byte ∷ []))) (drafted Within 1 (heldAfter 0 (w ++ (byte ∷ []))) 0 0 0) bad
-  unfolding heldAfter
-  letter-on =
-      ap (λ (v : ℕ). if (isLetter byte && ltb (heldAfter 0 w) (256 ^ 7)) (drafted Within 1 v 0 0 0) bad) (sym (held-append w (byte ∷ []) 0))
-      ∙ ap (λ (t : Bool). if t (drafted Within 1 (heldAfter 0 (w ++ (byte ∷ []))) 0 0 0) bad) (sym (letter-more w byte fine))
+module _ (made : ℕ → Draft) (bad : Draft) (names : Bool) (w : List ℕ) (byte : ℕ) (fine : isValue names w ≡ true) where
+  value-on : if (lengthens names (valueOf names w) byte) (made (longer names (valueOf names w) byte)) bad
+      ≡ if (isValue names (w ++ (byte ∷ []))) (made (valueOf names (w ++ (byte ∷ [])))) bad
+  value-on =
+      ap (λ (v : ℕ). if (lengthens names (valueOf names w) byte) (made v) bad) (sym (value-longer names w byte))
+      ∙ ap (λ (t : Bool). if t (made (valueOf names (w ++ (byte ∷ [])))) bad) (sym (value-more names w byte fine))
 
 -- neither has a carriage return in it
 module _ (w : List ℕ) where
@@ -385,15 +368,37 @@ module _ (w : List ℕ) where
   unfolding isName allOf
   name-no-return = rw (all-append isLetter w (carriage-return ∷ []), and-false (allOf isLetter w))
 
--- a number begins and goes on in any field but the first
-module _ (k h earlier before last byte : ℕ) where
-  pub number-begins : suc k < 4 → begun (drafted Between (suc k) h earlier before last) byte ≡ numbered (drafted Within (suc (suc k)) h before last 0) byte
-  unfolding begun inField if
-  number-begins few = rw (lt-ltb (suc k) 4 few, add-one, ne-eqb (suc (suc k)) 1 (λ e. omega (arith, e)))
+-- ---- a field behind the word: a name or a number
 
-  pub number-goes-on : inField (drafted Within (suc (suc k)) h earlier before last) byte ≡ numbered (drafted Within (suc (suc k)) h earlier before last) byte
+no-value : (names : Bool) → isValue names [] ≡ true
+unfolding isValue if
+no-value true = no-letters
+no-value false = no-digits
+
+none-held : (names : Bool) → valueOf names [] ≡ 0
+unfolding valueOf if heldAfter speltAfter
+none-held true = refl
+none-held false = refl
+
+value-spoilt : (names : Bool) (a b : List ℕ) → isValue names a ≡ false → isValue names (a ++ b) ≡ false
+unfolding isValue if
+value-spoilt true = name-spoilt
+value-spoilt false = number-spoilt
+
+value-no-return : (names : Bool) (w : List ℕ) → isValue names (w ++ (carriage-return ∷ [])) ≡ false
+unfolding isValue if
+value-no-return true = name-no-return
+value-no-return false = number-no-return
+
+-- a field begins and goes on, in any place but the first
+module _ (k h earlier before last byte : ℕ) where
+  pub value-begins : suc k < 4 → begun (drafted Between (suc k) h earlier before last) byte ≡ valued (drafted Within (suc (suc k)) h before last 0) byte
+  unfolding begun inField if
+  value-begins few = rw (lt-ltb (suc k) 4 few, add-one, ne-eqb (suc (suc k)) 1 (λ e. omega (arith, e)))
+
+  pub value-goes-on : inField (drafted Within (suc (suc k)) h earlier before last) byte ≡ valued (drafted Within (suc (suc k)) h earlier before last) byte
   unfolding inField if
-  number-goes-on = rw (ne-eqb (suc (suc k)) 1 (λ e. omega (arith, e)))
+  value-goes-on = rw (ne-eqb (suc (suc k)) 1 (λ e. omega (arith, e)))
 
 -- ---- the words, the last first
 
@@ -401,93 +406,105 @@ module _ (name : List ℕ) (n : isName name ≡ true) where
   abbrev h : ℕ
   h = heldAfter 0 name
 
+  abbrev names : Bool
+  names = takesName h
+
+  abbrev ok : List ℕ → Bool
+  ok = isValue names
+
+  abbrev value : List ℕ → ℕ
+  value = valueOf names
+
   abbrev line-of : List (List ℕ) → Line
-  line-of numbers = numbersLine h (map (speltAfter 0) numbers)
+  line-of values = numbersLine h (map value values)
 
-  right-words : (numbers : List (List ℕ)) → allOf isNumber numbers ≡ true → line-of numbers ≡ lineOfWords (name ∷ numbers)
+  right-words : (values : List (List ℕ)) → allOf ok values ≡ true → line-of values ≡ lineOfWords (name ∷ values)
   unfolding if
-  right-words numbers all = rw (n, all)
+  right-words values all = rw (n, all)
 
-  -- a word that is no number leaves no hope, wherever it stands
-  no-number : (numbers : List (List ℕ)) (w more : List ℕ) (others : List (List ℕ)) → isNumber w ≡ false → lineOfWords ((name ∷ numbers) ++ ((w ++ more) ∷ others)) ≡ Wrong
+  -- a word that is no value leaves no hope, wherever it stands
+  hopeless-value : (values : List (List ℕ)) (w more : List ℕ) (others : List (List ℕ)) → ok w ≡ false → lineOfWords ((name ∷ values) ++ ((w ++ more) ∷ others)) ≡ Wrong
   unfolding if allOf
-  no-number numbers w more others o = rw (all-append isNumber numbers ((w ++ more) ∷ others), number-spoilt w more o, and-false (allOf isNumber numbers), and-false (isName name))
+  hopeless-value values w more others o = rw (all-append ok values ((w ++ more) ∷ others), value-spoilt names w more o, and-false (allOf ok values), and-false (isName name))
 
   abbrev Goes-on : List (List ℕ) → Draft → Type 0
-  Goes-on numbers d = (rest : List ℕ) → lineOf (drawn d rest) ≡ lineOfWords ((name ∷ numbers) ++ wordsAfter [] (plain rest))
+  Goes-on values d = (rest : List ℕ) → lineOf (drawn d rest) ≡ lineOfWords ((name ∷ values) ++ wordsAfter [] (plain rest))
 
-  -- a number behind k others, which are right
-  module _ (numbers : List (List ℕ)) (all : allOf isNumber numbers ≡ true) (k earlier before last : ℕ) (few : suc k < 4)
-      (none : fieldsLine (drafted Between (suc k) h earlier before last) ≡ line-of numbers) where
-    abbrev with-number : Place → List ℕ → Draft
-    with-number place w = drafted place (suc (suc k)) h before last (speltAfter 0 w)
+  -- a value behind k others, which are right
+  module _ (values : List (List ℕ)) (all : allOf ok values ≡ true) (k earlier before last : ℕ) (few : suc k < 4)
+      (none : fieldsLine (drafted Between (suc k) h earlier before last) ≡ line-of values) where
+    abbrev with-value : Place → List ℕ → Draft
+    with-value place w = drafted place (suc (suc k)) h before last (value w)
 
-    all-more : (w : List ℕ) → isNumber w ≡ true → allOf isNumber (numbers ++ (w ∷ [])) ≡ true
+    all-more : (w : List ℕ) → ok w ≡ true → allOf ok (values ++ (w ∷ [])) ≡ true
     unfolding allOf
-    all-more w o = rw (all-append isNumber numbers (w ∷ []), all, o)
+    all-more w o = rw (all-append ok values (w ∷ []), all, o)
 
-    number-reads : ((w : List ℕ) → fieldsLine (with-number Within w) ≡ line-of (numbers ++ (w ∷ [])))
-        → ((w : List ℕ) → allOf isNumber (numbers ++ (w ∷ [])) ≡ true → Goes-on (numbers ++ (w ∷ [])) (with-number Between w))
-        → Goes-on numbers (drafted Between (suc k) h earlier before last)
-    unfolding numbered speltAfter
-    number-reads one next =
-        gap-reads (name ∷ numbers) (suc k) h earlier before last (λ _. h) (speltAfter 0) isNumber
+    value-reads : ((w : List ℕ) → fieldsLine (with-value Within w) ≡ line-of (values ++ (w ∷ [])))
+        → ((w : List ℕ) → allOf ok (values ++ (w ∷ [])) ≡ true → Goes-on (values ++ (w ∷ [])) (with-value Between w))
+        → Goes-on values (drafted Between (suc k) h earlier before last)
+    unfolding valued
+    value-reads one next =
+        gap-reads (name ∷ values) (suc k) h earlier before last (λ _. h) value ok
         (record {
-          bad = with-number Within;
-          from = λ byte. number-begins k h earlier before last byte few ∙ digit-on (drafted Within (suc (suc k)) h before last) (amiss (with-number Within [])) [] byte no-digits;
-          on = λ w byte o. number-goes-on k h before last (speltAfter 0 w) byte ∙ digit-on (drafted Within (suc (suc k)) h before last) (amiss (with-number Within w)) w byte o;
-          none = none ∙ right-words numbers all ∙ ap (λ (others : List (List ℕ)). lineOfWords (name ∷ others)) (sym (append-nil numbers));
-          one = λ w o. one w ∙ right-words (numbers ++ (w ∷ [])) (all-more w o);
-          no-return = number-no-return;
-          hopeless = no-number numbers;
+          bad = with-value Within;
+          from = λ byte.
+              value-begins k h earlier before last byte few
+              ∙ ap (λ (none : ℕ). valued (drafted Within (suc (suc k)) h before last none) byte) (sym (none-held names))
+              ∙ value-on (drafted Within (suc (suc k)) h before last) (amiss (with-value Within [])) names [] byte (no-value names);
+          on = λ w byte o. value-goes-on k h before last (value w) byte ∙ value-on (drafted Within (suc (suc k)) h before last) (amiss (with-value Within w)) names w byte o;
+          none = none ∙ right-words values all ∙ ap (λ (others : List (List ℕ)). lineOfWords (name ∷ others)) (sym (append-nil values));
+          one = λ w o. one w ∙ right-words (values ++ (w ∷ [])) (all-more w o);
+          no-return = value-no-return names;
+          hopeless = hopeless-value values;
           next = λ w rest o. next w (all-more w o) rest;
         })
 
-  -- a fourth number is too many
+  -- a fourth value is too many
   too-many : (b : Bool) → if b Wrong Wrong ≡ Wrong
   unfolding if
   too-many true = refl
   too-many false = refl
 
-  after-three : (a b c : List ℕ) → allOf isNumber (a ∷ b ∷ c ∷ []) ≡ true → Goes-on (a ∷ b ∷ c ∷ []) (drafted Between 4 h (speltAfter 0 a) (speltAfter 0 b) (speltAfter 0 c))
+  after-three : (a b c : List ℕ) → allOf ok (a ∷ b ∷ c ∷ []) ≡ true → Goes-on (a ∷ b ∷ c ∷ []) (drafted Between 4 h (value a) (value b) (value c))
   unfolding begun fieldsLine if
   after-three a b c all =
-      gap-reads (name ∷ a ∷ b ∷ c ∷ []) 4 h (speltAfter 0 a) (speltAfter 0 b) (speltAfter 0 c) (λ _. 0) (λ _. 0) (λ _. false)
+      gap-reads (name ∷ a ∷ b ∷ c ∷ []) 4 h (value a) (value b) (value c) (λ _. 0) (λ _. 0) (λ _. false)
       (record {
-        bad = λ _. drafted Between 5 h (speltAfter 0 a) (speltAfter 0 b) (speltAfter 0 c);
+        bad = λ _. drafted Between 5 h (value a) (value b) (value c);
         from = λ byte. refl;
         on = λ w byte o. absurd (false≢true o);
         none = right-words (a ∷ b ∷ c ∷ []) all;
         one = λ w o. absurd (false≢true o);
         no-return = λ w. refl;
-        hopeless = λ w more others o. too-many (isName name && allOf isNumber (a ∷ b ∷ c ∷ (w ++ more) ∷ others));
+        hopeless = λ w more others o. too-many (isName name && allOf ok (a ∷ b ∷ c ∷ (w ++ more) ∷ others));
         next = λ w rest o. absurd (false≢true o);
       })
 
-  after-two : (a b : List ℕ) → allOf isNumber (a ∷ b ∷ []) ≡ true → Goes-on (a ∷ b ∷ []) (drafted Between 3 h 0 (speltAfter 0 a) (speltAfter 0 b))
+  after-two : (a b : List ℕ) → allOf ok (a ∷ b ∷ []) ≡ true → Goes-on (a ∷ b ∷ []) (drafted Between 3 h 0 (value a) (value b))
   unfolding fieldsLine if
-  after-two a b all = number-reads (a ∷ b ∷ []) all 2 0 (speltAfter 0 a) (speltAfter 0 b) (omega arith) refl (λ w. refl) (after-three a b)
+  after-two a b all = value-reads (a ∷ b ∷ []) all 2 0 (value a) (value b) (omega arith) refl (λ w. refl) (after-three a b)
 
-  after-one : (a : List ℕ) → allOf isNumber (a ∷ []) ≡ true → Goes-on (a ∷ []) (drafted Between 2 h 0 0 (speltAfter 0 a))
+  after-one : (a : List ℕ) → allOf ok (a ∷ []) ≡ true → Goes-on (a ∷ []) (drafted Between 2 h 0 0 (value a))
   unfolding fieldsLine if
-  after-one a all = number-reads (a ∷ []) all 1 0 0 (speltAfter 0 a) (omega arith) refl (λ w. refl) (after-two a)
+  after-one a all = value-reads (a ∷ []) all 1 0 0 (value a) (omega arith) refl (λ w. refl) (after-two a)
 
   after-name : Goes-on [] (drafted Between 1 h 0 0 0)
   unfolding fieldsLine if allOf
-  after-name = number-reads [] refl 0 0 0 0 (omega arith) refl (λ w. refl) after-one
+  after-name = value-reads [] refl 0 0 0 0 (omega arith) refl (λ w. refl) after-one
 
 name-hopeless : (w more : List ℕ) (others : List (List ℕ)) → isName w ≡ false → lineOfWords ((w ++ more) ∷ others) ≡ Wrong
 unfolding if
 name-hopeless w more others o = rw (name-spoilt w more o)
 
 pub line-by-words : LineByWords
-unfolding begun inField lettered fieldsLine if heldAfter allOf
+unfolding begun inField lettered isValue valueOf fieldsLine if heldAfter allOf
 line-by-words =
     gap-reads [] 0 0 0 0 0 (heldAfter 0) (λ _. 0) isName
     (record {
       bad = λ w. drafted Within 1 (heldAfter 0 w) 0 0 0;
-      from = λ byte. letter-on (drafted Amiss 1 0 0 0 0) [] byte no-letters;
-      on = λ w byte o. letter-on (drafted Amiss 1 (heldAfter 0 w) 0 0 0) w byte o;
+      from = λ byte. value-on (λ v. drafted Within 1 v 0 0 0) (drafted Amiss 1 0 0 0 0) true [] byte no-letters;
+      on = λ w byte o. value-on (λ v. drafted Within 1 v 0 0 0) (drafted Amiss 1 (heldAfter 0 w) 0 0 0) true w byte o;
       none = refl;
       one = λ w o. right-words w o [] refl;
       no-return = name-no-return;

@@ -4,6 +4,7 @@ pub mod Digits
 pub mod Grammar
 pub mod Faults
 pub mod Gaps
+pub mod Orders
 pub mod ReadBack
 pub mod RoundTrip
 pub mod Tags

@@ -1,10 +1,9 @@
--- What is shown of a file is composed to that file: line by line, first the numbers of the table, then its streams, then the events.
+-- What is shown of a file is composed to that file: line by line, first the numbers of the table, then the order if it has a third entry, then the streams, then the events.
 use mathlib.Core.Bool.{true, false}
 use mathlib.Core.Path.{_≡_, refl, sym, ap, _∙_}
 use mathlib.Core.List.{List, [], _∷_, _++_}
 use Prim.Native.Nat.{ℕ, zero, suc, _+_, _-_, _*_, _^_, _≤_, _<_}
 use native.Mathlib.Omega.{arith}
-use native.Mathlib.Numerals.{add-one}
 use lib.Dec.{eqb}
 use lib.ListN.{length, take, drop, set, length-append, length-take}
 use lib.Seq.{sets, sets-eq, length-sets, length-take-le, take-at, take-add, take-all, getD-drop}
@@ -14,21 +13,26 @@ use Rattle.table.specs.Ranges.{streams-max}
 use Rattle.table.specs.Admission.{reservedAt, periodAt}
 use Rattle.table.specs.declared.Table.{Table}
 use Rattle.cells.specs.Cells.{Bytes}
+use Rattle.order.specs.declared.Order.{Order}
+use Rattle.order.specs.declared.Order.the-variants.{Nearest}
+use Rattle.file.specs.declared.form.Form.{Form}
+use Rattle.file.specs.declared.form.Form.the-variants.{Two, Three}
 use Rattle.file.specs.File.{event-size, events-max, bytesOf}
-use Rattle.file.specs.Reading.{eventsIn, eventAt, formed, column, traceStart, traceEnd, traceIn, tableAt, tableIn}
+use Rattle.file.specs.Reading.{eventsIn, eventAt, formed, column, countAt, startIn, traceStart, traceEnd, formIn, orderIn, traceIn, tableAt, tableIn, isLaidOut}
 use Rattle.file.specs.Writing.{putRefusal, withEvent, writeOf, writtenOn}
 use Rattle.file.specs.Laws.{Words, trimmed}
 use Rattle.file.proofs.Accepted.{read-accepted}
+use Rattle.file.specs.declared.Reading.the-variants.{LaidOut}
 use Rattle.file.proofs.Events.{event-writes-back}
-use Rattle.file.proofs.Round.{table-read-is-trimmed, accepted-is-within, accepted-writes-back}
+use Rattle.file.proofs.Round.{table-read-is-trimmed, accepted-is-within, accepted-writes-back, two-means-nearest}
 use Rattle.file.proofs.Stores.{stored-there}
 use Rattle.file.proofs.Traces.{length-event, coded-storable}
 use Rattle.listing.specs.Line.{rendered}
 use Rattle.notes.specs.declared.Notes.{Notes}
 use Rattle.notes.specs.declared.line.Line.{Line}
-use Rattle.notes.specs.declared.line.Line.the-variants.{Worst, Span, Padding, Stream, Call}
-use Rattle.notes.specs.Line.{fieldsLine, lineShown, streamAt, afterNumbers, lineAt, shownTo}
-use Rattle.notes.specs.Notes.{noted, started, no-table, withWorst, withSpan, nextLine, afterNumber, afterStream, beganBy, afterEvent, after, Read, read, lineRefusal, refusedBy, traceAfter, lineEnded, byteRead, bytesRead, Filed, filed, told, filedBy, ended}
+use Rattle.notes.specs.declared.line.Line.the-variants.{Worst, Span, Padding, Ordered, Stream, Call}
+use Rattle.notes.specs.Line.{fieldsLine, lineShown, streamAt, afterHead, headLines, lineAt, shownTo}
+use Rattle.notes.specs.Notes.{noted, started, no-table, withWorst, withSpan, nextLine, afterNumber, takesOrder, afterOrder, afterStream, beganBy, afterEvent, after, Read, read, lineRefusal, refusedBy, traceAfter, lineEnded, byteRead, bytesRead, Filed, filed, told, filedBy, ended}
 use Rattle.notes.specs.Laws.{Fits, ShownComposes}
 use Rattle.notes.proofs.Bytes.{pieces-join}
 use Rattle.notes.proofs.Choices.{filed-whole}
@@ -100,37 +104,45 @@ next-line : (n : ℕ) → n < 2 ^ 64 - 1 → nextLine n ≡ n + 1
 unfolding nextLine if
 next-line n h = rw (lt-ltb n (2 ^ 64 - 1) h)
 
--- the line of the first event, once there is one
-abbrev began-of : Table → ℕ → ℕ
-began-of t zero = 0
-began-of t (suc e) = t .count + 4
+-- the head has three lines, or four
+head-range : (form : Form) → (3 ≤ headLines form) × (headLines form ≤ 4)
+head-range Two = (omega arith, omega arith)
+head-range Three = (omega arith, omega arith)
 
-began-there : (t : Table) (e : ℕ) → beganBy (noted (e + (t .count + 4)) 3 (trimmed t) e (began-of t e)) ≡ t .count + 4
+-- the line of the first event, which stands after `first` others, once there is one
+abbrev began-of : ℕ → ℕ → ℕ
+began-of first zero = 0
+began-of first (suc e) = first + 1
+
+began-there : (first e : ℕ) (form : Form) (order : Order) (t : Table) → beganBy (noted (e + (first + 1)) 3 form order t e (began-of first e)) ≡ first + 1
 unfolding beganBy if
-began-there t zero = omega arith
-began-there t (suc e) = rw (ne-eqb (suc e) 0 (λ z. omega (arith, z)))
+began-there first zero form order t = omega arith
+began-there first (suc e) form order t = rw (ne-eqb (suc e) 0 (λ z. omega (arith, z)))
 
-began-is : (t : Table) (e : ℕ) → began-of t e ≡ if (eqb e 0) 0 (t .count + 4)
+began-is : (first e : ℕ) → began-of first e ≡ if (eqb e 0) 0 (first + 1)
 unfolding if
-began-is t zero = refl
-began-is t (suc e) = rw (ne-eqb (suc e) 0 (λ z. omega (arith, z)))
+began-is first zero = refl
+began-is first (suc e) = rw (ne-eqb (suc e) 0 (λ z. omega (arith, z)))
 
-module _ (t : Table) (w : Words t) (few : t .count ≤ streams-max) (trace : List ℕ) (b : Bytes trace)
+module _ (form : Form) (order : Order) (nearest : form ≡ Two → order ≡ Nearest) (t : Table) (w : Words t) (few : t .count ≤ streams-max) (trace : List ℕ) (b : Bytes trace)
     (well : (i : ℕ) → i < eventsIn trace → formed (eventAt trace i) ≡ true) (short : eventsIn trace ≤ events-max) (buffer : List ℕ) (room : eventsIn trace ≤ eventsIn buffer) where
   -- what has been read of the first m lines
   abbrev read-of : ℕ → Read
-  read-of m = bytesRead (read started buffer) (shownTo t trace m)
+  read-of m = bytesRead (read started buffer) (shownTo form order t trace m)
+
+  abbrev line-of : ℕ → Line
+  line-of = lineAt form order t trace
 
   -- a line more: it is read as the line that was shown
-  line-more : (m line numbers : ℕ) (table : Table) (events began : ℕ) (so-far : List ℕ) (l : Line) (next : Notes) → lineAt t trace m ≡ l → Fits l
-      → read-of m ≡ read (noted line numbers table events began) so-far → after (noted line numbers table events began) l ≡ next → next .wrong ≡ false → lineRefusal so-far events l ≡ 0
+  line-more : (m line numbers : ℕ) (f : Form) (o : Order) (table : Table) (events began : ℕ) (so-far : List ℕ) (l : Line) (next : Notes) → line-of m ≡ l → Fits l
+      → read-of m ≡ read (noted line numbers f o table events began) so-far → after (noted line numbers f o table events began) l ≡ next → next .wrong ≡ false → lineRefusal so-far events l ≡ 0
       → read-of (suc m) ≡ read next (traceAfter so-far events l)
   unfolding shownTo refusedBy if
-  line-more m line numbers table events began so-far l next is fits before then right kept =
-      pieces-join (read started buffer) (shownTo t trace m) (rendered (lineShown (lineAt t trace m)))
-      ∙ ap (λ (r : Read). bytesRead r (rendered (lineShown (lineAt t trace m)))) before
-      ∙ ap (λ (k : Line). bytesRead (read (noted line numbers table events began) so-far) (rendered (lineShown k))) is
-      ∙ line-reads-back line numbers table events began so-far l fits (ap (λ (n : Notes). n .wrong) then ∙ right)
+  line-more m line numbers f o table events began so-far l next is fits before then right kept =
+      pieces-join (read started buffer) (shownTo form order t trace m) (rendered (lineShown (line-of m)))
+      ∙ ap (λ (r : Read). bytesRead r (rendered (lineShown (line-of m)))) before
+      ∙ ap (λ (k : Line). bytesRead (read (noted line numbers f o table events began) so-far) (rendered (lineShown k))) is
+      ∙ line-reads-back line numbers f o table events began so-far l fits (ap (λ (n : Notes). n .wrong) then ∙ right)
       ∙ ap (λ (n : Notes). read (refusedBy n (lineRefusal so-far events l)) (traceAfter so-far events l)) then
       ∙ ap (λ (number : ℕ). read (refusedBy next number) (traceAfter so-far events l)) kept
 
@@ -139,41 +151,64 @@ module _ (t : Table) (w : Words t) (few : t .count ≤ streams-max) (trace : Lis
   streams-of j =
       record { worst = t .worst; span = t .span; padding = t .padding; count = j; reserved = column (reservedAt t) j; period = column (periodAt t) j }
 
-  numbers-read : read-of 3 ≡ read (noted 4 3 (streams-of 0) 0 0) buffer
+  numbers-read : read-of 3 ≡ read (noted 4 3 Two Nearest (streams-of 0) 0 0) buffer
   unfolding shownTo bytesRead lineAt afterNumber nextLine if column listTo
   numbers-read =
-      line-more 2 3 2 (withSpan (withWorst no-table (t .worst)) (t .span)) 0 0 buffer (Padding (t .padding)) (noted 4 3 (streams-of 0) 0 0) refl (w .padding-fits)
-      (line-more 1 2 1 (withWorst no-table (t .worst)) 0 0 buffer (Span (t .span)) (noted 3 2 (withSpan (withWorst no-table (t .worst)) (t .span)) 0 0) refl (w .span-fits)
-      (line-more 0 1 0 no-table 0 0 buffer (Worst (t .worst)) (noted 2 1 (withWorst no-table (t .worst)) 0 0) refl (w .worst-fits) refl refl refl refl)
+      line-more 2 3 2 Two Nearest (withSpan (withWorst no-table (t .worst)) (t .span)) 0 0 buffer (Padding (t .padding)) (noted 4 3 Two Nearest (streams-of 0) 0 0) refl (w .padding-fits)
+      (line-more 1 2 1 Two Nearest (withWorst no-table (t .worst)) 0 0 buffer (Span (t .span)) (noted 3 2 Two Nearest (withSpan (withWorst no-table (t .worst)) (t .span)) 0 0) refl (w .span-fits)
+      (line-more 0 1 0 Two Nearest no-table 0 0 buffer (Worst (t .worst)) (noted 2 1 Two Nearest (withWorst no-table (t .worst)) 0 0) refl (w .worst-fits) refl refl refl refl)
       refl refl refl)
       refl refl refl
 
-  stream-there : (j : ℕ) → j < t .count → lineAt t trace (j + 3) ≡ Stream (reservedAt t j) (periodAt t j)
-  unfolding lineAt afterNumbers streamAt if
-  stream-there j h =
-      let e : j + 3 - 3 ≡ j = omega arith in
+  -- the head: the numbers, and the order in a file with a third entry
+  order-there : form ≡ Three → line-of 3 ≡ Ordered order
+  unfolding lineAt if
+  order-there is = rw is
+
+  head-read : (f : Form) → form ≡ f → read-of (headLines f) ≡ read (noted (headLines f + 1) 3 f order (streams-of 0) 0 0) buffer
+  unfolding takesOrder afterOrder nextLine if
+  head-read Two is = numbers-read ∙ ap (λ (o : Order). read (noted 4 3 Two o (streams-of 0) 0 0) buffer) (sym (nearest is))
+  head-read Three is =
+      line-more 3 4 3 Two Nearest (streams-of 0) 0 0 buffer (Ordered order) (noted 5 3 Three order (streams-of 0) 0 0) (order-there is) tt numbers-read refl refl refl
+
+  abbrev head : ℕ
+  head = headLines form
+
+  -- the lines after the head
+  after-there : (i : ℕ) → line-of (i + head) ≡ afterHead t trace i
+  unfolding lineAt if
+  after-there i =
+      let low = head-range form .0 in
+      let e : i + head - head ≡ i = omega arith in
       rw (
-        ne-eqb (j + 3) 0 (λ z. omega (arith, z)),
-        ne-eqb (j + 3) 1 (λ z. omega (arith, z)),
-        ne-eqb (j + 3) 2 (λ z. omega (arith, z)),
+        ne-eqb (i + head) 0 (λ z. omega (arith, z, low)),
+        ne-eqb (i + head) 1 (λ z. omega (arith, z, low)),
+        ne-eqb (i + head) 2 (λ z. omega (arith, z, low)),
+        le-ltb (i + head) head (omega arith),
         e,
-        lt-ltb j (t .count) h,
-        lt-ltb j streams-max (omega (arith, few, h)),
       )
 
+  stream-there : (j : ℕ) → j < t .count → line-of (j + head) ≡ Stream (reservedAt t j) (periodAt t j)
+  unfolding afterHead streamAt if
+  stream-there j h = after-there j ∙ rw (lt-ltb j (t .count) h, lt-ltb j streams-max (omega (arith, few, h)))
+
   stream-taken : (j : ℕ) → j < streams-max
-      → after (noted (j + 4) 3 (streams-of j) 0 0) (Stream (reservedAt t j) (periodAt t j)) ≡ noted (suc j + 4) 3 (streams-of (suc j)) 0 0
+      → after (noted (j + (head + 1)) 3 form order (streams-of j) 0 0) (Stream (reservedAt t j) (periodAt t j)) ≡ noted (suc j + (head + 1)) 3 form order (streams-of (suc j)) 0 0
   unfolding afterStream if
   stream-taken j h =
-      let e : j + 4 + 1 ≡ suc j + 4 = omega arith in
-      rw (lt-ltb j streams-max h, next-line (j + 4) (omega arith), e, add-one, column-more (reservedAt t) j h, column-more (periodAt t) j h)
+      let e : j + (head + 1) + 1 ≡ suc j + (head + 1) = omega arith in
+      let more : j + 1 ≡ suc j = omega arith in
+      rw (lt-ltb j streams-max h, next-line (j + (head + 1)) (omega (arith, h, head-range form .1)), e, more, column-more (reservedAt t) j h, column-more (periodAt t) j h)
 
-  streams-read : (j : ℕ) → j ≤ t .count → read-of (j + 3) ≡ read (noted (j + 4) 3 (streams-of j) 0 0) buffer
-  streams-read zero h = numbers-read
+  streams-read : (j : ℕ) → j ≤ t .count → read-of (j + head) ≡ read (noted (j + (head + 1)) 3 form order (streams-of j) 0 0) buffer
+  streams-read zero h =
+      let none : 0 + head ≡ head = omega arith in
+      let first : 0 + (head + 1) ≡ head + 1 = omega arith in
+      rw (none, first) (head-read form refl)
   streams-read (suc j) h =
-      let m : suc j + 3 ≡ suc (j + 3) = omega arith in
+      let m : suc j + head ≡ suc (j + head) = omega arith in
       ap read-of m
-      ∙ line-more (j + 3) (j + 4) 3 (streams-of j) 0 0 buffer (Stream (reservedAt t j) (periodAt t j)) (noted (suc j + 4) 3 (streams-of (suc j)) 0 0)
+      ∙ line-more (j + head) (j + (head + 1)) 3 form order (streams-of j) 0 0 buffer (Stream (reservedAt t j) (periodAt t j)) (noted (suc j + (head + 1)) 3 form order (streams-of (suc j)) 0 0)
       (stream-there j h)
       (w .reserved-fits j, w .period-fits j)
       (streams-read j (omega arith))
@@ -182,28 +217,22 @@ module _ (t : Table) (w : Words t) (few : t .count ≤ streams-max) (trace : Lis
       refl
 
   abbrev lines : ℕ
-  lines = t .count + 3
+  lines = t .count + head
 
-  event-there : (e : ℕ) → lineAt t trace (e + lines) ≡ Call (eventAt trace e)
-  unfolding lineAt afterNumbers if
+  event-there : (e : ℕ) → line-of (e + lines) ≡ Call (eventAt trace e)
+  unfolding afterHead if
   event-there e =
-      let past : e + lines - 3 ≡ e + t .count = omega arith in
+      let past : e + lines ≡ e + t .count + head = omega arith in
       let at : e + t .count - t .count ≡ e = omega arith in
-      rw (
-        ne-eqb (e + lines) 0 (λ z. omega (arith, z)),
-        ne-eqb (e + lines) 1 (λ z. omega (arith, z)),
-        ne-eqb (e + lines) 2 (λ z. omega (arith, z)),
-        past,
-        le-ltb (e + t .count) (t .count) (omega arith),
-        at,
-      )
+      ap line-of past ∙ after-there (e + t .count) ∙ rw (le-ltb (e + t .count) (t .count) (omega arith), at)
 
   event-taken : (e : ℕ) → e < events-max
-      → after (noted (e + (t .count + 4)) 3 (trimmed t) e (began-of t e)) (Call (eventAt trace e)) ≡ noted (suc e + (t .count + 4)) 3 (trimmed t) (suc e) (t .count + 4)
+      → after (noted (e + (lines + 1)) 3 form order (trimmed t) e (began-of lines e)) (Call (eventAt trace e)) ≡ noted (suc e + (lines + 1)) 3 form order (trimmed t) (suc e) (lines + 1)
   unfolding afterEvent if
   event-taken e h =
-      let k : e + (t .count + 4) + 1 ≡ suc e + (t .count + 4) = omega arith in
-      rw (lt-ltb e events-max h, next-line (e + (t .count + 4)) (omega (arith, few)), began-there t e, k, add-one)
+      let k : e + (lines + 1) + 1 ≡ suc e + (lines + 1) = omega arith in
+      let more : e + 1 ≡ suc e = omega arith in
+      rw (lt-ltb e events-max h, next-line (e + (lines + 1)) (omega (arith, few, head-range form .1)), began-there lines e form order (trimmed t), k, more)
 
   -- the trace has room for each event
   event-kept : (e : ℕ) → e < eventsIn trace → putRefusal (stored buffer trace e) e (eventAt trace e) ≡ 0
@@ -214,16 +243,16 @@ module _ (t : Table) (w : Words t) (few : t .count ≤ streams-max) (trace : Lis
       sym (stored-there (stored buffer trace e) e (eventAt trace e) (coded-storable (eventAt trace e) w) here .0)
 
   events-read : (e : ℕ) → e ≤ eventsIn trace
-      → read-of (e + lines) ≡ read (noted (e + (t .count + 4)) 3 (trimmed t) e (began-of t e)) (stored buffer trace e)
+      → read-of (e + lines) ≡ read (noted (e + (lines + 1)) 3 form order (trimmed t) e (began-of lines e)) (stored buffer trace e)
   unfolding stored trimmed
   events-read zero h =
-      let none : 0 + lines ≡ t .count + 3 = omega arith in
-      let first : 0 + (t .count + 4) ≡ t .count + 4 = omega arith in
+      let none : 0 + lines ≡ t .count + head = omega arith in
+      let first : 0 + (lines + 1) ≡ t .count + (head + 1) = omega arith in
       rw (none, first) (streams-read (t .count) (omega arith))
   events-read (suc e) h =
       let m : suc e + lines ≡ suc (e + lines) = omega arith in
       ap read-of m
-      ∙ line-more (e + lines) (e + (t .count + 4)) 3 (trimmed t) e (began-of t e) (stored buffer trace e) (Call (eventAt trace e)) (noted (suc e + (t .count + 4)) 3 (trimmed t) (suc e) (t .count + 4))
+      ∙ line-more (e + lines) (e + (lines + 1)) 3 form order (trimmed t) e (began-of lines e) (stored buffer trace e) (Call (eventAt trace e)) (noted (suc e + (lines + 1)) 3 form order (trimmed t) (suc e) (lines + 1))
       (event-there e)
       (event-writes-back trace e b (well e (omega arith)) .0)
       (events-read e (omega arith))
@@ -238,27 +267,38 @@ abbrev written-of : List ℕ → Read → Filed
 written-of out r = filedBy (ended (r .notes) (r .trace) .notes) (ended (r .notes) (r .trace) .trace) out
 
 -- the end of the notes leaves a blank line, which says nothing
-at-end : (line events began : ℕ) (table : Table) (trace out : List ℕ) → events ≤ eventsIn trace
-    → written-of out (read (noted line 3 table events began) trace)
-    ≡ filed (told (table .count) began (writeOf table (take (event-size * events) trace) out)) (writtenOn table (take (event-size * events) trace) out)
+at-end : (line : ℕ) (form : Form) (order : Order) (events began : ℕ) (table : Table) (trace out : List ℕ) → events ≤ eventsIn trace
+    → written-of out (read (noted line 3 form order table events began) trace)
+    ≡ filed (told (table .count) began (writeOf form order table (take (event-size * events) trace) out)) (writtenOn form order table (take (event-size * events) trace) out)
 unfolding byteRead lineEnded refusedBy fieldsLine if
-at-end line events began table trace out room = filed-whole (noted (nextLine line) 3 table events began) trace out refl (omega arith) refl room
+at-end line form order events began table trace out room = filed-whole (noted (nextLine line) 3 form order table events began) trace out refl (omega arith) refl room
+
+-- a file of two entries means nearest
+two-nearest : (file : List ℕ) → isLaidOut file ≡ true → formIn file ≡ Two → orderIn file ≡ Nearest
+two-nearest file h is =
+    let count = countAt file (startIn file) in
+    let events = eventsIn (traceIn file) in
+    two-means-nearest .0 file (orderIn file) count (traceStart file) (traceEnd file) events
+    (read-accepted file h ∙ ap (λ (form : Form). LaidOut form (orderIn file) count (traceStart file) (traceEnd file) events) is)
 
 pub shown-composes : ShownComposes
 unfolding tableAt
 shown-composes file buffer out b h room space =
+    let form = formIn file in
+    let order = orderIn file in
     let t = tableIn file in
     let trace = traceIn file in
     let e = eventsIn trace in
+    let first = t .count + headLines form in
     let a = read-accepted file h in
-    let inside = accepted-is-within file _ _ _ _ a in
+    let inside = accepted-is-within file _ _ _ _ _ _ a in
     let table = table-read-is-trimmed file b in
     let bytes = bytes-part (traceEnd file - traceStart file) (traceStart file) file b in
-    let index : 3 + t .count + e ≡ e + (t .count + 3) = omega arith in
+    let index : headLines form + t .count + e ≡ e + first = omega arith in
     let size : length trace ≤ event-size * e = omega (arith, length-take (traceEnd file - traceStart file) (drop (traceStart file) file), inside .whole-events) in
     let stores = stored-are trace bytes (inside .all-formed) buffer room e (omega arith) in
-    let back = accepted-writes-back file out _ _ _ _ b a space in
-    ap (λ (m : ℕ). written-of out (bytesRead (read started buffer) (shownTo t trace m))) index
-    ∙ ap (written-of out) (events-read t (table .0) (inside .count-high) trace bytes (inside .all-formed) (inside .events-high) buffer room e (omega arith))
-    ∙ at-end (e + (t .count + 4)) e (began-of t e) (trimmed t) (stored buffer trace e) out (omega (arith, stores .1, room))
-    ∙ rw (began-is t e, table .1, stores .0, take-all (event-size * e) trace size, back .0, back .1)
+    let back = accepted-writes-back file out _ _ _ _ _ _ b a space in
+    ap (λ (m : ℕ). written-of out (bytesRead (read started buffer) (shownTo form order t trace m))) index
+    ∙ ap (written-of out) (events-read form order (two-nearest file h) t (table .0) (inside .count-high) trace bytes (inside .all-formed) (inside .events-high) buffer room e (omega arith))
+    ∙ at-end (e + (first + 1)) form order e (began-of first e) (trimmed t) (stored buffer trace e) out (omega (arith, stores .1, room))
+    ∙ rw (began-is first e, table .1, stores .0, take-all (event-size * e) trace size, back .0, back .1)

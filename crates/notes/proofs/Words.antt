@@ -7,7 +7,7 @@ use native.Mathlib.Omega.{arith}
 use lib.ListN.{length, take, drop, take-append-drop, length-take, length-drop}
 use Rattle.table.proofs.Tests.{le-or-lt}
 use Rattle.listing.specs.Laws.{Each}
-use Rattle.notes.specs.Line.{heldAfter}
+use Rattle.notes.specs.Draft.{heldAfter}
 use Rattle.notes.specs.Laws.{Letter, WordsTell}
 
 pub held-append : (a b : List ℕ) (n : ℕ) → heldAfter n (a ++ b) ≡ heldAfter (heldAfter n a) b

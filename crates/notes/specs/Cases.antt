@@ -4,9 +4,9 @@ use Prim.Native.Nat.{ℕ}
 use Prim.Native.String.{String}
 use Rattle.listing.specs.Line.{ascii}
 use Rattle.notes.specs.declared.Composed.{Composed}
-use Rattle.notes.specs.declared.fault.Fault.the-variants.{Return, Mark, Word, Numbers, NoNumber, TooLarge, Misplaced, NinthStream}
+use Rattle.notes.specs.declared.fault.Fault.the-variants.{Return, Mark, Word, Numbers, OneWord, NoNumber, TooLarge, NoOrder, Misplaced, NinthStream}
 use Rattle.notes.specs.declared.Composed.the-variants.{Written, Streamless, Wrong, Unfinished, Refused}
-use Rattle.notes.specs.declared.Expected.the-variants.{Worst, Span, Padding, StreamOrEvent, Event}
+use Rattle.notes.specs.declared.Expected.the-variants.{Worst, Span, Padding, OrderStreamOrEvent, StreamOrEvent, Event}
 
 pub record Case : Type 0 where
   pub notes : List ℕ
@@ -29,7 +29,7 @@ cases =
     ∷ gives "worst 4294967295\nspan 1\npadding 1\n" (Streamless 42 0)
     ∷ gives "worst 4294967296\nspan 1\npadding 1\n" (Wrong 1 (TooLarge 32) Worst)
     ∷ gives "worst 1\nspan 1\nstream 1 1\n" (Wrong 3 Misplaced Padding)
-    ∷ gives "worst 1\nspan 1\npadding 1\nstream 1\n" (Wrong 4 (Numbers 2) StreamOrEvent)
+    ∷ gives "worst 1\nspan 1\npadding 1\nstream 1\n" (Wrong 4 (Numbers 2) OrderStreamOrEvent)
     ∷ gives "worst 1\nspan 1\npadding 1\nstream 1 1\nturn\nstream 1 1\n" (Wrong 6 Misplaced Event)
     ∷ gives "worst 1\nspan 1\npadding 1\nstream 1 1\nstream 1 1\nstream 1 1\nstream 1 1\nstream 1 1\nstream 1 1\nstream 1 1\nstream 1 1\n" (Written 106)
     ∷ gives "worst 1\nspan 1\npadding 1\nstream 1 1\nstream 1 1\nstream 1 1\nstream 1 1\nstream 1 1\nstream 1 1\nstream 1 1\nstream 1 1\nstream 1 1\n" (Wrong 12 NinthStream Event)
@@ -48,6 +48,19 @@ cases =
     ∷ gives "arrival 1 1 1\n" (Wrong 1 Misplaced Worst)
     ∷ gives "own 1 0 0\n" (Wrong 1 (Numbers 2) Worst)
     ∷ gives "stream 1 1 1\n" (Wrong 1 (Numbers 2) Worst)
+    ∷ gives "worst 1\nspan 1\npadding 1\norder nearest\n" (Streamless 58 0)
+    ∷ gives "worst 1\nspan 1\npadding 1\norder sweep\n" (Streamless 58 0)
+    ∷ gives "worst 1\nspan 1\npadding 1\norder sweep\nstream 1 1\nturn\n" (Written 82)
+    ∷ gives "worst 1\nspan 1\npadding 1\norder\n" (Wrong 4 OneWord OrderStreamOrEvent)
+    ∷ gives "worst 1\nspan 1\npadding 1\norder sweep 1\n" (Wrong 4 OneWord OrderStreamOrEvent)
+    ∷ gives "worst 1\nspan 1\npadding 1\norder left\n" (Wrong 4 NoOrder OrderStreamOrEvent)
+    ∷ gives "worst 1\nspan 1\npadding 1\norder 1\n" (Wrong 4 NoOrder OrderStreamOrEvent)
+    ∷ gives "worst 1\nspan 1\npadding 1\norder Sweep\n" (Wrong 4 NoOrder OrderStreamOrEvent)
+    ∷ gives "worst 1\nspan 1\npadding 1\norder nearestto\n" (Wrong 4 NoOrder OrderStreamOrEvent)
+    ∷ gives "worst 1\nspan 1\npadding 1\norder nearest\norder nearest\n" (Wrong 5 Misplaced StreamOrEvent)
+    ∷ gives "worst 1\nspan 1\norder nearest\npadding 1\n" (Wrong 3 Misplaced Padding)
+    ∷ gives "worst 1\nspan 1\npadding 1\nstream 1 1\norder nearest\n" (Wrong 5 Misplaced StreamOrEvent)
+    ∷ gives "worst 1\nspan 1\npadding 1\nturn\norder nearest\n" (Wrong 5 Misplaced Event)
     ∷ gives "worst\t1\nspan 1\t\n\tpadding \t 1\n\t\n" (Streamless 42 0)
     ∷ gives "worst 1\r\nspan 1 \r\npadding 1# as the card says\r\n\r\nturn\r" (Streamless 58 5)
     ∷ gives "turn\rturn\n" (Wrong 1 Return Worst)

@@ -1,4 +1,4 @@
--- What a message can quote of a line: its word, and the first number that is wrong, or else the last. Of each the first bytes are kept.
+-- What a message can quote of a line: its word, and the first number or name that is wrong, or else the last. Of each the first bytes are kept.
 use mathlib.Core.Bool.{Bool, true, false, _&&_, _||_}
 use mathlib.Core.List.{List}
 use Prim.Native.Nat.{ℕ, _+_}
@@ -32,7 +32,7 @@ fieldWith f byte =
 unfoldable pub isMarked : Field → Bool
 isMarked f = eqb (getD (f .bytes) 0 0) 239 && eqb (getD (f .bytes) 1 0) 187 && eqb (getD (f .bytes) 2 0) 191
 
--- what has been heard of a line: its word, a number, and whether the last byte stands in one of them
+-- what has been heard of a line: its word, a number or a name, and whether the last byte stands in one of them
 abbrev pub heardOf : Field → Field → Bool → Heard
 heardOf word number inside = record { word = word; number = number; inside = inside }
 
@@ -44,7 +44,7 @@ unfoldable pub heardIn : Heard → Bool → ℕ → Heard
 heardIn h first byte =
     if first (heardOf (fieldWith (h .word) byte) (h .number) true) (heardOf (h .word) (fieldWith (h .number) byte) true)
 
--- a field begins after a gap; a number that is too large stays for the message
+-- a field begins after a gap; a number that is too large, or a name of no order, stays for the message
 abbrev pub opensAt : Place → Draft → Bool
 opensAt Between d = fits d
 opensAt Within d = false

@@ -1,30 +1,26 @@
 -- The lines of notes: which there are, what is read as each, and how each is shown.
 use mathlib.Core.Bool.{Bool}
 use mathlib.Core.List.{List, [], _∷_, _++_}
-use Prim.Native.Nat.{ℕ, zero, suc, _+_, _-_, _*_, _^_}
-use Prim.Native.String.{String}
+use Prim.Native.Nat.{ℕ, zero, suc, _+_, _-_, _^_}
 use lib.Dec.{ltb, eqb}
 use Rattle.table.specs.Fold.{if}
 use Rattle.table.specs.Ranges.{streams-max}
 use Rattle.table.specs.Admission.{reservedAt, periodAt}
 use Rattle.table.specs.declared.Table.{Table}
 use Rattle.file.specs.Reading.{eventsIn, eventAt}
+use Rattle.file.specs.declared.form.Form.{Form}
+use Rattle.file.specs.declared.form.Form.the-variants.{Two, Three}
 use Rattle.file.specs.declared.event.Event.{Event}
 use Rattle.file.specs.declared.event.Event.the-variants.{Arrival, Turn, OwnTurn, Done, Clock, Malformed}
+use Rattle.order.specs.declared.Order.{Order}
+use Rattle.order.specs.declared.Order.the-variants.{Nearest, Sweep}
 use Rattle.listing.specs.Line.{ascii, rendered, wordedFields}
 use Rattle.notes.specs.declared.line.Line.{Line}
-use Rattle.notes.specs.declared.line.Line.the-variants.{Blank, Worst, Span, Padding, Stream, Call, Wrong}
+use Rattle.notes.specs.declared.line.Line.the-variants.{Blank, Worst, Span, Padding, Ordered, Stream, Call, Wrong}
 use Rattle.notes.specs.declared.draft.Place.{Place}
 use Rattle.notes.specs.declared.draft.Place.the-variants.{Between, Within, Comment, Returned, Stray, Amiss}
 use Rattle.notes.specs.declared.draft.Draft.{Draft}
-
--- a word as it is held: its letters are digits to the base 256
-unfoldable pub heldAfter : ℕ → List ℕ → ℕ
-heldAfter n [] = n
-heldAfter n (letter ∷ rest) = heldAfter (n * 256 + letter) rest
-
-abbrev pub held : String → ℕ
-held word = heldAfter 0 (ascii word)
+use Rattle.notes.specs.Draft.{held, takesName}
 
 -- a number of the table has 32 bits, as "a tag of 32 bits" has, and the stream of an event eight
 abbrev pub inWord : ℕ → Bool
@@ -36,6 +32,13 @@ inByte n = ltb n (2 ^ 8)
 -- the line of a word alone
 unfoldable pub wordLine : ℕ → Line
 wordLine word = if (eqb word (held "turn")) (Call Turn) Wrong
+
+-- the line of a word and a name: document 02, Req 08: "0 nearest, 1 sweep", and notes have these words for them
+unfoldable pub orderLine : ℕ → Line
+orderLine name =
+    if (eqb name (held "nearest")) (Ordered Nearest)
+    (if (eqb name (held "sweep")) (Ordered Sweep)
+    Wrong)
 
 -- the line of a word and a number
 unfoldable pub tableLine : ℕ → ℕ → Line
@@ -49,8 +52,9 @@ unfoldable pub numberLine : ℕ → ℕ → Line
 numberLine word n =
     if (eqb word (held "done")) (Call (Done n))
     (if (eqb word (held "clock")) (Call (Clock n))
+    (if (takesName word) (orderLine n)
     (if (inWord n) (tableLine word n)
-    Wrong))
+    Wrong)))
 
 -- the line of a word and two numbers
 unfoldable pub streamLine : ℕ → ℕ → Line
@@ -105,34 +109,46 @@ eventShown (Done duration) = wordedFields (ascii "done") (duration ∷ [])
 eventShown (Clock time) = wordedFields (ascii "clock") (time ∷ [])
 eventShown Malformed = wordedFields [] []
 
+-- an order's line has no number
+abbrev pub orderShown : Order → List (List ℕ)
+orderShown Nearest = wordedFields (ascii "order nearest") []
+orderShown Sweep = wordedFields (ascii "order sweep") []
+
 abbrev pub lineShown : Line → List (List ℕ)
 lineShown (Worst n) = wordedFields (ascii "worst") (n ∷ [])
 lineShown (Span n) = wordedFields (ascii "span") (n ∷ [])
 lineShown (Padding n) = wordedFields (ascii "padding") (n ∷ [])
+lineShown (Ordered order) = orderShown order
 lineShown (Stream reserved period) = wordedFields (ascii "stream") (reserved ∷ period ∷ [])
 lineShown (Call event) = eventShown event
 lineShown Blank = wordedFields [] []
 lineShown Wrong = wordedFields [] []
 
--- the lines of a table and a trace, in order and counted from 0: its three numbers, its streams, and the events. A table has eight places for streams.
+-- the lines of a file, in order and counted from 0: the three numbers of its table, its order if it has a third entry, its streams, and the events. A table has eight places for streams.
 unfoldable pub streamAt : Table → ℕ → Line
 streamAt t i = if (ltb i streams-max) (Stream (reservedAt t i) (periodAt t i)) Wrong
 
-unfoldable pub afterNumbers : Table → List ℕ → ℕ → Line
-afterNumbers t trace i = if (ltb i (t .count)) (streamAt t i) (Call (eventAt trace (i - t .count)))
+unfoldable pub afterHead : Table → List ℕ → ℕ → Line
+afterHead t trace i = if (ltb i (t .count)) (streamAt t i) (Call (eventAt trace (i - t .count)))
 
-unfoldable pub lineAt : Table → List ℕ → ℕ → Line
-lineAt t trace i =
+-- how many lines stand before the streams
+abbrev pub headLines : Form → ℕ
+headLines Two = 3
+headLines Three = 4
+
+unfoldable pub lineAt : Form → Order → Table → List ℕ → ℕ → Line
+lineAt form order t trace i =
     if (eqb i 0) (Worst (t .worst))
     (if (eqb i 1) (Span (t .span))
     (if (eqb i 2) (Padding (t .padding))
-    (afterNumbers t trace (i - 3))))
+    (if (ltb i (headLines form)) (Ordered order)
+    (afterHead t trace (i - headLines form)))))
 
--- the first n lines of the notes of a table and a trace, as they are printed
-unfoldable pub shownTo : Table → List ℕ → ℕ → List ℕ
-shownTo t trace zero = []
-shownTo t trace (suc n) = shownTo t trace n ++ rendered (lineShown (lineAt t trace n))
+-- the first n lines of the notes of a file, as they are printed
+unfoldable pub shownTo : Form → Order → Table → List ℕ → ℕ → List ℕ
+shownTo form order t trace zero = []
+shownTo form order t trace (suc n) = shownTo form order t trace n ++ rendered (lineShown (lineAt form order t trace n))
 
 -- all of them
-abbrev pub notesOf : Table → List ℕ → List ℕ
-notesOf t trace = shownTo t trace (3 + t .count + eventsIn trace)
+abbrev pub notesOf : Form → Order → Table → List ℕ → List ℕ
+notesOf form order t trace = shownTo form order t trace (headLines form + t .count + eventsIn trace)

@@ -7,8 +7,8 @@ use Rattle.table.specs.Fold.{if}
 use Rattle.listing.specs.Laws.{speltAfter}
 use Rattle.notes.specs.declared.line.Line.{Line}
 use Rattle.notes.specs.declared.line.Line.the-variants.{Blank, Wrong}
-use Rattle.notes.specs.Draft.{isGap, hash, carriage-return, isLetter, isDigit}
-use Rattle.notes.specs.Line.{heldAfter, wordLine, numberLine, pairLine, tripleLine}
+use Rattle.notes.specs.Draft.{heldAfter, takesName, isGap, hash, carriage-return, isLetter, isDigit}
+use Rattle.notes.specs.Line.{wordLine, numberLine, pairLine, tripleLine}
 
 -- a line without a carriage return at its end
 unfoldable pub unreturned : List ℕ → List ℕ
@@ -45,7 +45,14 @@ isName word = allOf isLetter word && ltb (heldAfter 0 word) (2 ^ 64)
 unfoldable pub isNumber : List ℕ → Bool
 isNumber word = allOf isDigit word && ltb (speltAfter 0 word) (2 ^ 64)
 
--- the line of some words: a name, and up to three numbers
+-- behind a word stand numbers, or names where it takes them: whether one is as it should be, and what it is held as
+unfoldable pub isValue : Bool → List ℕ → Bool
+isValue names word = if names (isName word) (isNumber word)
+
+unfoldable pub valueOf : Bool → List ℕ → ℕ
+valueOf names word = if names (heldAfter 0 word) (speltAfter 0 word)
+
+-- the line of some words: a name, and up to three numbers, or names as they are held
 abbrev pub numbersLine : ℕ → List ℕ → Line
 numbersLine word [] = wordLine word
 numbersLine word (a ∷ []) = numberLine word a
@@ -55,5 +62,6 @@ numbersLine word (a ∷ b ∷ c ∷ d ∷ more) = Wrong
 
 abbrev pub lineOfWords : List (List ℕ) → Line
 lineOfWords [] = Blank
-lineOfWords (name ∷ numbers) =
-    if (isName name && allOf isNumber numbers) (numbersLine (heldAfter 0 name) (map (speltAfter 0) numbers)) Wrong
+lineOfWords (name ∷ values) =
+    let names = takesName (heldAfter 0 name) in
+    if (isName name && allOf (isValue names) values) (numbersLine (heldAfter 0 name) (map (valueOf names) values)) Wrong

@@ -1,7 +1,7 @@
 // A line that is being read, byte by byte.
 ghost use mathlib.Core.Path.{_≡_};
 ghost use mathlib.Core.Bool.{true};
-ghost use Rattle.notes.specs.Draft.{blank, amiss, placed, isLetter, lettered, isDigit, longer, lengthens, numbered, inField, begun, isGap, afterGap, afterField, withByte};
+ghost use Rattle.notes.specs.Draft.{takesName, blank, amiss, placed, isLetter, isDigit, longer, lengthens, lettered, valued, inField, begun, isGap, afterGap, afterField, withByte};
 
 // Where in a line its last byte stands: between fields, within one, in a comment, at a carriage return that may end the line,
 // after one that does not, or where no right line can follow, because of the field that was begun last.
@@ -14,7 +14,8 @@ pub enum Place {
     Amiss,
 }
 
-// A line so far: how many fields have begun, the letters of the first as digits to the base 256, and the numbers of the last field and of the two before it.
+// A line so far: how many fields have begun, the letters of the first as digits to the base 256, and what the last field and the two before it are held as:
+// a number, or a name in the same way.
 pub struct Draft {
     pub place: Place,
     pub fields: u64,
@@ -24,10 +25,13 @@ pub struct Draft {
     pub last: u64,
 }
 
-impl Draft {
-    // Every word of seven letters is below this, and none of eight.
-    const SEVEN_LETTERS: u64 = 72_057_594_037_927_936;
+// Every word of seven letters is below this, and none of eight.
+const SEVEN_LETTERS: u64 = 72_057_594_037_927_936;
 
+// The word that takes a name.
+const ORDER: u64 = 0x6f_72_64_65_72;
+
+impl Draft {
     // A line before its first byte.
     pub fn blank() -> Draft
         ensures { λ r. ⌜ r ≡ blank ⌝ }
@@ -107,7 +111,7 @@ impl Draft {
         }
     }
 
-    // The first byte of a field, before which the numbers so far move up; a fifth one is too many.
+    // The first byte of a field, before which the fields so far move up; a fifth one is too many.
     fn begun(self, byte: u8) -> Draft
         ensures { λ r. ⌜ r ≡ begun self byte ⌝ }
     {
@@ -132,25 +136,25 @@ impl Draft {
         }
     }
 
-    // A byte of the field that is being read: a letter in the first, a digit in the others.
+    // A byte of the field that is being read: a letter in the first, and a letter or a digit in the others.
     fn in_field(self, byte: u8) -> Draft
         ensures { λ r. ⌜ r ≡ inField self byte ⌝ }
     {
         if self.fields == 1 {
             return self.lettered(byte);
         }
-        self.numbered(byte)
+        self.valued(byte)
     }
 
     // A letter more in the word.
     fn lettered(self, byte: u8) -> Draft
         ensures { λ r. ⌜ r ≡ lettered self byte ⌝ }
     {
-        if is_letter(byte) & (self.word < Draft::SEVEN_LETTERS) {
+        if lengthens(true, self.word, byte) {
             return Draft {
                 place: Place::Within,
                 fields: 1,
-                word: self.word * 256 + byte as u64,
+                word: longer(true, self.word, byte),
                 earlier: self.earlier,
                 before: self.before,
                 last: self.last,
@@ -159,18 +163,19 @@ impl Draft {
         self.amiss()
     }
 
-    // A digit more in the number that is being read.
-    fn numbered(self, byte: u8) -> Draft
-        ensures { λ r. ⌜ r ≡ numbered self byte ⌝ }
+    // A letter or a digit more in the name or the number that is being read behind the word.
+    fn valued(self, byte: u8) -> Draft
+        ensures { λ r. ⌜ r ≡ valued self byte ⌝ }
     {
-        if lengthens(self.last, byte) {
+        let name = takes_name(self.word);
+        if lengthens(name, self.last, byte) {
             return Draft {
                 place: Place::Within,
                 fields: self.fields,
                 word: self.word,
                 earlier: self.earlier,
                 before: self.before,
-                last: longer(self.last, byte),
+                last: longer(name, self.last, byte),
             };
         }
         self.amiss()
@@ -182,6 +187,13 @@ pub(crate) fn is_gap(byte: u8) -> bool
     ensures { λ r. ⌜ r ≡ isGap byte ⌝ }
 {
     (byte == b' ') | (byte == b'\t')
+}
+
+// Whether names stand behind a word, and not numbers.
+pub(crate) fn takes_name(word: u64) -> bool
+    ensures { λ r. ⌜ r ≡ takesName word ⌝ }
+{
+    word == ORDER
 }
 
 fn is_letter(byte: u8) -> bool
@@ -196,19 +208,25 @@ pub(crate) fn is_digit(byte: u8) -> bool
     (b'0' <= byte) & (byte <= b'9')
 }
 
-// Whether a byte is a digit that a number of 64 bits has room for behind n.
-fn lengthens(n: u64, byte: u8) -> bool
-    ensures { λ r. ⌜ r ≡ lengthens n byte ⌝ }
+// Whether a byte is a letter of a name, or a digit of a number, for which 64 bits have room behind n.
+fn lengthens(name: bool, n: u64, byte: u8) -> bool
+    ensures { λ r. ⌜ r ≡ lengthens name n byte ⌝ }
 {
+    if name {
+        return is_letter(byte) & (n < SEVEN_LETTERS);
+    }
     if is_digit(byte) {
         return n <= (u64::MAX - (byte - b'0') as u64) / 10;
     }
     false
 }
 
-fn longer(n: u64, byte: u8) -> u64
-    requires { ⌜ lengthens n byte ≡ true ⌝ }
-    ensures { λ r. ⌜ r ≡ longer n byte ⌝ }
+fn longer(name: bool, n: u64, byte: u8) -> u64
+    requires { ⌜ lengthens name n byte ≡ true ⌝ }
+    ensures { λ r. ⌜ r ≡ longer name n byte ⌝ }
 {
+    if name {
+        return n * 256 + byte as u64;
+    }
     n * 10 + (byte - b'0') as u64
 }

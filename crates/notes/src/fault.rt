@@ -2,6 +2,7 @@
 use crate::Notes;
 use crate::draft::Draft;
 use crate::draft::Place;
+use crate::draft::takes_name;
 use crate::heard::Heard;
 use crate::line::Line;
 use crate::line::line_of;
@@ -11,18 +12,20 @@ use crate::numbers::is_right;
 use crate::numbers::room_at;
 use crate::numbers::takes;
 ghost use mathlib.Core.Path.{_≡_};
-ghost use Rattle.notes.specs.Fault.{isStray, isAmiss, streamFault, eventFault, rightFault, numberFault, faultOf};
+ghost use Rattle.notes.specs.Fault.{isStray, isAmiss, streamFault, eventFault, rightFault, countFault, fieldFault, valueFault, faultOf};
 
-// A carriage return within the line; a byte order mark; no word of notes; more or fewer numbers than the word takes; no number;
-// a number for which so many bits have no room; a line that stands where it may not; a ninth stream; an event after 4,000.
-// The word or the number is what the notes have heard of the line.
+// A carriage return within the line; a byte order mark; no word of notes; more or fewer numbers than the word takes, or names than the one that it takes;
+// no number; a number for which so many bits have no room; no order; a line that stands where it may not; a ninth stream; an event after 4,000.
+// The word, the number or the name is what the notes have heard of the line.
 pub enum Fault {
     Return,
     Mark,
     Word,
     Numbers(u64),
+    OneWord,
     NoNumber,
     TooLarge(u64),
+    NoOrder,
     Misplaced,
     NinthStream,
     LateEvent,
@@ -46,28 +49,49 @@ pub(crate) fn fault_of(draft: Draft, heard: Heard, numbers: u64, events: usize) 
     }
     let takes = takes(draft.word);
     if takes + 1 < draft.fields {
-        return Fault::Numbers(takes);
+        return count_fault(draft.word);
     }
-    number_fault(draft, heard.number.digits, numbers, events)
+    value_fault(draft, heard.number.digits, numbers, events)
 }
 
 // What is wrong behind a word of notes; whether the number that was heard has digits only.
-fn number_fault(draft: Draft, digits: bool, numbers: u64, events: usize) -> Fault
-    ensures { λ r. ⌜ r ≡ numberFault draft digits numbers events ⌝ }
+fn value_fault(draft: Draft, digits: bool, numbers: u64, events: usize) -> Fault
+    ensures { λ r. ⌜ r ≡ valueFault draft digits numbers events ⌝ }
 {
     let place = draft.place;
     let spoilt = is_amiss(place);
-    if spoilt & !digits {
-        return Fault::NoNumber;
-    }
     if spoilt | !fits(draft) {
-        return Fault::TooLarge(room_at(draft));
+        return field_fault(draft, digits);
     }
     let line = line_of(draft);
     if is_right(line) {
         return right_fault(numbers, events, line);
     }
-    Fault::Numbers(takes(draft.word))
+    count_fault(draft.word)
+}
+
+// More or fewer fields behind a word than it takes.
+fn count_fault(word: u64) -> Fault
+    ensures { λ r. ⌜ r ≡ countFault word ⌝ }
+{
+    if takes_name(word) {
+        return Fault::OneWord;
+    }
+    Fault::Numbers(takes(word))
+}
+
+// What is wrong with a field behind a word that is not as it should be.
+fn field_fault(draft: Draft, digits: bool) -> Fault
+    ensures { λ r. ⌜ r ≡ fieldFault draft digits ⌝ }
+{
+    if takes_name(draft.word) {
+        return Fault::NoOrder;
+    }
+    let place = draft.place;
+    if is_amiss(place) & !digits {
+        return Fault::NoNumber;
+    }
+    Fault::TooLarge(room_at(draft))
 }
 
 // What is wrong with a line that is right by itself.
@@ -77,8 +101,12 @@ fn right_fault(numbers: u64, events: usize, line: Line) -> Fault
     match line {
         Line::Stream { .. } => stream_fault(numbers, events),
         Line::Call(_) => event_fault(numbers),
-        Line::Blank | Line::Worst(_) | Line::Span(_) | Line::Padding(_) | Line::Wrong =>
-            Fault::Misplaced,
+        Line::Blank
+        | Line::Worst(_)
+        | Line::Span(_)
+        | Line::Padding(_)
+        | Line::Ordered(_)
+        | Line::Wrong => Fault::Misplaced,
     }
 }
 

@@ -15,7 +15,7 @@ pub struct Field {
     pub digits: bool,
 }
 
-// The word of a line, the first of its numbers that is wrong, or else the last, and whether the last byte stands in one of them.
+// The word of a line, the first of its numbers or names that is wrong, or else the last, and whether the last byte stands in one of them.
 pub struct Heard {
     pub word: Field,
     pub number: Field,
@@ -96,7 +96,7 @@ impl Heard {
         self
     }
 
-    // A byte more in the first field, the word, or in the number.
+    // A byte more in the first field, the word, or in the number or name behind it.
     fn within(self, first: bool, byte: u8) -> Heard
         ensures { λ r. ⌜ r ≡ heardIn self first byte ⌝ }
     {

@@ -1,4 +1,4 @@
-// Notes: a session written by hand, a line for each table number, stream and event.
+// Notes: a session written by hand, a line for each table number, the order if there is one, and a line for each stream and event.
 // They are read byte by byte into a table and a trace; and a line of them is shown.
 mod draft;
 mod fault;
@@ -11,24 +11,29 @@ pub use draft::Place;
 pub use fault::Fault;
 use fault::fault_of;
 use file::Event;
+use file::Form;
 use file::Writing;
 pub use heard::Field;
 pub use heard::Heard;
 pub use line::Line;
+pub use line::head_lines;
 pub use line::line_at;
 use line::line_of;
 pub use line::shown;
+use order::Order;
 use table::Table;
 ghost use mathlib.Core.Path.{_≡_};
 ghost use Prim.Native.Nat.{_<_};
 ghost use Rattle.table.specs.Admission.{withPadding};
-ghost use Rattle.notes.specs.Notes.{started, stopped, nextLine, advanced, withWorst, withSpan, afterNumber, afterStream, beganBy, afterEvent, after, expectedBy, lengthened, writtenBy, told, read, lineRefusal, refusedBy, traceAfter, lineEnded, byteRead, bytesRead, filedBy, ended};
+ghost use Rattle.notes.specs.Notes.{started, stopped, nextLine, advanced, withWorst, withSpan, afterNumber, takesOrder, afterOrder, afterStream, beganBy, afterEvent, after, expectedBy, lengthened, writtenBy, told, read, lineRefusal, refusedBy, traceAfter, lineEnded, byteRead, bytesRead, filedBy, ended};
 
-// What has been read of some notes: the number of the line that is being read, how many of the three table numbers there are, the table so far,
-// how many events there are and in which line the first stands, or 0, the line so far and what a message can quote of it, the number by which an event was refused its place in the trace, or 0, and whether the line is wrong. Then nothing more is read.
+// What has been read of some notes: the number of the line that is being read, how many of the three table numbers there are,
+// the form of the file, which has a third entry where there was an order, and that order, the table so far, how many events there are and in which line the first stands, or 0, the line so far and what a message can quote of it, the number by which an event was refused its place in the trace, or 0, and whether the line is wrong. Then nothing more is read.
 pub struct Notes {
     pub line: u64,
     pub numbers: u64,
+    pub form: Form,
+    pub order: Order,
     pub table: Table,
     pub events: usize,
     pub began: u64,
@@ -43,6 +48,7 @@ pub enum Expected {
     Worst,
     Span,
     Padding,
+    OrderStreamOrEvent,
     StreamOrEvent,
     Event,
     NoMore,
@@ -147,6 +153,8 @@ impl Notes {
         Notes {
             line: 1,
             numbers: 0,
+            form: Form::Two,
+            order: Order::Nearest,
             table,
             events: 0,
             began: 0,
@@ -157,7 +165,7 @@ impl Notes {
         }
     }
 
-    // The notes after a line: the table numbers in order, then streams, then events.
+    // The notes after a line: the table numbers in order, then an order, then streams, then events.
     fn after(self, line: Line) -> Notes
         ensures { λ r. ⌜ r ≡ after self line ⌝ }
     {
@@ -166,6 +174,7 @@ impl Notes {
             Line::Worst(n) => self.after_worst(n),
             Line::Span(n) => self.after_span(n),
             Line::Padding(n) => self.after_padding(n),
+            Line::Ordered(order) => self.after_order(order),
             Line::Stream { reserved, period } => self.after_stream(reserved, period),
             Line::Call(_) => self.after_event(),
             Line::Wrong => self.stopped(),
@@ -210,6 +219,41 @@ impl Notes {
     {
         if self.numbers == place {
             return self.advanced(place + 1, table, self.events, self.began);
+        }
+        self.stopped()
+    }
+
+    // Whether the next line may be that of an order.
+    fn takes_order(self) -> bool
+        ensures { λ r. ⌜ r ≡ takesOrder self ⌝ }
+    {
+        let form = self.form;
+        let third = form.third();
+        (self.numbers == Notes::TABLE_NUMBERS)
+            & (third == 0)
+            & (self.table.count == 0)
+            & (self.events == 0)
+    }
+
+    // An order, once and before any stream or event: the file has a third entry for it.
+    fn after_order(self, order: Order) -> Notes
+        ensures { λ r. ⌜ r ≡ afterOrder self order ⌝ }
+    {
+        if self.takes_order() {
+            let table = self.table;
+            return Notes {
+                line: next_line(self.line),
+                numbers: self.numbers,
+                form: Form::Three,
+                order,
+                table,
+                events: self.events,
+                began: self.began,
+                draft: Draft::blank(),
+                heard: Heard::none(),
+                refused: self.refused,
+                wrong: false,
+            };
         }
         self.stopped()
     }
@@ -264,9 +308,13 @@ impl Notes {
     fn advanced(self, numbers: u64, table: Table, events: usize, began: u64) -> Notes
         ensures { λ r. ⌜ r ≡ advanced self numbers table events began ⌝ }
     {
+        let form = self.form;
+        let order = self.order;
         Notes {
             line: next_line(self.line),
             numbers,
+            form,
+            order,
             table,
             events,
             began,
@@ -323,6 +371,9 @@ impl Notes {
         if self.numbers == 2 {
             return Expected::Padding;
         }
+        if self.takes_order() {
+            return Expected::OrderStreamOrEvent;
+        }
         if (self.events == 0) & (self.table.count < Table::STREAMS_MAX) {
             return Expected::StreamOrEvent;
         }
@@ -361,10 +412,12 @@ impl Notes {
         }
         let end = Event::SIZE * events;
         let table = self.table;
+        let form = self.form;
+        let order = self.order;
         told(
             table.count,
             self.began,
-            file::write(table, &trace[..end], out),
+            file::write(table, form, order, &trace[..end], out),
         )
     }
 }

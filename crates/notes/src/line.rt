@@ -1,22 +1,27 @@
 // The lines of notes: read from their fields, and shown.
 use crate::draft::Draft;
 use crate::draft::Place;
+use crate::draft::takes_name;
 use file::Event;
+use file::Form;
 use listing::Text;
 use listing::worded;
+use order::Order;
 use table::Table;
 ghost use mathlib.Core.Path.{_≡_};
 ghost use mathlib.Core.List.{[], _∷_};
+ghost use Prim.Native.Nat.{_≤_};
 ghost use Rattle.file.specs.declared.event.Event.the-variants.{Arrival};
 ghost use Rattle.listing.specs.Line.{wordedFields, textOf, Within};
-ghost use Rattle.notes.specs.Line.{wordLine, tableLine, numberLine, streamLine, pairLine, tripleLine, fieldsLine, lineOf, eventShown, lineShown, streamAt, afterNumbers, lineAt};
+ghost use Rattle.notes.specs.Line.{wordLine, orderLine, tableLine, numberLine, streamLine, pairLine, tripleLine, fieldsLine, lineOf, eventShown, orderShown, lineShown, streamAt, afterHead, headLines, lineAt};
 
-// A line: nothing, a number of the table, a stream, an event, or none of these.
+// A line: nothing, a number of the table, an order, a stream, an event, or none of these.
 pub enum Line {
     Blank,
     Worst(u32),
     Span(u32),
     Padding(u32),
+    Ordered(Order),
     Stream { reserved: u32, period: u32 },
     Call(Event),
     Wrong,
@@ -40,6 +45,10 @@ const OWN: u64 = 0x6f_77_6e;
 const DONE: u64 = 0x64_6f_6e_65;
 
 const CLOCK: u64 = 0x63_6c_6f_63_6b;
+
+const NEAREST: u64 = 0x6e_65_61_72_65_73_74;
+
+const SWEEP: u64 = 0x73_77_65_65_70;
 
 // The most that a number of the table or a tag may be, and the stream of an event.
 const WORD_MAX: u64 = 0xffff_ffff;
@@ -86,7 +95,7 @@ pub(crate) fn word_line(word: u64) -> Line
     Line::Wrong
 }
 
-// The line of a word and a number.
+// The line of a word and a number, or a name as it is held.
 pub(crate) fn number_line(word: u64, n: u64) -> Line
     ensures { λ r. ⌜ r ≡ numberLine word n ⌝ }
 {
@@ -96,8 +105,24 @@ pub(crate) fn number_line(word: u64, n: u64) -> Line
     if word == CLOCK {
         return Line::Call(Event::Clock { time: n });
     }
+    if takes_name(word) {
+        return order_line(n);
+    }
     if n <= WORD_MAX {
         return table_line(word, n as u32);
+    }
+    Line::Wrong
+}
+
+// The line of an order's name.
+fn order_line(name: u64) -> Line
+    ensures { λ r. ⌜ r ≡ orderLine name ⌝ }
+{
+    if name == NEAREST {
+        return Line::Ordered(Order::Nearest);
+    }
+    if name == SWEEP {
+        return Line::Ordered(Order::Sweep);
     }
     Line::Wrong
 }
@@ -180,9 +205,20 @@ pub(crate) fn triple_line(word: u64, a: u64, b: u64, c: u64) -> Line
     })
 }
 
-// The line at i of the notes of a table and a trace, counted from 0: the three numbers of the table, its streams, and the events.
-pub fn line_at(table: Table, trace: &[u8], i: usize) -> Line
-    ensures { λ r. ⌜ r ≡ lineAt table (now (trace .entry)) i ⌝ }
+// How many lines of the notes of a file stand before its streams.
+pub fn head_lines(form: Form) -> usize
+    ensures { λ r. ⌜ r ≡ headLines form ⌝ }
+    ensures { λ r. ⌜ r ≤ 4 ⌝ }
+{
+    match form {
+        Form::Two => 3,
+        Form::Three => 4,
+    }
+}
+
+// The line at i of the notes of a file, counted from 0: the three numbers of its table, its order if it has a third entry, its streams, and the events.
+pub fn line_at(form: Form, order: Order, table: Table, trace: &[u8], i: usize) -> Line
+    ensures { λ r. ⌜ r ≡ lineAt form order table (now (trace .entry)) i ⌝ }
 {
     if i == 0 {
         return Line::Worst(table.worst);
@@ -193,12 +229,16 @@ pub fn line_at(table: Table, trace: &[u8], i: usize) -> Line
     if i == 2 {
         return Line::Padding(table.padding);
     }
-    after_numbers(table, trace, i - 3)
+    let head = head_lines(form);
+    if i < head {
+        return Line::Ordered(order);
+    }
+    after_head(table, trace, i - head)
 }
 
-// The line at i of those after the numbers of a table.
-fn after_numbers(table: Table, trace: &[u8], i: usize) -> Line
-    ensures { λ r. ⌜ r ≡ afterNumbers table (now (trace .entry)) i ⌝ }
+// The line at i of those after the head.
+fn after_head(table: Table, trace: &[u8], i: usize) -> Line
+    ensures { λ r. ⌜ r ≡ afterHead table (now (trace .entry)) i ⌝ }
 {
     if i < table.count {
         return stream_at(table, i);
@@ -231,8 +271,19 @@ pub fn shown(line: Line) -> Text
         Line::Worst(n) => with_one(b"worst", n as u64),
         Line::Span(n) => with_one(b"span", n as u64),
         Line::Padding(n) => with_one(b"padding", n as u64),
+        Line::Ordered(order) => order_shown(order),
         Line::Stream { reserved, period } => with_two(b"stream", reserved as u64, period as u64),
         Line::Call(event) => event_shown(event),
+    }
+}
+
+fn order_shown(order: Order) -> Text
+    ensures { λ r. ⌜ r ≡ textOf (orderShown order) ⌝ }
+    ensures { λ r. ⌜ Within r ⌝ }
+{
+    match order {
+        Order::Nearest => bare(b"order nearest"),
+        Order::Sweep => bare(b"order sweep"),
     }
 }
 
@@ -261,7 +312,7 @@ fn arrival_shown(stream: u64, place: u64, tag: u32) -> Text
     with_three(b"arrival", stream, place, tag as u64)
 }
 
-// The line of a word alone, of a word and a number, of a word and two, and of a word and three.
+// The line of a text without numbers, of a word and a number, of a word and two, and of a word and three.
 fn bare(word: &[u8]) -> Text
     ensures { λ r. ⌜ r ≡ textOf (wordedFields (now (word .entry)) []) ⌝ }
     ensures { λ r. ⌜ Within r ⌝ }

@@ -1,5 +1,6 @@
-// How many numbers follow a word, and how large they may be: what the lines take, and what not.
+// How many numbers or names follow a word, and how large a number may be: what the lines take, and what not.
 use crate::draft::Draft;
+use crate::draft::takes_name;
 use crate::line::Line;
 use crate::line::fields_line;
 use crate::line::number_line;
@@ -24,6 +25,7 @@ pub(crate) fn is_right(line: Line) -> bool
         | Line::Worst(_)
         | Line::Span(_)
         | Line::Padding(_)
+        | Line::Ordered(_)
         | Line::Stream { .. }
         | Line::Call(_) => true,
     }
@@ -58,17 +60,17 @@ fn takes_three(word: u64, a: u64, b: u64, c: u64) -> bool
 pub(crate) fn is_known(word: u64) -> bool
     ensures { λ r. ⌜ r ≡ isKnown word ⌝ }
 {
-    stands_alone(word) | takes_one(word, 0) | takes_two(word, 0, 0)
+    takes_name(word) | stands_alone(word) | takes_one(word, 0) | takes_two(word, 0, 0)
 }
 
-// How many numbers it takes at most; of three the last may be left out.
+// How many numbers or names it takes at most; of three numbers the last may be left out.
 pub(crate) fn takes(word: u64) -> u64
     ensures { λ r. ⌜ r ≡ takes word ⌝ }
 {
     if stands_alone(word) {
         return 0;
     }
-    if takes_one(word, 0) {
+    if takes_name(word) | takes_one(word, 0) {
         return 1;
     }
     if takes_three(word, 0, 0, 0) {
@@ -77,7 +79,7 @@ pub(crate) fn takes(word: u64) -> u64
     2
 }
 
-// Whether no number of a line so far is too large.
+// Whether no number of a line so far is too large, and no name another.
 pub(crate) fn fits(draft: Draft) -> bool
     ensures { λ r. ⌜ r ≡ fits draft ⌝ }
 {

@@ -1,9 +1,11 @@
 // Reads a session file from standard input, and prints it as notes. It says on standard error what it cannot read.
+use file::Form;
 use file::Reading;
 use libc::STDERR_FILENO;
 use libc::STDIN_FILENO;
 use libc::STDOUT_FILENO;
 use listing::Text;
+use order::Order;
 use table::Table;
 ghost use Rattle.listing.specs.Line.{Within};
 
@@ -24,6 +26,8 @@ fn main() {
 fn show(file: &[u8]) {
     let reading = file::read(file);
     let Reading::LaidOut {
+        form,
+        order,
         count,
         start,
         end,
@@ -33,26 +37,23 @@ fn show(file: &[u8]) {
         tell_unread(reading);
         return;
     };
-    print_lines(file::table_of(file), &file[start..end], 3 + count + events);
+    let lines = notes::head_lines(form) + count + events;
+    print_lines(form, order, file::table_of(file), &file[start..end], lines);
 }
 
 fn tell_unread(reading: Reading) {
     match reading {
-        Reading::LaidOut {
-            count: _,
-            start: _,
-            end: _,
-            events: _,
-        } => {}
+        Reading::LaidOut { .. } => {}
         Reading::Refused(number) => print(STDERR_FILENO, listing::refused(number, 0)),
     }
 }
 
-// Prints the first lines of the notes of a table and a trace.
-fn print_lines(table: Table, trace: &[u8], lines: usize) {
+// Prints the first lines of the notes of a file.
+fn print_lines(form: Form, order: Order, table: Table, trace: &[u8], lines: usize) {
     let mut i: usize = 0;
     while i < lines {
-        print(STDOUT_FILENO, notes::shown(notes::line_at(table, trace, i)));
+        let line = notes::line_at(form, order, table, trace, i);
+        print(STDOUT_FILENO, notes::shown(line));
         i += 1;
     }
 }

@@ -12,13 +12,14 @@ use Rattle.notes.proofs.put_line.Statement.{statement}
 use Rattle.notes.proofs.put_line.Tie as tie
 
 -- a line without an event leaves the trace as it is, and nothing is refused
-kept : (trace : List ℕ) (i : ℕ) (line : Line) → OneOf (0 ∷ 1 ∷ 2 ∷ 3 ∷ 4 ∷ 6 ∷ []) (tagOf the-type line) → (0 ≡ lineRefusal trace i line) × (trace ≡ traceAfter trace i line)
+kept : (trace : List ℕ) (i : ℕ) (line : Line) → OneOf (0 ∷ 1 ∷ 2 ∷ 3 ∷ 4 ∷ 5 ∷ 7 ∷ []) (tagOf the-type line) → (0 ≡ lineRefusal trace i line) × (trace ≡ traceAfter trace i line)
 kept trace i Line.Blank is = (refl, refl)
 kept trace i (Line.Worst n) is = (refl, refl)
 kept trace i (Line.Span n) is = (refl, refl)
 kept trace i (Line.Padding n) is = (refl, refl)
+kept trace i (Line.Ordered order) is = (refl, refl)
 kept trace i (Line.Stream reserved period) is = (refl, refl)
-kept trace i (Line.Call event) is = absurd (miss (0 ∷ 1 ∷ 2 ∷ 3 ∷ 4 ∷ 6 ∷ []) 5 tt is)
+kept trace i (Line.Call event) is = absurd (miss (0 ∷ 1 ∷ 2 ∷ 3 ∷ 4 ∷ 5 ∷ 7 ∷ []) 6 tt is)
 kept trace i Line.Wrong is = (refl, refl)
 
 enum-known-line : tie.Need-enum-known-line

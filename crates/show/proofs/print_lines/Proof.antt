@@ -6,10 +6,10 @@ use Rattle.show.proofs.print_lines.Statement.{statement}
 use Rattle.show.proofs.print_lines.Tie as tie
 
 abbrev Inv-loop : tie.InvT-loop
-Inv-loop table trace lines i₀ i = i ≤ lines
+Inv-loop form order table trace lines i₀ i = i ≤ lines
 
 abbrev μ-loop : tie.MeasureT-loop
-μ-loop table trace lines i₀ i = lines - i
+μ-loop form order table trace lines i₀ i = lines - i
 
 loop-holds : tie.Need-loop-holds Inv-loop μ-loop
 loop-holds c = omega arith

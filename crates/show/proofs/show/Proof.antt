@@ -21,23 +21,29 @@ tell-unread-requires c κs = search needs
 returns : tie.Need-returns
 returns c = search needs
 
+head-lines-requires : tie.Need-head-lines-requires
+head-lines-requires c κs = search needs
+
+add-lines : tie.Need-add-lines
+add-lines c =
+    omega (arith, c .head-lines .ensures .1, accepted-is-within _ _ _ _ _ _ _ (sym (c .before .before .before .before .read .ensures) ∙ c .before .before .reading .given .1) .count-high)
+
+add-lines-2 : tie.Need-add-lines-2
+add-lines-2 c =
+    let inside = accepted-is-within _ _ _ _ _ _ _ (sym (c .before .before .before .before .read .ensures) ∙ c .before .before .reading .given .1) in
+    omega (arith, c .head-lines .ensures .1, inside .count-high, inside .events-high)
+
 table-of-requires : tie.Need-table-of-requires
 table-of-requires c κs = search needs
 
 sub-print-lines : tie.Need-sub-print-lines
-sub-print-lines c = omega (arith, accepted-is-within _ _ _ _ _ (sym (c .before .before .before .before .read .ensures) ∙ c .before .before .reading .given .1) .whole-events)
+sub-print-lines c = omega (arith, accepted-is-within _ _ _ _ _ _ _ (sym (c .before .before .before .before .before .read .ensures) ∙ c .before .before .before .reading .given .1) .whole-events)
 
 part-print-lines-start : tie.Need-part-print-lines-start
-part-print-lines-start c = omega (arith, accepted-is-within _ _ _ _ _ (sym (c .before .before .before .before .read .ensures) ∙ c .before .before .reading .given .1) .whole-events)
+part-print-lines-start c = omega (arith, accepted-is-within _ _ _ _ _ _ _ (sym (c .before .before .before .before .before .read .ensures) ∙ c .before .before .before .reading .given .1) .whole-events)
 
 part-print-lines-end : tie.Need-part-print-lines-end
-part-print-lines-end c = omega (arith, accepted-is-within _ _ _ _ _ (sym (c .before .before .before .before .read .ensures) ∙ c .before .before .reading .given .1) .in-file)
-
-add-print-lines : tie.Need-add-print-lines
-add-print-lines c = omega (arith, accepted-is-within _ _ _ _ _ (sym (c .before .before .before .before .before .read .ensures) ∙ c .before .before .before .reading .given .1) .count-high)
-
-add-print-lines-2 : tie.Need-add-print-lines-2
-add-print-lines-2 c = omega (arith, accepted-is-within _ _ _ _ _ (sym (c .before .before .before .before .before .read .ensures) ∙ c .before .before .before .reading .given .1) .count-high, accepted-is-within _ _ _ _ _ (sym (c .before .before .before .before .before .read .ensures) ∙ c .before .before .before .reading .given .1) .events-high)
+part-print-lines-end c = omega (arith, accepted-is-within _ _ _ _ _ _ _ (sym (c .before .before .before .before .before .read .ensures) ∙ c .before .before .before .reading .given .1) .in-file)
 
 print-lines-requires : tie.Need-print-lines-requires
 print-lines-requires c κs = search needs
@@ -54,11 +60,12 @@ show-spec =
     enum-told
     tell-unread-requires
     returns
+    head-lines-requires
+    add-lines
+    add-lines-2
     table-of-requires
     sub-print-lines
     part-print-lines-start
     part-print-lines-end
-    add-print-lines
-    add-print-lines-2
     print-lines-requires
     returns-2)

@@ -36,17 +36,23 @@ after-padding-requires c κs = tt
 enum-known-line-4 : tie.Need-enum-known-line-4
 enum-known-line-4 c = c .match .keys5
 
+after-order-requires : tie.Need-after-order-requires
+after-order-requires c κs = tt
+
+enum-known-line-5 : tie.Need-enum-known-line-5
+enum-known-line-5 c = c .match .keys6
+
 after-stream-requires : tie.Need-after-stream-requires
 after-stream-requires c κs = tt
 
 enum-told-2 : tie.Need-enum-told-2
-enum-told-2 c = c .match .keys6
+enum-told-2 c = c .match .keys7
 
 after-event-requires : tie.Need-after-event-requires
 after-event-requires c κs = tt
 
 enum-told-3 : tie.Need-enum-told-3
-enum-told-3 c = c .match .keys7
+enum-told-3 c = c .match .keys8
 
 stopped-requires : tie.Need-stopped-requires
 stopped-requires c κs = tt
@@ -64,13 +70,16 @@ returns-4 : tie.Need-returns-4
 returns-4 c = c .after-padding .ensures ∙ as-told (c .before .before .before .before .args .self) (c .before .before .line3 .given .1)
 
 returns-5 : tie.Need-returns-5
-returns-5 c = c .after-stream .ensures ∙ as-told (c .before .before .before .before .args .self) (c .before .before .line4 .given .1)
+returns-5 c = c .after-order .ensures ∙ as-told (c .before .before .before .before .args .self) (c .before .before .line4 .given .1)
 
 returns-6 : tie.Need-returns-6
-returns-6 c = c .after-event .ensures ∙ as-told (c .before .before .before .args .self) (c .before .enum-told2 .given .1)
+returns-6 c = c .after-stream .ensures ∙ as-told (c .before .before .before .before .args .self) (c .before .before .line5 .given .1)
 
 returns-7 : tie.Need-returns-7
-returns-7 c = c .stopped .ensures ∙ as-told (c .before .before .before .args .self) (c .before .enum-told3 .given .1)
+returns-7 c = c .after-event .ensures ∙ as-told (c .before .before .before .args .self) (c .before .enum-told2 .given .1)
+
+returns-8 : tie.Need-returns-8
+returns-8 c = c .stopped .ensures ∙ as-told (c .before .before .before .args .self) (c .before .enum-told3 .given .1)
 
 pub after-spec : {M : Type 1} → statement M
 after-spec =
@@ -85,6 +94,8 @@ after-spec =
     enum-known-line-3
     after-padding-requires
     enum-known-line-4
+    after-order-requires
+    enum-known-line-5
     after-stream-requires
     enum-told-2
     after-event-requires
@@ -96,4 +107,5 @@ after-spec =
     returns-4
     returns-5
     returns-6
-    returns-7)
+    returns-7
+    returns-8)

@@ -40,16 +40,19 @@ takes-requires c κs = tt
 add-if4 : tie.Need-add-if4
 add-if4 c = omega (arith, c .takes .ensures, takes-few (c .before .before .before .before .before .before .before .before .before .before .args .draft .word))
 
+count-fault-requires : tie.Need-count-fault-requires
+count-fault-requires c κs = tt
+
 returns-4 : tie.Need-returns-4
 unfolding faultOf if
-returns-4 c = rw (sym (c .before .before .before .before .before .before .before .before .before .before .is-stray .ensures) ∙ c .before .before .before .before .before .before .before .before .before .if1 .left, sym (c .before .before .before .before .before .before .before .before .is-marked .ensures) ∙ c .before .before .before .before .before .before .before .if2 .left, rw (c .before .before .before .before .before .before .is-known .ensures, c .before .before .before .before .before .is-amiss .ensures) at (c .before .before .before .if3 .left), lt-ltb (takes (c .before .before .before .before .before .before .before .before .before .before .before .before .args .draft .word) + 1) _ (rw (c .before .before .takes .ensures) at (c .if4 .taken)), c .before .before .takes .ensures)
+returns-4 c = rw (sym (c .before .before .before .before .before .before .before .before .before .before .before .is-stray .ensures) ∙ c .before .before .before .before .before .before .before .before .before .before .if1 .left, sym (c .before .before .before .before .before .before .before .before .before .is-marked .ensures) ∙ c .before .before .before .before .before .before .before .before .if2 .left, rw (c .before .before .before .before .before .before .before .is-known .ensures, c .before .before .before .before .before .before .is-amiss .ensures) at (c .before .before .before .before .if3 .left), lt-ltb (takes (c .before .before .before .before .before .before .before .before .before .before .before .before .before .args .draft .word) + 1) _ (rw (c .before .before .before .takes .ensures) at (c .before .if4 .taken))) (c .count-fault .ensures)
 
-number-fault-requires : tie.Need-number-fault-requires
-number-fault-requires c κs = tt
+value-fault-requires : tie.Need-value-fault-requires
+value-fault-requires c κs = tt
 
 returns-5 : tie.Need-returns-5
 unfolding faultOf if
-returns-5 c = rw (sym (c .before .before .before .before .before .before .before .before .before .before .before .is-stray .ensures) ∙ c .before .before .before .before .before .before .before .before .before .before .if1 .left, sym (c .before .before .before .before .before .before .before .before .before .is-marked .ensures) ∙ c .before .before .before .before .before .before .before .before .if2 .left, rw (c .before .before .before .before .before .before .before .is-known .ensures, c .before .before .before .before .before .before .is-amiss .ensures) at (c .before .before .before .before .if3 .left), le-ltb (takes (c .before .before .before .before .before .before .before .before .before .before .before .before .before .args .draft .word) + 1) _ (rw (c .before .before .before .takes .ensures) at (c .before .if4 .left))) (c .number-fault .ensures)
+returns-5 c = rw (sym (c .before .before .before .before .before .before .before .before .before .before .before .is-stray .ensures) ∙ c .before .before .before .before .before .before .before .before .before .before .if1 .left, sym (c .before .before .before .before .before .before .before .before .before .is-marked .ensures) ∙ c .before .before .before .before .before .before .before .before .if2 .left, rw (c .before .before .before .before .before .before .before .is-known .ensures, c .before .before .before .before .before .before .is-amiss .ensures) at (c .before .before .before .before .if3 .left), le-ltb (takes (c .before .before .before .before .before .before .before .before .before .before .before .before .before .args .draft .word) + 1) _ (rw (c .before .before .before .takes .ensures) at (c .before .if4 .left))) (c .value-fault .ensures)
 
 pub fault-of-spec : {M : Type 1} → statement M
-fault-of-spec = tie.close (tie.spec is-stray-requires returns is-marked-requires returns-2 is-known-requires is-amiss-requires returns-3 takes-requires add-if4 returns-4 number-fault-requires returns-5)
+fault-of-spec = tie.close (tie.spec is-stray-requires returns is-marked-requires returns-2 is-known-requires is-amiss-requires returns-3 takes-requires add-if4 count-fault-requires returns-4 value-fault-requires returns-5)

@@ -7,19 +7,20 @@ use types.Run.{OneOf, miss}
 use Prim.Native.Nat.{ℕ}
 use Rattle.notes.specs.declared.fault.Fault.the-variants.{Misplaced}
 use Rattle.notes.specs.declared.line.Line.{Line}
-use Rattle.notes.specs.declared.line.Line.the-variants.{Blank, Worst, Span, Padding, Stream, Call, Wrong}
+use Rattle.notes.specs.declared.line.Line.the-variants.{Blank, Worst, Span, Padding, Ordered, Stream, Call, Wrong}
 use Rattle.notes.specs.Fault.{rightFault}
 use Rattle.notes.proofs.line.Line.{the-type}
 use Rattle.notes.proofs.fault.right_fault.Statement.{statement}
 use Rattle.notes.proofs.fault.right_fault.Tie as tie
 
-other : (line : Line) (numbers events : ℕ) → OneOf (0 ∷ 1 ∷ 2 ∷ 3 ∷ 6 ∷ []) (tagOf the-type line) → Misplaced ≡ rightFault numbers events line
+other : (line : Line) (numbers events : ℕ) → OneOf (0 ∷ 1 ∷ 2 ∷ 3 ∷ 4 ∷ 7 ∷ []) (tagOf the-type line) → Misplaced ≡ rightFault numbers events line
 other Blank numbers events is = refl
 other (Worst x) numbers events is = refl
 other (Span x) numbers events is = refl
 other (Padding x) numbers events is = refl
-other (Stream reserved period) numbers events is = absurd (miss (0 ∷ 1 ∷ 2 ∷ 3 ∷ 6 ∷ []) 4 tt is)
-other (Call event) numbers events is = absurd (miss (0 ∷ 1 ∷ 2 ∷ 3 ∷ 6 ∷ []) 5 tt is)
+other (Ordered order) numbers events is = refl
+other (Stream reserved period) numbers events is = absurd (miss (0 ∷ 1 ∷ 2 ∷ 3 ∷ 4 ∷ 7 ∷ []) 5 tt is)
+other (Call event) numbers events is = absurd (miss (0 ∷ 1 ∷ 2 ∷ 3 ∷ 4 ∷ 7 ∷ []) 6 tt is)
 other Wrong numbers events is = refl
 
 enum-told : tie.Need-enum-told

@@ -3,7 +3,8 @@ use borrow.Author.Tests.{eq-eqb, ne-eqb, lt-ltb, le-ltb}
 use Prim.Native.Nat.{_^_}
 use Rattle.table.specs.Fold.{if}
 use Rattle.listing.specs.Line.{ascii}
-use Rattle.notes.specs.Line.{heldAfter, held, pairLine}
+use Rattle.notes.specs.Draft.{heldAfter, held}
+use Rattle.notes.specs.Line.{pairLine}
 use native.Mathlib.Omega.{arith}
 use Rattle.notes.proofs.line.pair_line.Statement.{statement}
 use Rattle.notes.proofs.line.pair_line.Tie as tie

@@ -15,13 +15,14 @@ as-told : {line known : Line} → line ≡ known → textOf (lineShown known) �
 as-told is = ap (λ (line : Line). textOf (lineShown line)) (sym is)
 
 -- what is blank or no line is shown as an empty one
-empty : (line : Line) → OneOf (0 ∷ 6 ∷ []) (tagOf the-type line) → textOf (wordedFields [] []) ≡ textOf (lineShown line)
+empty : (line : Line) → OneOf (0 ∷ 7 ∷ []) (tagOf the-type line) → textOf (wordedFields [] []) ≡ textOf (lineShown line)
 empty Line.Blank is = refl
-empty (Line.Worst n) is = absurd (miss (0 ∷ 6 ∷ []) 1 tt is)
-empty (Line.Span n) is = absurd (miss (0 ∷ 6 ∷ []) 2 tt is)
-empty (Line.Padding n) is = absurd (miss (0 ∷ 6 ∷ []) 3 tt is)
-empty (Line.Stream reserved period) is = absurd (miss (0 ∷ 6 ∷ []) 4 tt is)
-empty (Line.Call event) is = absurd (miss (0 ∷ 6 ∷ []) 5 tt is)
+empty (Line.Worst n) is = absurd (miss (0 ∷ 7 ∷ []) 1 tt is)
+empty (Line.Span n) is = absurd (miss (0 ∷ 7 ∷ []) 2 tt is)
+empty (Line.Padding n) is = absurd (miss (0 ∷ 7 ∷ []) 3 tt is)
+empty (Line.Ordered order) is = absurd (miss (0 ∷ 7 ∷ []) 4 tt is)
+empty (Line.Stream reserved period) is = absurd (miss (0 ∷ 7 ∷ []) 5 tt is)
+empty (Line.Call event) is = absurd (miss (0 ∷ 7 ∷ []) 6 tt is)
 empty Line.Wrong is = refl
 
 slice-aggregate-bare : tie.Need-slice-aggregate-bare
@@ -69,6 +70,12 @@ with-one-requires-3 c κs = tt
 enum-known-line-4 : tie.Need-enum-known-line-4
 enum-known-line-4 c = c .match .keys5
 
+order-shown-requires : tie.Need-order-shown-requires
+order-shown-requires c κs = tt
+
+enum-known-line-5 : tie.Need-enum-known-line-5
+enum-known-line-5 c = c .match .keys6
+
 slice-aggregate-with-two : tie.Need-slice-aggregate-with-two
 slice-aggregate-with-two c = refl
 
@@ -81,8 +88,8 @@ cast-with-two-2 c = search needs
 with-two-requires : tie.Need-with-two-requires
 with-two-requires c κs = tt
 
-enum-known-line-5 : tie.Need-enum-known-line-5
-enum-known-line-5 c = c .match .keys6
+enum-known-line-6 : tie.Need-enum-known-line-6
+enum-known-line-6 c = c .match .keys7
 
 event-shown-requires : tie.Need-event-shown-requires
 event-shown-requires c κs = tt
@@ -103,12 +110,15 @@ unfolding ascii
 returns-4 c = (c .with-one3 .ensures .0 ∙ as-told (c .before .before .before .line3 .given .1), c .with-one3 .ensures .1)
 
 returns-5 : tie.Need-returns-5
-unfolding ascii
-returns-5 c = (c .with-two .ensures .0 ∙ as-told (c .before .before .before .line4 .given .1), c .with-two .ensures .1)
+returns-5 c = (c .order-shown .ensures .0 ∙ as-told (c .before .before .line4 .given .1), c .order-shown .ensures .1)
 
 returns-6 : tie.Need-returns-6
 unfolding ascii
-returns-6 c = (c .event-shown .ensures .0 ∙ as-told (c .before .before .line5 .given .1), c .event-shown .ensures .1)
+returns-6 c = (c .with-two .ensures .0 ∙ as-told (c .before .before .before .line5 .given .1), c .with-two .ensures .1)
+
+returns-7 : tie.Need-returns-7
+unfolding ascii
+returns-7 c = (c .event-shown .ensures .0 ∙ as-told (c .before .before .line6 .given .1), c .event-shown .ensures .1)
 
 pub shown-spec : {M : Type 1} → statement M
 shown-spec =
@@ -129,15 +139,18 @@ shown-spec =
     cast-with-one-3
     with-one-requires-3
     enum-known-line-4
+    order-shown-requires
+    enum-known-line-5
     slice-aggregate-with-two
     cast-with-two
     cast-with-two-2
     with-two-requires
-    enum-known-line-5
+    enum-known-line-6
     event-shown-requires
     returns
     returns-2
     returns-3
     returns-4
     returns-5
-    returns-6)
+    returns-6
+    returns-7)

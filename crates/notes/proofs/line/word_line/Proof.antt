@@ -2,7 +2,8 @@
 use borrow.Author.Tests.{eq-eqb, ne-eqb}
 use Rattle.table.specs.Fold.{if}
 use Rattle.listing.specs.Line.{ascii}
-use Rattle.notes.specs.Line.{heldAfter, held, wordLine}
+use Rattle.notes.specs.Draft.{heldAfter, held}
+use Rattle.notes.specs.Line.{wordLine}
 use Rattle.notes.proofs.line.word_line.Statement.{statement}
 use Rattle.notes.proofs.line.word_line.Tie as tie
 

@@ -12,12 +12,12 @@ returns : tie.Need-returns
 unfolding inField if
 returns c = rw (eq-eqb _ 1 (c .before .if1 .taken)) (c .lettered .ensures)
 
-numbered-requires : tie.Need-numbered-requires
-numbered-requires c κs = tt
+valued-requires : tie.Need-valued-requires
+valued-requires c κs = tt
 
 returns-2 : tie.Need-returns-2
 unfolding inField if
-returns-2 c = rw (ne-eqb _ 1 (c .before .if1 .left)) (c .numbered .ensures)
+returns-2 c = rw (ne-eqb _ 1 (c .before .if1 .left)) (c .valued .ensures)
 
 pub in-field-spec : {M : Type 1} → statement M
-in-field-spec = tie.close (tie.spec lettered-requires returns numbered-requires returns-2)
+in-field-spec = tie.close (tie.spec lettered-requires returns valued-requires returns-2)

@@ -1,34 +1,27 @@
--- `lettered` takes a letter, up to eight.
-use borrow.Author.Tests.{ltb-true}
+-- `lettered` takes a letter of the word that there is room for.
+use mathlib.Core.Path.{sym, _∙_}
 use Rattle.table.specs.Fold.{if}
-use lib.Dec.{ltb}
-use Prim.Native.Nat.{_^_}
-use Rattle.table.proofs.Tests.{both}
 use Rattle.notes.specs.Draft.{lettered}
-use native.Mathlib.Omega.{arith}
 use Rattle.notes.proofs.draft.Draft.lettered.Statement.{statement}
 use Rattle.notes.proofs.draft.Draft.lettered.Tie as tie
 
-is-letter-requires : tie.Need-is-letter-requires
-is-letter-requires c κs = tt
+lengthens-requires : tie.Need-lengthens-requires
+lengthens-requires c κs = tt
 
-mul-t7 : tie.Need-mul-t7
-mul-t7 c = omega (arith, ltb-true (c .before .before .before .before .args .self .word) (256 ^ 7) (both (c .before .before .before .is-letter .result) (ltb (c .before .before .before .before .args .self .word) (256 ^ 7)) (c .before .if1 .taken) .1))
-
-add-t9 : tie.Need-add-t9
-add-t9 c = omega (arith, ltb-true (c .before .before .before .before .args .self .word) (256 ^ 7) (both (c .before .before .before .is-letter .result) (ltb (c .before .before .before .before .args .self .word) (256 ^ 7)) (c .before .if1 .taken) .1))
+longer-requires : tie.Need-longer-requires
+longer-requires c κs = sym (c .before .lengthens .ensures) ∙ c .if1 .taken
 
 returns : tie.Need-returns
 unfolding lettered if
-returns c = rw (rw (c .before .before .before .is-letter .ensures) at (c .before .if1 .taken))
+returns c = rw (sym (c .before .before .lengthens .ensures) ∙ c .before .if1 .taken, c .longer .ensures)
 
 amiss-requires : tie.Need-amiss-requires
 amiss-requires c κs = tt
 
 returns-2 : tie.Need-returns-2
 unfolding lettered if
-returns-2 c = rw (rw (c .before .before .before .is-letter .ensures) at (c .before .if1 .left)) (c .amiss .ensures)
+returns-2 c = rw (sym (c .before .before .lengthens .ensures) ∙ c .before .if1 .left) (c .amiss .ensures)
 
 pub lettered-spec : {M : Type 1} → statement M
 lettered-spec =
-    tie.close (tie.spec is-letter-requires mul-t7 add-t9 returns amiss-requires returns-2)
+    tie.close (tie.spec lengthens-requires longer-requires returns amiss-requires returns-2)

@@ -25,7 +25,7 @@ static void table_stream(size_t i, uint32_t reserved, uint32_t period)
 /* Opening hands the session over by value. */
 static struct yerbagunt_opening opened(void)
 {
-    return yerbagunt_open(worst, span, padding, order, records, count);
+    return yerbagunt_open(worst, span, padding, (struct yerbagunt_reservations){records, count}, order);
 }
 
 static void prepare(image *session)

@@ -16,7 +16,7 @@ static const uint8_t trace[32] = {1, 1, 255, 255, 255, 255, 0, 0, 100, 0, 0, 0, 
 
 static struct yerbagunt_written written(const uint8_t *from, size_t length, uint8_t *out, size_t room)
 {
-    return yerbagunt_write(table, YERBAGUNT_SWEEP, YERBAGUNT_ORDER_SIZE, (struct yerbagunt_bytes){from, length}, (struct yerbagunt_buffer){out, room});
+    return yerbagunt_write(table, (struct yerbagunt_bytes){from, length}, (struct yerbagunt_buffer){out, room}, YERBAGUNT_SWEEP, YERBAGUNT_ORDER_SIZE);
 }
 
 /* At every other horizon the second stream is owed half a microsecond beside whole ones. */
@@ -24,7 +24,7 @@ static const struct yerbagunt_reservation records[2] = {{25000, 250000}, {175001
 
 static struct yerbagunt_session opened(uint64_t order)
 {
-    struct yerbagunt_opening o = yerbagunt_open(25000, 1000000, 1, order, records, 2);
+    struct yerbagunt_opening o = yerbagunt_open(25000, 1000000, 1, (struct yerbagunt_reservations){records, 2}, order);
     hold(o.number == YERBAGUNT_OK && o.session.order == order, "the table is admitted, in either order", order);
     return o.session;
 }
@@ -89,9 +89,9 @@ static void nothing_lent(void)
     uint8_t *const pointers[] = {NULL, (uint8_t *)4, (uint8_t *)-1, other};
     for (size_t i = 0; i < sizeof pointers / sizeof pointers[0]; i++) {
         uint8_t *p = pointers[i];
-        struct yerbagunt_opening o = yerbagunt_open(25000, 1000000, 1, YERBAGUNT_SWEEP, (const void *)p, 0);
+        struct yerbagunt_opening o = yerbagunt_open(25000, 1000000, 1, (struct yerbagunt_reservations){(const void *)p, 0}, YERBAGUNT_SWEEP);
         hold(memcmp(&o, &none, sizeof o) == 0, "a table of no records is refused", i);
-        hold(yerbagunt_open(25000, 1000000, 1, 2, (const void *)p, 0).number == YERBAGUNT_UNSOUND, "another order is refused first", i);
+        hold(yerbagunt_open(25000, 1000000, 1, (struct yerbagunt_reservations){(const void *)p, 0}, 2).number == YERBAGUNT_UNSOUND, "another order is refused first", i);
         hold(yerbagunt_read((struct yerbagunt_bytes){p, 0}).number == YERBAGUNT_LAYOUT, "no bytes are no file", i);
         struct yerbagunt_table t = yerbagunt_table((struct yerbagunt_bytes){p, 0});
         hold(t.worst == 0 && t.span == 0 && t.padding == 0 && t.count == 0 && memcmp(t.reserved, empty.reserved, 64) == 0, "the table of no bytes is all zero", i);
@@ -130,7 +130,7 @@ static void alignment(void)
     static _Alignas(64) struct yerbagunt_session usual;
     memcpy(four.records, records, sizeof records);
     usual = opened(YERBAGUNT_NEAREST);
-    eight.session = yerbagunt_open(25000, 1000000, 1, YERBAGUNT_NEAREST, four.records, 2).session;
+    eight.session = yerbagunt_open(25000, 1000000, 1, (struct yerbagunt_reservations){four.records, 2}, YERBAGUNT_NEAREST).session;
     hold(memcmp(&eight.session, &usual, sizeof usual) == 0, "records at a multiple of 4 are taken", 0);
     hold(worked(&eight.session, 1) == worked(&usual, 1), "a session at a multiple of 8 is called", 0);
 

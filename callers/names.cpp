@@ -8,7 +8,7 @@ static void calls()
 {
     const yerbagunt_reservation records[2] = {{25000, 250000}, {175000, 500000}};
     yerbagunt_order order = YERBAGUNT_SWEEP;
-    yerbagunt_opening opening = yerbagunt_open(25000, 1000000, 1, order, records, 2);
+    yerbagunt_opening opening = yerbagunt_open(25000, 1000000, 1, yerbagunt_reservations{records, 2}, order);
     hold(opening.number == YERBAGUNT_OK, "the table is admitted", 0);
     session = opening.session;
     hold(session.order == order, "the session has the order", 0);
@@ -50,7 +50,7 @@ static void files()
     static uint8_t file[74];
     yerbagunt_table table = {25000, 1000000, 1, 2, {25000, 175000}, {250000, 500000}};
     yerbagunt_buffer buffer = {file, sizeof file};
-    yerbagunt_written written = yerbagunt_write(table, YERBAGUNT_SWEEP, YERBAGUNT_ORDER_SIZE, yerbagunt_bytes{nullptr, 0}, buffer);
+    yerbagunt_written written = yerbagunt_write(table, yerbagunt_bytes{nullptr, 0}, buffer, YERBAGUNT_SWEEP, YERBAGUNT_ORDER_SIZE);
     hold(written.number == YERBAGUNT_OK && written.length == 74, "a file is written", 0);
     yerbagunt_bytes bytes = {file, sizeof file};
     yerbagunt_file parts = yerbagunt_read(bytes);
@@ -59,7 +59,7 @@ static void files()
     hold(as_in_c.span == 1000000 && as_in_c.period[1] == 500000, "its table is read", 0);
     yerbagunt_number number = YERBAGUNT_ROOM;
     buffer.length = 73;
-    hold(yerbagunt_write(table, parts.order, parts.third, yerbagunt_bytes{nullptr, 0}, buffer).number == number, "a number has a type", 0);
+    hold(yerbagunt_write(table, yerbagunt_bytes{nullptr, 0}, buffer, parts.order, parts.third).number == number, "a number has a type", 0);
 }
 
 int main()

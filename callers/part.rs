@@ -4,7 +4,7 @@ mod yerbagunt;
 use yerbagunt::{ORDER_SIZE, Order, Refusal, Reservation, Session, Table, read, write};
 
 fn opened(order: Order, reserved: u32) -> Result<Session, Refusal> {
-    Session::open(25000, 1000000, 1, order, &[Reservation { reserved, period: 1000000 }])
+    Session::open(25000, 1000000, 1, &[Reservation { reserved, period: 1000000 }], order)
 }
 
 /// The place that is sent from 500, where 510 and 495 are queued.
@@ -23,14 +23,14 @@ fn there_and_back(order: Order, third: u64) -> Result<(Order, u64, bool), u64> {
     let empty = Table { worst: 25000, span: 1000000, padding: 1, count: 0, reserved: [0; 8], period: [0; 8] };
     let turn = [2, 0, 0, 0, 0, 0, 0, 0, 0, 0, 0, 0, 0, 0, 0, 0];
     let (mut out, mut again) = ([0; 80], [0; 80]);
-    let length = write(empty, order, third, &turn, &mut out)?;
+    let length = write(empty, &turn, &mut out, order, third)?;
     let (file, table) = read(&out[..length as usize])?;
-    write(table, file.order, file.third, &out[file.start as usize..file.end as usize], &mut again)?;
+    write(table, &out[file.start as usize..file.end as usize], &mut again, file.order, file.third)?;
     Ok((file.order, file.third, out == again))
 }
 
 fn main() {
-    let none = Session::open(25000, 1000000, 1, Order::Nearest, &[]).err();
+    let none = Session::open(25000, 1000000, 1, &[], Order::Nearest).err();
     let over = opened(Order::Sweep, 950001).err();
     println!("refused {none:?} and {over:?}");
 

@@ -299,7 +299,7 @@ static int moves(struct yerbagunt_session s) { return yerbagunt_turn(&s).number 
 static struct yerbagunt_session opened(uint64_t order)
 {
     static const struct yerbagunt_reservation table[2] = {{25000, 250000}, {175000, 500000}};
-    struct yerbagunt_opening o = yerbagunt_open(25000, 1000000, 1, order, table, 2);
+    struct yerbagunt_opening o = yerbagunt_open(25000, 1000000, 1, (struct yerbagunt_reservations){table, 2}, order);
     hold(o.number == YERBAGUNT_OK && o.session.margin == 300000 && o.session.order == order, "the table is admitted in either order, and leaves 300,000 of its span", order);
     return o.session;
 }
@@ -398,7 +398,7 @@ static void open_one(const struct booked *b, uint64_t order, unsigned long at)
     struct yerbagunt_reservation records[9];
     for (size_t i = 0; i < 9; i++)
         records[i] = i == 0 ? b->first : b->others;
-    struct yerbagunt_opening o = yerbagunt_open(b->worst, b->span, b->padding, order, records, b->length);
+    struct yerbagunt_opening o = yerbagunt_open(b->worst, b->span, b->padding, (struct yerbagunt_reservations){records, b->length}, order);
     hold(o.number == (order < 2 ? b->number : YERBAGUNT_UNSOUND), "opening answers by number, and to another order by 31 whatever the table", at);
     hold(o.margin == (order < 2 ? b->margin : 0), "opening tells the margin, and 0 with 31 and 1 to 6", at);
     if (o.number == YERBAGUNT_OK) {
@@ -452,7 +452,7 @@ static uint8_t out[70000], before[sizeof out];
 
 static struct yerbagunt_written written(struct yerbagunt_table t, uint64_t order, uint64_t third, size_t length, size_t room)
 {
-    return yerbagunt_write(t, order, third, (struct yerbagunt_bytes){trace, length}, (struct yerbagunt_buffer){out, room});
+    return yerbagunt_write(t, (struct yerbagunt_bytes){trace, length}, (struct yerbagunt_buffer){out, room}, order, third);
 }
 
 static void not_written(struct yerbagunt_table t, uint64_t order, uint64_t third, size_t length, size_t room, uint64_t number, const char *what, unsigned long at)
@@ -545,7 +545,7 @@ static void there_and_back(const struct form *f)
     not_read((struct yerbagunt_bytes){out, f->length + 1}, "a byte after the file is refused", 0);
     other_contents(f);
     memcpy(kept, before, sizeof kept);
-    w = yerbagunt_write(t, p.order, p.third, (struct yerbagunt_bytes){out + p.start, p.end - p.start}, (struct yerbagunt_buffer){kept, sizeof kept});
+    w = yerbagunt_write(t, (struct yerbagunt_bytes){out + p.start, p.end - p.start}, (struct yerbagunt_buffer){kept, sizeof kept}, p.order, p.third);
     hold(w.number == YERBAGUNT_OK && memcmp(kept, out, sizeof kept) == 0, "a file that was read is written again byte for byte", f->third);
     memcpy(out, before, sizeof out);
 }

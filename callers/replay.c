@@ -80,7 +80,7 @@ int main(int count, char **words)
     struct yerbagunt_reservation records[YERBAGUNT_STREAMS_MAX];
     for (size_t i = 0; i < table.count; i++)
         records[i] = (struct yerbagunt_reservation){table.reserved[i], table.period[i]};
-    struct yerbagunt_opening opening = yerbagunt_open(table.worst, table.span, table.padding, parts.order, records, table.count);
+    struct yerbagunt_opening opening = yerbagunt_open(table.worst, table.span, table.padding, (struct yerbagunt_reservations){records, table.count}, parts.order);
     if (opening.number == YERBAGUNT_LOAD) {
         printf("refused %llu %lld\n", (unsigned long long)opening.number, -(long long)opening.margin);
         return 0;

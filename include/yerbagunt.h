@@ -152,6 +152,11 @@ struct yerbagunt_reservation {
 };
 
 /* Slices that are lent for the time of a call. */
+struct yerbagunt_reservations {
+    const struct yerbagunt_reservation *records;
+    size_t length;
+};
+
 struct yerbagunt_bytes {
     const uint8_t *bytes;
     size_t length;
@@ -231,13 +236,11 @@ struct yerbagunt_written {
     uint64_t number, length;
 };
 
-/* Opens a session with W, H, k, an order and the records of a table, of any length: 31 where the order is neither YERBAGUNT_NEAREST nor
+/* Opens a session with W, H, k, the records of a table, of any length, and an order: 31 where the order is neither YERBAGUNT_NEAREST nor
  * YERBAGUNT_SWEEP, whatever the table is; 1 to 7.
  * A stream's granted budget g is e and k times W, where a k of 0 stands for 3. The load is the sum of g * (H / p)
- * over the streams, plus W * (H / smallest p), and the margin is H less the load. Both are exact.
- * The records are handed over by a pointer and a length, and not by a struct of both: C would pass that in another way than the library takes it. */
-struct yerbagunt_opening yerbagunt_open(uint32_t worst, uint32_t span, uint32_t padding, uint64_t order,
-                                        const struct yerbagunt_reservation *records, size_t length);
+ * over the streams, plus W * (H / smallest p), and the margin is H less the load. Both are exact. */
+struct yerbagunt_opening yerbagunt_open(uint32_t worst, uint32_t span, uint32_t padding, struct yerbagunt_reservations table, uint64_t order);
 
 /* Puts a request for a place at the end of a stream's queue: 31, 8, 9; 20. The tag is your own number for it, any of 32 bits, and comes back
  * when the request is sent and when it is done. What is sent, and when, does not depend on it, and two requests may have the same. */
@@ -295,12 +298,12 @@ struct yerbagunt_file yerbagunt_read(struct yerbagunt_bytes file);
 /* The table of a file that was read. */
 struct yerbagunt_table yerbagunt_table(struct yerbagunt_bytes file);
 
-/* Writes the file of a table, an order and a trace at the start of a buffer, with a third body of so many bytes: 16, 17. Bytes after the file
+/* Writes the file of a table, a trace and an order at the start of a buffer, with a third body of so many bytes: 16, 17. Bytes after the file
  * stay as they were. With a third of 0 the file has two entries, which older programs read too, and no place for an order but nearest; with
  * YERBAGUNT_ORDER_SIZE it has three, and says its order. Any other order or third is 16. To write a file again byte for byte, hand in the order
  * and the third that reading it answered. */
-struct yerbagunt_written yerbagunt_write(struct yerbagunt_table table, uint64_t order, uint64_t third, struct yerbagunt_bytes trace,
-                                         struct yerbagunt_buffer out);
+struct yerbagunt_written yerbagunt_write(struct yerbagunt_table table, struct yerbagunt_bytes trace, struct yerbagunt_buffer out, uint64_t order,
+                                         uint64_t third);
 
 #ifdef __cplusplus
 }

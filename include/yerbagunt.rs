@@ -227,27 +227,26 @@ struct Written {
     length: u64,
 }
 
-// Bytes as they cross: their pointer and their length.
+// A slice as it crosses: its pointer and its length.
 #[repr(C)]
-struct Lent {
-    start: *const u8,
+struct Lent<T> {
+    start: *const T,
     length: usize,
 }
 
 #[repr(C)]
-struct LentMut {
-    start: *mut u8,
+struct LentMut<T> {
+    start: *mut T,
     length: usize,
 }
 
-fn lent(bytes: &[u8]) -> Lent {
-    Lent { start: bytes.as_ptr(), length: bytes.len() }
+fn lent<T>(slice: &[T]) -> Lent<T> {
+    Lent { start: slice.as_ptr(), length: slice.len() }
 }
 
 #[link(name = "shelf", kind = "static")]
 unsafe extern "C" {
-    // The library takes the records by a pointer and a length; a struct of both would be passed otherwise here.
-    fn yerbagunt_open(worst: u32, span: u32, padding: u32, order: Order, records: *const Reservation, length: usize) -> Opening;
+    fn yerbagunt_open(worst: u32, span: u32, padding: u32, table: Lent<Reservation>, order: Order) -> Opening;
     fn yerbagunt_arrival(session: &mut Session, stream: u64, place: u64, tag: u32) -> Reply;
     fn yerbagunt_turn(session: &mut Session) -> Reply;
     fn yerbagunt_own_turn(session: &mut Session, stream: u64, index: u64) -> Reply;
@@ -257,17 +256,17 @@ unsafe extern "C" {
     fn yerbagunt_latest(horizon: u64, remainders: i64, span: u64) -> Moment;
     fn yerbagunt_stream(session: Session, stream: u64) -> State;
     fn yerbagunt_last_job(session: Session, stream: u64) -> Closing;
-    fn yerbagunt_read(file: Lent) -> File;
-    fn yerbagunt_table(file: Lent) -> Table;
-    fn yerbagunt_write(table: Table, order: Order, third: u64, trace: Lent, out: LentMut) -> Written;
+    fn yerbagunt_read(file: Lent<u8>) -> File;
+    fn yerbagunt_table(file: Lent<u8>) -> Table;
+    fn yerbagunt_write(table: Table, trace: Lent<u8>, out: LentMut<u8>, order: Order, third: u64) -> Written;
 }
 
 // Each call is safe. What `yerbagunt.h` asks of a caller holds of Rust's references: they are valid and aligned, what one may change overlaps
 // with no other, and one thread at a time has it.
 impl Session {
-    /// Opens a session with W, H, k, where 0 stands for 3, an order and a table of any length; or says by which number it is refused, and how far.
-    pub fn open(worst: u32, span: u32, padding: u32, order: Order, table: &[Reservation]) -> Result<Session, Refusal> {
-        let opening = unsafe { yerbagunt_open(worst, span, padding, order, table.as_ptr(), table.len()) };
+    /// Opens a session with W, H, k, where 0 stands for 3, a table of any length and an order; or says by which number it is refused, and how far.
+    pub fn open(worst: u32, span: u32, padding: u32, table: &[Reservation], order: Order) -> Result<Session, Refusal> {
+        let opening = unsafe { yerbagunt_open(worst, span, padding, lent(table), order) };
         if opening.number == number::OK { Ok(opening.session) } else { Err(Refusal { number: opening.number, margin: opening.margin }) }
     }
 
@@ -332,11 +331,11 @@ pub fn read(file: &[u8]) -> Result<(File, Table), u64> {
     Ok((parts, unsafe { yerbagunt_table(lent(file)) }))
 }
 
-/// Writes the file of a table, an order and a trace at the start of a buffer: how long it is, or 16 or 17. With a `third` of 0 the file has two
+/// Writes the file of a table, a trace and an order at the start of a buffer: how long it is, or 16 or 17. With a `third` of 0 the file has two
 /// entries, and no place for an order but nearest; with `ORDER_SIZE` it has three, and says its order; any other is 16. With the order and the
 /// `third` of a `File` it is written again byte for byte.
-pub fn write(table: Table, order: Order, third: u64, trace: &[u8], out: &mut [u8]) -> Result<u64, u64> {
+pub fn write(table: Table, trace: &[u8], out: &mut [u8], order: Order, third: u64) -> Result<u64, u64> {
     let out = LentMut { start: out.as_mut_ptr(), length: out.len() };
-    let written = unsafe { yerbagunt_write(table, order, third, lent(trace), out) };
+    let written = unsafe { yerbagunt_write(table, lent(trace), out, order, third) };
     if written.number == number::OK { Ok(written.length) } else { Err(written.number) }
 }

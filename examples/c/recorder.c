@@ -33,7 +33,7 @@ static uint64_t copy(void)
 int main(void)
 {
     const struct yerbagunt_reservation channels[2] = {{25000, 250000}, {175000, 500000}};
-    struct yerbagunt_opening opening = yerbagunt_open(WORST, 1000000, 1, YERBAGUNT_NEAREST, channels, 2);
+    struct yerbagunt_opening opening = yerbagunt_open(WORST, 1000000, 1, (struct yerbagunt_reservations){channels, 2}, YERBAGUNT_NEAREST);
     if (opening.number != YERBAGUNT_OK) { /* with 7 the load is -margin above the span; else margin is 0 */
         printf("refused %llu, margin %lld\n", (unsigned long long)opening.number, (long long)opening.margin);
         return 1;

@@ -30,7 +30,7 @@ fn main() {
         Reservation { reserved: 25000, period: 250000 },
         Reservation { reserved: 175000, period: 500000 },
     ];
-    let mut session = match Session::open(WORST, 1000000, 1, Order::Nearest, &channels) {
+    let mut session = match Session::open(WORST, 1000000, 1, &channels, Order::Nearest) {
         Ok(session) => session,
         // With 7 the load is −margin above the span; else the margin is 0.
         Err(refusal) => return println!("refused {}, margin {}", refusal.number, refusal.margin),

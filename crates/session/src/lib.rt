@@ -29,13 +29,13 @@ use time::Charge;
 use time::Clock;
 use time::Remainders;
 
-// The first `count` of the eight streams are used. The margin is that of the table; the horizon is the smallest deadline, and the sum of all remainders is scaled by the span. `served` is the stream whose request is at the disk, counted from 1, with its place and its tag, or zeros; the tag stands with the other numbers of 32 bits, so that no byte is left between cells.
+// The first `count` of the eight streams are used. The margin is that of the table; the horizon is the smallest deadline, and the sum of all remainders is scaled by the span. `served` is the stream whose request is at the disk, counted from 1, with its place and its tag, or zeros; the tag stands with the other numbers of 32 bits, and the order before them, where a call over a lent session takes the least stack.
 pub struct Session {
+    pub order: Order,
     pub worst: u32,
     pub span: u32,
     pub padding: u32,
     pub tag: u32,
-    pub order: Order,
     pub count: usize,
     pub margin: Margin,
     pub horizon: Clock,

@@ -7,7 +7,7 @@
 #include "hold.h"
 #include "yerbagunt.h"
 
-#define STACK 20480 /* what the header says that a call takes */
+#define STACK 16384 /* what the header says that a call takes */
 
 static const struct yerbagunt_table table = {25000, 1000000, 1, 2, {25000, 175000}, {250000, 500000}};
 static const uint8_t trace[32] = {1, 1, 255, 255, 255, 255, 0, 0, 100, 0, 0, 0, 0, 0, 0, 0, 2};

@@ -12,7 +12,7 @@
  * - Alignment. A session and the records of a table stand where C puts them, at a multiple of 8 bytes and of 4. Bytes stand anywhere.
  * - One thread at a time. Until a call returns, no other thread uses its session or its buffer, nor writes what else it was lent.
  *   Different sessions are used by different threads as you like: the library keeps nothing from one call to the next.
- * - Stack. A call takes up to 20 KB of it. It takes no other memory.
+ * - Stack. A call takes up to 16 KB of it. It takes no other memory.
  *
  * A session is a struct like any other: it may be moved and copied, and a copy goes on from where it was taken. */
 #ifndef YERBAGUNT_H
@@ -292,7 +292,7 @@ struct yerbagunt_state yerbagunt_stream(struct yerbagunt_session session, uint64
 /* The last job that a stream closed: 31, 8. */
 struct yerbagunt_closing yerbagunt_last_job(struct yerbagunt_session session, uint64_t stream);
 
-/* Reads a session file: 16. Every event is judged, and no number of the table but its count; opening judges those. */
+/* Reads a session file: 16. The order and every event are judged, and no number of the table but its count; opening judges those. */
 struct yerbagunt_file yerbagunt_read(struct yerbagunt_bytes file);
 
 /* The table of a file that was read. */

@@ -183,13 +183,17 @@ static void lengthen_trace(struct chance *c, uint8_t *file, size_t *size, size_t
 
 static void damage_length(struct chance *c, uint8_t *file, size_t *size, size_t room)
 {
+    /* about the ends of the contents and of the table's numbers: at two entries 26 and 42, at three 38, 54 and, with the order, 58 */
     static const size_t sizes[] = {0, 1, 2, 25, 26, 41, 37, 38, 53, 57};
+    size_t cut;
+
     switch (below(c, 7)) {
     case 0:
         *size = below(c, *size);
         break;
     case 1:
-        *size = ONE_OF(c, sizes);
+        cut = ONE_OF(c, sizes);
+        *size = cut < *size ? cut : *size;
         break;
     case 2:
         // Whole events cut off, with the old length still in the contents.

@@ -47,7 +47,7 @@ pub enum Writing {
     Refused(u64),
 }
 
-// Reads any bytes. The order and every event is judged, and no number of the table but its count.
+// Reads any bytes. The order and every event are judged, and no number of the table but its count.
 pub fn read(file: &[u8]) -> Reading
     ensures { λ r. ⌜ r ≡ readOf (now (file .entry)) ⌝ }
 {

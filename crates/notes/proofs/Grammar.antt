@@ -3,13 +3,13 @@ use mathlib.Core.Bool.{Bool, true, false, _&&_, _||_, false≢true}
 use mathlib.Core.Path.{_≡_, refl, sym, ap, _∙_}
 use mathlib.Core.List.{List, [], _∷_, _++_, map, append-assoc, append-nil}
 use mathlib.Core.Logic.{_⊎_, inl, inr}
-use Prim.Native.Nat.{ℕ, suc, _+_, _-_, _*_, _^_, _≤_, _<_}
+use Prim.Native.Nat.{ℕ, suc, _+_, _-_, _^_, _≤_, _<_}
 use native.Mathlib.Omega.{arith}
 use native.Mathlib.Numerals.{add-one}
-use lib.Dec.{leb, ltb, eqb}
-use borrow.Author.Tests.{eqb-true, ne-eqb, ltb-true, lt-ltb, ltb-false, le-ltb, leb-true}
+use lib.Dec.{ltb, eqb}
+use borrow.Author.Tests.{eqb-true, ne-eqb, lt-ltb, ltb-false, le-ltb}
 use Rattle.table.specs.Fold.{if}
-use Rattle.table.proofs.Tests.{both, same-test, by-if}
+use Rattle.table.proofs.Tests.{both, by-if}
 use Rattle.listing.specs.Line.{space}
 use Rattle.listing.specs.Laws.{speltAfter}
 use Rattle.listing.proofs.Decimal.{spelt-append, spelt-grows}

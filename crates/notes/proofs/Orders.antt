@@ -1,6 +1,6 @@
 -- The form and the order of notes are those of the line of an order, where there is one.
 use mathlib.Core.Bool.{Bool, true, false, false≢true}
-use mathlib.Core.Path.{_≡_, refl, sym, _∙_}
+use mathlib.Core.Path.{_≡_, refl, sym}
 use Rattle.table.specs.Fold.{if}
 use Rattle.order.specs.declared.Order.{Order}
 use Rattle.file.specs.declared.form.Form.the-variants.{Three}

@@ -74,7 +74,7 @@ TagMayBeLeftOut =
     (stream place : List ℕ)
     → lineOfWords (ascii "arrival" ∷ stream ∷ place ∷ ascii "0" ∷ []) ≡ lineOfWords (ascii "arrival" ∷ stream ∷ place ∷ [])
 
--- A file has a third entry, with the order of its line, exactly where its notes have the line of an order: any other leaves form and order as they are, from two entries and nearest on.
+-- The line of an order gives the notes a third entry of their file, with its order; any other leaves form and order as they are, which are two entries and nearest at first.
 abbrev pub OrderIsOfItsLine : Type 0
 OrderIsOfItsLine =
     ((n : Notes) (o : Order) → after n (Ordered o) .wrong ≡ false → (after n (Ordered o) .form ≡ Three) × (after n (Ordered o) .order ≡ o))

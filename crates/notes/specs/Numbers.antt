@@ -31,7 +31,7 @@ takes word =
     (if (isRight (tripleLine word 0 0 0)) 3
     2))
 
--- whether no number of a line so far is too large, and no name another: it is a line, or one with a 0 behind its first number
+-- whether no number of a line so far is too large, and no name is that of no order: it is a line, or one with a 0 behind its first number
 unfoldable pub fits : Draft → Bool
 fits d =
     ltb (d .fields) 2

@@ -14,7 +14,7 @@ use crate::numbers::takes;
 ghost use mathlib.Core.Path.{_≡_};
 ghost use Rattle.notes.specs.Fault.{isStray, isAmiss, streamFault, eventFault, rightFault, countFault, fieldFault, valueFault, faultOf};
 
-// A carriage return within the line; a byte order mark; no word of notes; more or fewer numbers than the word takes, or names than the one that it takes;
+// A carriage return within the line; a byte order mark; no word of notes; more or fewer numbers than the word takes, or another number of names than one;
 // no number; a number for which so many bits have no room; no order; a line that stands where it may not; a ninth stream; an event after 4,000.
 // The word, the number or the name is what the notes have heard of the line.
 pub enum Fault {

@@ -79,7 +79,7 @@ pub(crate) fn takes(word: u64) -> u64
     2
 }
 
-// Whether no number of a line so far is too large, and no name another.
+// Whether no number of a line so far is too large, and no name is that of no order.
 pub(crate) fn fits(draft: Draft) -> bool
     ensures { λ r. ⌜ r ≡ fits draft ⌝ }
 {

@@ -1,5 +1,4 @@
 -- An order as a parameter in a walk by hand.
-use mathlib.Core.List.{[], _∷_}
 use denote.Memory.{lone}
 use denote.Enum.Declared.{row as enum-row}
 use denote.Enum.Laws as EL

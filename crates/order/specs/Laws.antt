@@ -12,7 +12,7 @@ NumbersAreOrders =
     ((o : Order) → (isOrder (orderNumber o) ≡ true) × (orderOf (orderNumber o) ≡ o))
     × ((n : ℕ) → isOrder n ≡ true → orderNumber (orderOf n) ≡ n)
 
--- Of two places at most one goes before the other; and where a does not go before b, nor b before c, a does not go before c. So of any places there is one before which none goes.
+-- Of two places at most one goes before the other; and where a does not go before b, nor b before c, a does not go before c.
 abbrev pub PlacesAreOrdered : Type 0
 PlacesAreOrdered =
     (o : Order) (head a b : ℕ)

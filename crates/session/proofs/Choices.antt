@@ -3,11 +3,9 @@ use mathlib.Core.Bool.{true, false, false≢true}
 use mathlib.Core.Path.{_≡_, refl, sym, _∙_, subst}
 use mathlib.Core.Logic.{⊎-elim}
 use Prim.Native.Nat.{ℕ, _≤_, _<_}
-use native.Mathlib.Nat.{le-trans}
 use native.Mathlib.Omega.{arith}
-use lib.ListN.{getD}
 use lib.Dec.{ltb}
-use borrow.Author.Tests.{ltb-true, ltb-false, le-ltb, eq-eqb}
+use borrow.Author.Tests.{ltb-true, ltb-false, lt-ltb, le-ltb, eq-eqb}
 use Rattle.table.proofs.Tests.{neither, le-or-lt}
 use Rattle.table.proofs.Folds.{some-positive}
 use Rattle.order.specs.Order.{distance, goesBefore}
@@ -20,7 +18,7 @@ use Rattle.session.specs.Choice.{deadlineAt, takenBefore, leadingAt, lea
 use Rattle.session.specs.Laws.{ChosenGoesFirst, SentGoesFirst, NearestIsSent, SweepIsSent, ExpiringGoesFirst}
 use Rattle.session.specs.declared.Session.{Session}
 use Rattle.session.proofs.Sound.{Sound, sound-of, bounded}
-use Rattle.stream.proofs.Leading.{leading-is-first}
+use Rattle.stream.proofs.Leading.{leading-in, leading-is-first}
 use Rattle.stream.proofs.Ranks.{Ranks, number-ranks, number-ties, place-ranks, fraction-ranks, fraction-ties, then-ranks}
 use Rattle.stream.proofs.First.{goes-first}
 
@@ -59,8 +57,9 @@ sent-goes-first s i j some l set =
     let behind = not-before s i (chosen s) (led .0) in
     let onward : (a b c : ℕ) → takenBefore s a b ≡ false → takenBefore s b c ≡ false → takenBefore s a c ≡ false = λ a b c. places-are-ordered (s .order) (s .head) a b .1 c in
     record {
+      of-the-set = lt-ltb _ _ (leading-in (takenBefore s) (streamAt s (chosen s) .places) (filledAt s (chosen s)) (chosen-goes-first s some .1));
       earliest = behind .0;
-      foremost = λ same. onward (placeAt s i j) (leadingPlace s i) (leadingPlace s (chosen s)) (own .1) (behind .1 same);
+      first-place = λ same. onward (placeAt s i j) (leadingPlace s i) (leadingPlace s (chosen s)) (own .1) (behind .1 same);
       lower = λ same tie. ⊎-elim
           (λ (u : chosen s ≤ i). u)
           (λ (u : i < chosen s).
@@ -85,7 +84,7 @@ nearest-is-sent s i j by some l set same =
     let other = placeAt s i j in
     let tied : distance (s .head) other ≡ distance (s .head) taken → takenBefore s taken other ≡ false = λ e. subst (λ (o : Order). goesBefore o (s .head) taken other ≡ false) (sym by) (le-ltb (distance (s .head) taken) (distance (s .head) other) (omega (arith, e))) in
     record {
-      nearest = nearest-taken (s .head) taken other (subst (λ (o : Order). goesBefore o (s .head) other taken ≡ false) by (first .foremost same));
+      nearest = nearest-taken (s .head) taken other (subst (λ (o : Order). goesBefore o (s .head) other taken ≡ false) by (first .first-place same));
       tie = λ e. (first .lower same (tied e), λ here. first .earlier here (tied e));
     }
 
@@ -96,7 +95,7 @@ sweep-is-sent s i j by some l set same =
     let other = placeAt s i j in
     let tied : other ≡ taken → takenBefore s taken other ≡ false = λ e. subst (λ (p : ℕ). takenBefore s taken p ≡ false) (sym e) (alike (s .order) (s .head) taken) in
     record {
-      swept = sweep-taken (s .head) taken other (subst (λ (o : Order). goesBefore o (s .head) other taken ≡ false) by (first .foremost same));
+      swept = sweep-taken (s .head) taken other (subst (λ (o : Order). goesBefore o (s .head) other taken ≡ false) by (first .first-place same));
       tie = λ e. (first .lower same (tied e), λ here. first .earlier here (tied e));
     }
 

@@ -10,7 +10,7 @@ use borrow.Author.Tests.{eq-eqb, ne-eqb}
 use Rattle.table.specs.Fold.{if}
 use Rattle.table.specs.declared.Table.{Table}
 use Rattle.table.proofs.Lists.{set-alike}
-use Rattle.stream.specs.Stream.{filled, arrived, charged, lapsed, closed, moved, freshStream}
+use Rattle.stream.specs.Stream.{filled, charged, lapsed, closed, moved, freshStream}
 use Rattle.stream.specs.declared.Stream.{Stream}
 use Rattle.time.specs.declared.Clock.{Clock}
 use Rattle.session.specs.Session.{noStream, streamAt, horizon}

@@ -59,8 +59,8 @@ module _ (t : Table) (order : Order) (admitted : admissionOf t ≡ 0) where
   held-at i l = opened-at i (omega (arith, judged .numbers .count-high)) ∙ rw (lt-ltb i (t .count) l)
 
   -- and are in order
-  order-at : (h i : ℕ) → i < t .count → InOrder (t .worst) (t .padding) h (streamAt (openedSession t order) i)
-  order-at h i l =
+  in-order-at : (h i : ℕ) → i < t .count → InOrder (t .worst) (t .padding) h (streamAt (openedSession t order) i)
+  in-order-at h i l =
       rw (held-at i l) (fresh-order (t .worst) (t .padding) h (reservedAt t i) (periodAt t i) (omega (arith, judged .each i l .period-high)))
 
   -- the table of the session is the one that was admitted, as far as it is used
@@ -95,7 +95,7 @@ module _ (t : Table) (order : Order) (admitted : admissionOf t ≡ 0) where
   unfolding soundDisk if
   opened-fit =
       record {
-        used = record { admitted = fresh-admitted; margin-is = fresh-margin; each = order-at (horizon (openedSession t order)) };
+        used = record { admitted = fresh-admitted; margin-is = fresh-margin; each = in-order-at (horizon (openedSession t order)) };
         eight = length-listTo (openedStream t) streams-max;
         others = fresh-others;
         clock-high = omega arith;
@@ -257,9 +257,21 @@ order-stays s (expire i) = refl
 order-stays s (finish i a) = refl
 order-stays s (set-clock t) = refl
 
-pub order-is-kept : OrderIsKept
+call-keeps-order : (s : Session) (k : Call) → answerTo s k .session .order ≡ s .order
 unfolding answerTo
-order-is-kept s k = order-stays s (verdict s k)
+call-keeps-order s k = order-stays s (verdict s k)
+
+order-after : (s : Session) (ks : List Call) → after s ks .order ≡ s .order
+unfolding after
+order-after s [] = refl
+order-after s (k ∷ ks) = order-after (answerTo s k .session) ks ∙ call-keeps-order s k
+
+opened-order : (t : Table) (order : Order) → admissionOf t ≡ 0 → openingOf t order .session .order ≡ order
+unfolding openingOf freshSession if
+opened-order t order admitted = rw (eq-eqb (admissionOf t) 0 admitted)
+
+pub order-is-kept : OrderIsKept
+order-is-kept = (λ t order calls admitted. order-after (openingOf t order .session) calls ∙ opened-order t order admitted, call-keeps-order)
 
 pub margin-is-kept : MarginIsKept
 margin-is-kept = (

@@ -5,6 +5,7 @@ use mathlib.Core.List.{List, _∷_, _++_, map}
 use mathlib.Core.Logic.{_↔_}
 use Prim.Native.Nat.{ℕ, _+_, _-_, _*_, _≤_, _<_}
 use Rattle.table.specs.Fold.{sumTo}
+use Rattle.table.specs.Admission.{admissionOf}
 use Rattle.table.specs.Whole.{aboveZero, belowZero}
 use Rattle.table.specs.Margin.{marginOf}
 use Rattle.table.specs.declared.Table.{Table}
@@ -15,11 +16,12 @@ use Rattle.stream.specs.Laws.{CarriedOn, GoesFirst}
 use Rattle.session.specs.Session.{streamAt, placeAt, horizon, slotsAt, filledAt, inSet, someFilled, noSlot, scaledPart, latest, asked, tableOf, sound}
 use Rattle.order.specs.Order.{distance}
 use Rattle.order.specs.Laws.{SweptTo}
+use Rattle.order.specs.declared.Order.{Order}
 use Rattle.order.specs.declared.Order.the-variants.{Nearest, Sweep}
 use Rattle.session.specs.Choice.{deadlineAt, takenBefore, leadingAt, leadingPlace, sentBefore, chosen, expiresBefore, expiring}
 use Rattle.calls.specs.Replies.{numberOf}
 use Rattle.session.specs.Calls.{answerTo, after, Line, linesFrom}
-use Rattle.session.specs.Opening.{zeroSession, NewlyOpened}
+use Rattle.session.specs.Opening.{zeroSession, openingOf, NewlyOpened}
 use Rattle.session.specs.Cases.{Case, markedCases, otherCases}
 use Rattle.session.specs.History.{Moment, historyOf, withinBounds, replied, never, addedOf, budgetOf}
 use Rattle.session.specs.Promise.{EachClosed}
@@ -165,10 +167,11 @@ HorizonBetween =
 abbrev pub ChosenGoesFirst : Type 0
 ChosenGoesFirst = (s : Session) → someFilled s ≡ true → GoesFirst (filledAt s) (sentBefore s) (s .count) (chosen s)
 
--- A turn's send, beside request j of stream i: it has no later deadline; of those with its deadline no place is taken before its own; and of those alike in that, none is of a lower stream, nor arrived earlier in its own.
+-- A turn's send, beside request j of stream i: it is a request of the set, and has no later deadline; of those with its deadline no place is taken before its own; and of those alike in that, none is of a lower stream, nor arrived earlier in its own.
 pub record First (s : Session) (i j : ℕ) : Type 0 where
+  pub of-the-set : inSet s (chosen s) (leadingAt s (chosen s)) ≡ true
   pub earliest : deadlineAt s (chosen s) ≤ deadlineAt s i
-  pub foremost : deadlineAt s i ≡ deadlineAt s (chosen s) → takenBefore s (placeAt s i j) (leadingPlace s (chosen s)) ≡ false
+  pub first-place : deadlineAt s i ≡ deadlineAt s (chosen s) → takenBefore s (placeAt s i j) (leadingPlace s (chosen s)) ≡ false
   pub lower : deadlineAt s i ≡ deadlineAt s (chosen s) → takenBefore s (leadingPlace s (chosen s)) (placeAt s i j) ≡ false → chosen s ≤ i
   pub earlier : i ≡ chosen s → takenBefore s (leadingPlace s (chosen s)) (placeAt s i j) ≡ false → leadingAt s (chosen s) ≤ j
 
@@ -196,9 +199,11 @@ SweepIsSent =
     (s : Session) (i j : ℕ) → s .order ≡ Sweep → someFilled s ≡ true → i < s .count → inSet s i j ≡ true
     → deadlineAt s i ≡ deadlineAt s (chosen s) → SentSwept s i j
 
--- Document 02, Req 08: "Which order a session uses is one choice held in it." No call changes it.
+-- Document 02, Req 08: "Which order a session uses is one choice held in it." It is the one with which the session was opened, whatever calls are made, and no call changes it, not even of a session that is not sound.
 abbrev pub OrderIsKept : Type 0
-OrderIsKept = (s : Session) (k : Call) → answerTo s k .session .order ≡ s .order
+OrderIsKept =
+    ((t : Table) (order : Order) (calls : List Call) → admissionOf t ≡ 0 → after (openingOf t order .session) calls .order ≡ order)
+    × ((s : Session) (k : Call) → answerTo s k .session .order ≡ s .order)
 
 -- The stream that loses a slot is the first of those with a slot: by r + c × p / g, exactly, then by deadline, then by number.
 abbrev pub ExpiringGoesFirst : Type 0

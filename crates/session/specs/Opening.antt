@@ -30,11 +30,11 @@ openedStream t i =
 abbrev pub openedSession : Table → Order → Session
 openedSession t order =
     record {
+      order = order;
       worst = t .worst;
       span = t .span;
       padding = t .padding;
       tag = 0;
-      order = order;
       count = t .count;
       margin = margin (marginOf t);
       horizon = moment 0;
@@ -54,11 +54,11 @@ freshSession t order = lookingAhead (openedSession t order)
 unfoldable pub zeroSession : Session
 zeroSession =
     record {
+      order = Nearest;
       worst = 0;
       span = 0;
       padding = 0;
       tag = 0;
-      order = Nearest;
       count = 0;
       margin = margin (pos 0);
       horizon = moment 0;

@@ -137,11 +137,11 @@ sound s =
 abbrev pub withStreams : Session → List Stream → Session
 withStreams s streams =
     record {
+      order = s .order;
       worst = s .worst;
       span = s .span;
       padding = s .padding;
       tag = s .tag;
-      order = s .order;
       count = s .count;
       margin = s .margin;
       horizon = s .horizon;
@@ -160,11 +160,11 @@ withStream s i x = withStreams s (set (s .streams) i x)
 abbrev pub withDisk : Session → Clock → ℕ → ℕ → ℕ → ℕ → Session
 withDisk s clock head served place tag =
     record {
+      order = s .order;
       worst = s .worst;
       span = s .span;
       padding = s .padding;
       tag = tag;
-      order = s .order;
       count = s .count;
       margin = s .margin;
       horizon = s .horizon;
@@ -180,11 +180,11 @@ withDisk s clock head served place tag =
 abbrev pub withAhead : Session → Clock → Remainders → Session
 withAhead s horizon remainders =
     record {
+      order = s .order;
       worst = s .worst;
       span = s .span;
       padding = s .padding;
       tag = s .tag;
-      order = s .order;
       count = s .count;
       margin = s .margin;
       horizon = horizon;

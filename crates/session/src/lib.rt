@@ -29,7 +29,7 @@ use time::Charge;
 use time::Clock;
 use time::Remainders;
 
-// The first `count` of the eight streams are used. The margin is that of the table; the horizon is the smallest deadline, and the sum of all remainders is scaled by the span. `served` is the stream whose request is at the disk, counted from 1, with its place and its tag, or zeros; the tag stands with the other numbers of 32 bits, and the order before them, where a call over a lent session takes the least stack.
+// The first `count` of the eight streams are used. The margin is that of the table; the horizon is the smallest deadline, and the sum of all remainders is scaled by the span. `served` is the stream whose request is at the disk, counted from 1, with its place and its tag, or zeros; the tag stands with the other numbers of 32 bits, so that no byte is left between them.
 pub struct Session {
     pub order: Order,
     pub worst: u32,
@@ -91,11 +91,11 @@ impl Session {
         let margin = Margin::none();
         let nothing = Remainders::none();
         Session {
+            order: Order::Nearest,
             worst: 0,
             span: 0,
             padding: 0,
             tag: 0,
-            order: Order::Nearest,
             count: 0,
             margin: margin,
             horizon: start,
@@ -118,11 +118,11 @@ fn fresh(t: Table, margin: Margin, order: Order) -> Session
     let start = Clock::at(0);
     let nothing = Remainders::none();
     let mut session = Session {
+        order: order,
         worst: t.worst,
         span: t.span,
         padding: t.padding,
         tag: 0,
-        order: order,
         count: t.count,
         margin: margin,
         horizon: start,

@@ -4,13 +4,14 @@ use mathlib.Core.Bool.{true, false≢true}
 use Prim.Native.Nat.{ℕ, suc}
 use native.Mathlib.Omega.{arith}
 use Rattle.table.specs.Fold.{if}
+use Rattle.table.specs.Refusal.{given, _or-next_}
 use Rattle.table.proofs.Tests.{by-if}
 use Rattle.order.specs.Order.{isOrder}
 use Rattle.order.proofs.Orders.{numbers-are-orders}
 use Rattle.session.specs.Session.{asked, sound}
 use Rattle.session.specs.Opening.{zeroSession}
 use Rattle.session.proofs.Openings.{opening-is-sound, ask-is-latest}
-use Rattle.view.specs.View.{viewOf}
+use Rattle.view.specs.View.{viewOf, stateRefusal, stateOf, closingOf}
 use Rattle.view.specs.declared.View.{View}
 use Rattle.session.specs.Calls.{refusal, ruled, verdict, apply, answerTo}
 use Rattle.session.specs.declared.Session.{Session}
@@ -56,8 +57,9 @@ asked-as-shown i =
     (λ other. shown-is i zeroSession (λ ok. absurd (false≢true (sym (opening-is-sound .1) ∙ ok))))
 
 pub other-orders-are-refused : OtherOrdersAreRefused
-unfolding openedAs answeredAs shownOf viewOf toldAs if
+unfolding openedAs answeredAs shownOf viewOf stateOf closingOf stateRefusal given _or-next_ toldAs if
 other-orders-are-refused = (
   λ t order none. rw none,
-  λ i k none. (rw none, rw none, rw (none, opening-is-sound .1)),
+  λ i k none. (rw none, rw none),
+  λ i n none. (rw (none, opening-is-sound .1), rw (none, opening-is-sound .1), rw (none, opening-is-sound .1)),
 )

@@ -43,10 +43,11 @@ imageOf s =
       streams = s .streams;
     }
 
--- the session that the other numbers make
+-- the session that the numbers make; where the order has another number than 0 or 1, with nearest
 unfoldable pub sessionOf : Image → Session
 sessionOf i =
     record {
+      order = orderOf (i .order);
       worst = i .worst;
       span = i .span;
       padding = i .padding;
@@ -59,7 +60,6 @@ sessionOf i =
       served = i .served;
       place = i .place;
       tag = i .tag;
-      order = orderOf (i .order);
       streams = i .streams;
     }
 

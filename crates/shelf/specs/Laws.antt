@@ -7,7 +7,7 @@ use Rattle.order.specs.Order.{isOrder}
 use Rattle.session.specs.Calls.{refusal}
 use Rattle.session.specs.declared.Session.{Session}
 use Rattle.calls.specs.declared.Call.{Call}
-use Rattle.shelf.specs.Image.{imageOf, sessionOf, unopened, openedAs, answeredAs, viewedAs, latestAs}
+use Rattle.shelf.specs.Image.{imageOf, sessionOf, unopened, openedAs, answeredAs, viewedAs, stateAs, closingAs, latestAs}
 use Rattle.shelf.specs.declared.images.Image.{Image}
 
 -- An image is its session and back again, so that nothing is lost on the way.
@@ -29,4 +29,5 @@ RefusalChangesNothing = (i : Image) (k : Call) (n : ℕ) → refusal (sessionOf 
 abbrev pub OtherOrdersAreRefused : Type 0
 OtherOrdersAreRefused =
     ((t : Table) (order : ℕ) → isOrder order ≡ false → openedAs t order ≡ unopened)
-    × ((i : Image) (k : Call) → isOrder (i .order) ≡ false → (answeredAs i k .reply .number ≡ 31) × (answeredAs i k .session ≡ i) × (viewedAs i .number ≡ 31))
+    × ((i : Image) (k : Call) → isOrder (i .order) ≡ false → (answeredAs i k .reply .number ≡ 31) × (answeredAs i k .session ≡ i))
+    × ((i : Image) (n : ℕ) → isOrder (i .order) ≡ false → (viewedAs i .number ≡ 31) × (stateAs i n .number ≡ 31) × (closingAs i n .number ≡ 31))

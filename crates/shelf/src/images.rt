@@ -116,6 +116,7 @@ impl Image {
         let clock = self.clock;
         let streams = self.streams;
         Session {
+            order: order,
             worst: self.worst,
             span: self.span,
             padding: self.padding,
@@ -128,7 +129,6 @@ impl Image {
             served: self.served,
             place: self.place,
             tag: self.tag,
-            order: order,
             streams: streams,
         }
     }

@@ -128,7 +128,7 @@ pub extern "C" fn yerbagunt_last_job(session: Image, stream: u64) -> Closing
     closing(session, stream)
 }
 
-// Where the parts of a session file are. Every event is judged, and no number of the table but its count.
+// Where the parts of a session file are. The order and every event are judged, and no number of the table but its count.
 #[no_mangle]
 pub extern "C" fn yerbagunt_read(file: &[u8]) -> Filed
     ensures { λ r. ⌜ r ≡ readAs (readOf (now (file .entry))) ⌝ }

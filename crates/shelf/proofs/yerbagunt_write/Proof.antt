@@ -1,11 +1,9 @@
 -- `yerbagunt_write` judges the two numbers; then it says as numbers what writing says, and leaves the buffer as writing does.
-use mathlib.Core.Bool.{true, false, _&&_}
-use mathlib.Core.Path.{_≡_, refl, sym, ap, ap₂, _∙_}
+use mathlib.Core.Bool.{_&&_}
+use mathlib.Core.Path.{refl, sym, ap, ap₂, _∙_}
 use borrow.Author.Needs.{needs}
 use borrow.Author.Tests.{not-true, not-false}
 use Rattle.table.specs.Fold.{if}
-use Rattle.order.specs.Order.{isOrder}
-use Rattle.file.specs.File.{isThirdLength}
 use Rattle.shelf.specs.Filed.{writtenAs, wroteAs, wroteOn}
 use Rattle.shelf.proofs.yerbagunt_write.Statement.{statement}
 use Rattle.shelf.proofs.yerbagunt_write.Tie as tie

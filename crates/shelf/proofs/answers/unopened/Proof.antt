@@ -1,5 +1,4 @@
 -- `unopened` gives 31 and the all-zero session.
-use Rattle.shelf.specs.Image.{imageOf}
 use Rattle.shelf.proofs.answers.unopened.Statement.{statement}
 use Rattle.shelf.proofs.answers.unopened.Tie as tie
 

@@ -35,13 +35,18 @@ def padding_meant(k):
     return k or PADDING_DEFAULT
 
 
+def table_start(entries):
+    """Where the first body starts: after the last entry."""
+    return 2 + 12 * entries
+
+
 def session_file(worst, span, padding, streams, events, order=None):
     """The bytes of a table, whose streams are pairs of e and p, and a trace; and, if it is given, of an order, which takes a third entry."""
     table = struct.pack("<IIII", worst, span, padding, len(streams))
     table += b"".join(struct.pack("<II", reserved, period) for reserved, period in streams)
     trace = b"".join(struct.pack(EVENT, *event) for event in events)
     bodies = [table, trace] + ([] if order is None else [struct.pack("<I", order)])
-    contents, at = struct.pack("<H", len(bodies)), 2 + 12 * len(bodies)
+    contents, at = struct.pack("<H", len(bodies)), table_start(len(bodies))
     for kind, body in enumerate(bodies, 1):
         contents += struct.pack("<III", kind, at, len(body))
         at += len(body)
@@ -51,7 +56,7 @@ def session_file(worst, span, padding, streams, events, order=None):
 def bounds(data):
     """Where the table of a file starts and where its trace ends, by its first two bytes alone."""
     told = data[:2] == struct.pack("<H", ENTRIES_TOLD)
-    return (38, len(data) - ORDER_BYTES) if told else (26, len(data))
+    return (table_start(ENTRIES_TOLD), len(data) - ORDER_BYTES) if told else (table_start(2), len(data))
 
 
 def order_told(data):

@@ -224,59 +224,51 @@ ask-is-latest = (
   λ t s calls new. asked-is _ (sound-of _ (sound-after s calls (opened-sound t s new))),
 )
 
--- a verdict leaves the margin as it is, and so does every call
-margin-stays : (s : Session) (v : Verdict) → apply s v .margin ≡ s .margin
+-- a verdict leaves margin and order as they are, and so does every call
+record Stays (s z : Session) : Type 0 where
+  pub margin-stays : z .margin ≡ s .margin
+  pub order-stays : z .order ≡ s .order
+
+alike : {s : Session} → Stays s s
+alike = record { margin-stays = refl; order-stays = refl }
+
+verdict-leaves : (s : Session) (v : Verdict) → Stays s (apply s v)
 unfolding apply
-margin-stays s (refuse n) = refl
-margin-stays s (append i place tag) = refl
-margin-stays s (send i j) = refl
-margin-stays s move = refl
-margin-stays s wait = refl
-margin-stays s (expire i) = refl
-margin-stays s (finish i a) = refl
-margin-stays s (set-clock t) = refl
+verdict-leaves s (refuse n) = alike
+verdict-leaves s (append i place tag) = record { margin-stays = refl; order-stays = refl }
+verdict-leaves s (send i j) = record { margin-stays = refl; order-stays = refl }
+verdict-leaves s move = record { margin-stays = refl; order-stays = refl }
+verdict-leaves s wait = alike
+verdict-leaves s (expire i) = record { margin-stays = refl; order-stays = refl }
+verdict-leaves s (finish i a) = record { margin-stays = refl; order-stays = refl }
+verdict-leaves s (set-clock t) = record { margin-stays = refl; order-stays = refl }
 
-call-keeps-margin : (s : Session) (k : Call) → answerTo s k .session .margin ≡ s .margin
+call-leaves : (s : Session) (k : Call) → Stays s (answerTo s k .session)
 unfolding answerTo
-call-keeps-margin s k = margin-stays s (verdict s k)
+call-leaves s k = verdict-leaves s (verdict s k)
 
-margin-after : (s : Session) (ks : List Call) → after s ks .margin ≡ s .margin
+calls-leave : (s : Session) (ks : List Call) → Stays s (after s ks)
 unfolding after
-margin-after s [] = refl
-margin-after s (k ∷ ks) = margin-after (answerTo s k .session) ks ∙ call-keeps-margin s k
-
--- and the order
-order-stays : (s : Session) (v : Verdict) → apply s v .order ≡ s .order
-unfolding apply
-order-stays s (refuse n) = refl
-order-stays s (append i place tag) = refl
-order-stays s (send i j) = refl
-order-stays s move = refl
-order-stays s wait = refl
-order-stays s (expire i) = refl
-order-stays s (finish i a) = refl
-order-stays s (set-clock t) = refl
-
-call-keeps-order : (s : Session) (k : Call) → answerTo s k .session .order ≡ s .order
-unfolding answerTo
-call-keeps-order s k = order-stays s (verdict s k)
-
-order-after : (s : Session) (ks : List Call) → after s ks .order ≡ s .order
-unfolding after
-order-after s [] = refl
-order-after s (k ∷ ks) = order-after (answerTo s k .session) ks ∙ call-keeps-order s k
+calls-leave s [] = alike
+calls-leave s (k ∷ ks) =
+    let first = call-leaves s k in
+    let rest = calls-leave (answerTo s k .session) ks in
+    record { margin-stays = rest .margin-stays ∙ first .margin-stays; order-stays = rest .order-stays ∙ first .order-stays }
 
 opened-order : (t : Table) (order : Order) → admissionOf t ≡ 0 → openingOf t order .session .order ≡ order
 unfolding openingOf freshSession if
 opened-order t order admitted = rw (eq-eqb (admissionOf t) 0 admitted)
 
 pub order-is-kept : OrderIsKept
-order-is-kept = (λ t order calls admitted. order-after (openingOf t order .session) calls ∙ opened-order t order admitted, call-keeps-order)
+order-is-kept = (
+  λ t order calls admitted. calls-leave (openingOf t order .session) calls .order-stays ∙ opened-order t order admitted,
+  λ s k. call-leaves s k .order-stays,
+)
 
 pub margin-is-kept : MarginIsKept
 margin-is-kept = (
-  λ t s calls new. ap (λ (m : Margin). m .0) (margin-after s calls) ∙ begun t s new .margin-is,
-  call-keeps-margin,
+  λ t s calls new. ap (λ (m : Margin). m .0) (calls-leave s calls .margin-stays) ∙ begun t s new .margin-is,
+  λ s k. call-leaves s k .margin-stays,
   λ s t. sound-of s t .fit .used .margin-is,
 )
 

@@ -5,7 +5,7 @@ use Prim.Native.Nat.{ℕ, _+_, _≤_, _<_}
 use Prim.Native.Char.{code}
 use native.Mathlib.Omega.{arith}
 use lib.ListN.{length}
-use Rattle.listing.specs.Line.{ascii, space, newline, zero-digit, decimal, onward, rendered, wordedFields, headerFields, refusedWord, tallyHeaderFields, totalFields}
+use Rattle.listing.specs.Line.{ascii, space, newline, zero-digit, decimal, onward, rendered, wordedFields, headerFields, refusedWord, tallyHeaderFields, totalFields, acceptedFields}
 use Rattle.listing.specs.Laws.{Each, Digit, Field, PrintsFields, LinesTell, FieldsTell, NumbersTell, NewlineEnds, KindsDiffer}
 use Rattle.listing.proofs.Each.{each-append, each-weaker}
 use Rattle.listing.proofs.Decimal.{decimal-is-digits, decimal-some, decimal-tells}
@@ -153,12 +153,16 @@ total-fields : Each Field totalFields
 unfolding Each ascii wordedFields
 total-fields = (omega arith, tt)
 
+accepted-fields : Each Field acceptedFields
+unfolding Each ascii wordedFields
+accepted-fields = (omega arith, tt)
+
 refused-fields : (numbers : List ℕ) → Each Field (refusedWord ∷ map decimal numbers)
 unfolding Each ascii
 refused-fields numbers = ((omega arith, omega arith), decimal-fields numbers)
 
 pub prints-fields : PrintsFields
-prints-fields = (header-fields, tally-header-fields, total-fields, λ numbers. (decimal-fields numbers, refused-fields numbers))
+prints-fields = (header-fields, tally-header-fields, total-fields, accepted-fields, λ numbers. (decimal-fields numbers, refused-fields numbers))
 
 -- a letter begins no number
 letter-no-number : (letter n : ℕ) (rest : List ℕ) → zero-digit + 9 < letter → letter ∷ rest ≡ decimal n → ⊥

@@ -3,7 +3,7 @@ use mathlib.Core.Path.{_≡_}
 use mathlib.Core.List.{List, [], _∷_, _++_, map}
 use Prim.Native.Nat.{ℕ, _+_, _-_, _*_, _^_, _≤_, _<_}
 use lib.ListN.{length, take}
-use Rattle.listing.specs.Line.{ascii, space, newline, zero-digit, decimal, rendered, headerFields, refusedWord, tallyHeaderFields, totalFields, text-size, textOf}
+use Rattle.listing.specs.Line.{ascii, space, newline, zero-digit, decimal, rendered, headerFields, refusedWord, tallyHeaderFields, totalFields, acceptedFields, text-size, textOf}
 use Rattle.listing.specs.Cases.{Case, cases}
 
 -- each element of a list has what P says
@@ -12,7 +12,7 @@ module _ {A : Type 0} (P : A → Type 0) where
   Each [] = Unit
   Each (x ∷ rest) = P x × Each rest
 
--- Each printed line of document 01, and each kind of line of a tally, comes out byte for byte.
+-- Each printed line of document 01, and each kind of line of a tally and on a listing, comes out byte for byte.
 abbrev pub CasesHold : Type 0
 CasesHold = map (λ (k : Case). rendered (k .fields)) cases ≡ map (λ (k : Case). ascii (k .document)) cases
 
@@ -48,12 +48,13 @@ OneDecimal =
 abbrev pub Field : List ℕ → Type 0
 Field field = (1 ≤ length field) × Each (λ byte. space < byte) field
 
--- What the programs print consists of fields: the headers, `total`, numbers as in the line of an event, and a refusal.
+-- What the programs print consists of fields: the headers, `total`, `accepted`, numbers as in the line of an event, and a refusal.
 abbrev pub PrintsFields : Type 0
 PrintsFields =
     Each Field headerFields
     × Each Field tallyHeaderFields
     × Each Field totalFields
+    × Each Field acceptedFields
     × ((numbers : List ℕ) → Each Field (map decimal numbers) × Each Field (refusedWord ∷ map decimal numbers))
 
 -- A line tells its fields, however many: equal lines have equal fields, whatever lines come after them.

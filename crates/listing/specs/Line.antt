@@ -1,4 +1,4 @@
--- What the program prints, as bytes: "a header, then a line per event, fields parted by one space, numbers in decimal, each line ended by a newline", or one line that says `refused N`, or `refused 7 N`; and the lines of a tally.
+-- What the programs print, as bytes: "a header, then a line per event, fields parted by one space, numbers in decimal, each line ended by a newline", or one line that says `refused N`, or `refused 7 N`; the lines of a tally; and what is said of a listing.
 use mathlib.Core.List.{List, [], _∷_, _++_, map}
 use mathlib.Core.Path.{_≡_}
 use Prim.Native.Nat.{ℕ, zero, suc, _+_, _-_, _/_, _%_, _≤_}
@@ -77,6 +77,13 @@ tallyFields stream jobs late expired time largest =
 -- the line before the totals over all files
 abbrev pub totalFields : List (List ℕ)
 totalFields = wordedFields (ascii "total") []
+
+-- Of another dispatcher's listing (document 02's Req 09) "It prints `accepted`, or the number of the first line that does not follow".
+abbrev pub acceptedFields : List (List ℕ)
+acceptedFields = wordedFields (ascii "accepted") []
+
+abbrev pub placeFields : ℕ → List (List ℕ)
+placeFields number = map decimal (number ∷ [])
 
 -- a line as the code hands it over: at the start of a fixed number of bytes, zeros after it
 abbrev pub text-size : ℕ

@@ -4,7 +4,7 @@ ghost use mathlib.Core.List.{_∷_, map};
 ghost use Prim.Native.Nat.{_+_, _≤_, min};
 ghost use lib.ListN.{length};
 ghost use lib.Seq.{sets};
-ghost use Rattle.listing.specs.Line.{decimal, onward, headerFields, eventFields, wordedFields, refusedFields, tallyHeaderFields, tallyFields, totalFields, text-size, textHolding, textOf, Within};
+ghost use Rattle.listing.specs.Line.{decimal, onward, headerFields, eventFields, wordedFields, refusedFields, tallyHeaderFields, tallyFields, totalFields, acceptedFields, placeFields, text-size, textHolding, textOf, Within};
 
 // A printed line: the first `len` bytes. Those after them are 0.
 pub struct Text {
@@ -78,6 +78,24 @@ pub fn total() -> Text
 {
     let none = [0u64; 0];
     worded(b"total", &none)
+}
+
+// The line that says that a listing follows.
+pub fn accepted() -> Text
+    ensures { λ r. ⌜ r ≡ textOf acceptedFields ⌝ }
+    ensures { λ r. ⌜ Within r ⌝ }
+{
+    let none = [0u64; 0];
+    worded(b"accepted", &none)
+}
+
+// The line that says which line of a listing does not follow.
+pub fn place(number: u64) -> Text
+    ensures { λ r. ⌜ r ≡ textOf (placeFields number) ⌝ }
+    ensures { λ r. ⌜ Within r ⌝ }
+{
+    let none = [0u64; 0];
+    numbered(number, &none)
 }
 
 // The line of a word and numbers behind it; of a word or numbers too long for a text, the first ones.

@@ -1,24 +1,41 @@
 -- What may stand for a turn that sends: requests of the set, the house's own choice among them, each told by its line.
-use mathlib.Core.Bool.{Bool, true, false, _&&_, false≢true}
-use mathlib.Core.Path.{_≡_, refl, sym, _∙_, ap, subst}
-use Prim.Native.Nat.{ℕ, zero, suc, _+_, _-_, _≤_, _<_}
+use mathlib.Core.Bool.{Bool, true, false, not, false≢true}
+use mathlib.Core.List.{List, [], _∷_}
+use mathlib.Core.Logic.{inl, inr, ⊎-elim}
+use mathlib.Core.Path.{_≡_, refl, sym, _∙_, ap, ap₂, subst}
+use Prim.Native.Nat.{ℕ, zero, suc, _+_, _-_, _*_, _≤_, _<_}
 use native.Mathlib.Omega.{arith}
 use lib.Dec.{ltb, eqb}
-use borrow.Author.Tests.{eqb-true, ltb-true, ne-eqb, lt-ltb, le-ltb}
+use lib.ListN.{getD}
+use borrow.Author.Tests.{eqb-true, ltb-true, eq-eqb, ne-eqb, lt-ltb, le-ltb}
 use Rattle.table.specs.Fold.{if}
-use Rattle.table.proofs.Tests.{by-if, both, same-test}
-use Rattle.stream.specs.Stream.{filled}
+use Rattle.table.proofs.Tests.{by-if, both, same-test, le-or-lt}
+use Rattle.table.proofs.Folds.{all-at, all-of}
+use Rattle.order.proofs.Orders.{alike as tied}
+use Rattle.stream.specs.Stream.{queue-max, filled}
+use Rattle.stream.specs.declared.Stream.{Stream}
 use Rattle.calls.specs.Replies.{numberOf}
 use Rattle.calls.specs.declared.Call.{Call}
-use Rattle.session.specs.Session.{streamAt, filledAt, inSet, someFilled, noSlot, latest, sound}
-use Rattle.session.specs.Choice.{leadingAt, chosen, expiring}
-use Rattle.session.specs.Calls.{Verdict, refuse, send, move, wait, expire, noSuchStream, callRefusal, turnEffect, effect, verdict, replyTo, answerTo}
+use Rattle.session.specs.Session.{streamAt, placeAt, tagAt, filledAt, inSet, someFilled, noSlot, latest, sound}
+use Rattle.session.specs.Choice.{takenBefore, leadingAt, leadingPlace, chosen, expiring}
+use Rattle.session.specs.Calls.{Verdict, refuse, send, wait, expire, noSuchStream, callRefusal, turnEffect, effect, verdict, apply, replyTo, outcome, answerTo, lineOf}
 use Rattle.session.specs.declared.Session.{Session}
 use Rattle.session.proofs.Sound.{Sound, sound-of, of-sound}
 use Rattle.session.proofs.Grounds.{Grounds, verdict-grounds, call-refusal-high}
-use Rattle.session.proofs.Answers.{unsound-verdict, refused, accepted, own-sends}
-use Rattle.logs.specs.Choices.{sends}
-use Rattle.logs.specs.Laws.{SetIsSent}
+use Rattle.session.proofs.Answers.{unsound-verdict, refused, accepted, sendable, own-sends}
+use Rattle.session.proofs.Choices.{sent-goes-first}
+use Rattle.file.specs.declared.event.Event.{Event}
+use Rattle.listing.specs.Line.{rendered, eventFields}
+use Rattle.listing.proofs.Lines.{numbers-tell}
+use Rattle.trace.specs.Trace.{Outcome, called, applied, fieldsOf}
+use Rattle.logs.specs.Choices.{sends, alike, isFirst, isChoice, streamOfCell, indexOfCell, cells-max, ownTurnOf, choicesFrom, isSend, mayBe}
+use Rattle.logs.specs.Follow.{Among, lineBy}
+use Rattle.logs.specs.Laws.{SetIsSent, Once}
+
+-- a test that does not hold
+not-of : (b : Bool) → (b ≡ true → ⊥) → not b ≡ true
+not-of true other = absurd (other refl)
+not-of false other = refl
 
 -- ---- what is answered by 21
 
@@ -73,3 +90,246 @@ unfolding filled
 choice-in-queue s i j e =
     let g = own-sent s i j e .grounds in
     (g .exists, omega (arith, g .inSet))
+
+-- a turn that is answered by 21 has a filled slot to serve
+filled-sends : (s : Session) → sentBy s (turnEffect s) ≡ true → someFilled s ≡ true
+unfolding turnEffect replyTo
+filled-sends s =
+    let Told : Verdict → Type 0 = λ v. sentBy s v ≡ true → someFilled s ≡ true in
+    by-if Told (someFilled s) _ _ (λ some e. some)
+    (λ none.
+    by-if Told (noSlot s) _ _ (λ over e. absurd (false≢true e))
+    (λ left. by-if Told (ltb (s .clock .0) (latest s)) wait (expire (expiring s)) (λ early e. absurd (false≢true e)) (λ due e. absurd (false≢true e))))
+
+-- and sends the house's choice
+pub turn-sent : (s : Session) → sends s Call.Turn ≡ true
+    → (someFilled s ≡ true) × Sent s Call.Turn (chosen s) (leadingAt s (chosen s))
+unfolding effect turnEffect answerTo if
+turn-sent s e =
+    let known = sent-effect s Call.Turn e in
+    let some = filled-sends s (subst (λ (v : Verdict). sentBy s v ≡ true) (known .1) e) in
+    (some, sent s Call.Turn _ _ (known .0) (known .1 ∙ rw some))
+
+-- then a request of the set is sent by its own turn
+set-sends : (s : Session) → sound s ≡ true → s .served ≡ 0 → (i j : ℕ) → i < s .count → j < filledAt s i
+    → sends s (Call.OwnTurn (i + 1) j) ≡ true
+unfolding answerTo noSuchStream replyTo
+set-sends s ok idle i j exists among =
+    let same : i + 1 - 1 ≡ i = omega arith in
+    let own : noSuchStream s (i + 1) ≡ false = rw (ne-eqb (i + 1) 0 (λ z. omega arith), le-ltb (s .count) (i + 1) (omega arith)) in
+    let is = own-sends s (i + 1) j ok idle own (rw same among) in
+    ap (sentBy s) is
+
+pub set-is-sent : SetIsSent
+set-is-sent s e i j =
+    let turn = turn-sent s e .1 in
+    same-test _ _
+    (λ own. let g = own-sent s i j own .grounds in rw (lt-ltb i (s .count) (g .exists), lt-ltb j (filledAt s i) (g .inSet)))
+    (λ among.
+    let parts = both (ltb i (s .count)) (inSet s i j) among in
+    set-sends s (of-sound s (turn .orderly)) (turn .grounds .idle) i j (ltb-true _ _ (parts .0)) (ltb-true _ _ (parts .1)))
+
+-- ---- the cells
+
+-- a cell is told by its own turn, and there is one for each request in the arrays' ranges
+cell-told : (a b : ℕ) → ownTurnOf a ≡ ownTurnOf b → a ≡ b
+cell-told a b h =
+    let streams : streamOfCell a + 1 ≡ streamOfCell b + 1 = cc in
+    let indices : indexOfCell a ≡ indexOfCell b = cc in
+    omega arith
+
+cell-of : (i j : ℕ) → i < 8 → j < 16
+    → (m : ℕ) × (m < cells-max) × (streamOfCell m ≡ i) × (indexOfCell m ≡ j)
+cell-of i j l k = (i * queue-max + j, omega arith, omega arith, omega arith)
+
+-- a choice is the own turn of a cell that passes
+record Passing (s : Session) (m left : ℕ) (event : Event) : Type 0 where
+  cell : ℕ
+  low : m ≤ cell
+  high : cell < m + left
+  passes : isChoice s (streamOfCell cell) (indexOfCell cell) ≡ true
+  is : event ≡ ownTurnOf cell
+
+passing-later : (s : Session) (m left : ℕ) (event : Event) → Passing s (m + 1) left event → Passing s m (suc left) event
+passing-later s m left event c =
+    record { cell = c .cell; low = omega (arith, c .low); high = omega (arith, c .high); passes = c .passes; is = c .is }
+
+choices-pass : (s : Session) (m left : ℕ) (event : Event) → Among event (choicesFrom s m left) → Passing s m left event
+unfolding choicesFrom Among
+choices-pass s m zero event = absurd
+choices-pass s m (suc left) event =
+    let later : Among event (choicesFrom s (m + 1) left) → Passing s m (suc left) event = λ among. passing-later s m left event (choices-pass s (m + 1) left event among) in
+    by-if (λ l. Among event l → Passing s m (suc left) event) (isChoice s (streamOfCell m) (indexOfCell m)) _ _
+    (λ here. ⊎-elim (λ is. record { cell = m; low = omega arith; high = omega arith; passes = here; is = is }) later)
+    (λ skipped. later)
+
+-- and the own turn of each that passes is a choice
+passes-among : (s : Session) (m left c : ℕ) → m ≤ c → c < m + left → isChoice s (streamOfCell c) (indexOfCell c) ≡ true
+    → Among (ownTurnOf c) (choicesFrom s m left)
+unfolding choicesFrom Among
+passes-among s m zero c low high passes = absurd (omega arith)
+passes-among s m (suc left) c low high passes =
+    let later : m < c → Among (ownTurnOf c) (choicesFrom s (m + 1) left) = λ l. passes-among s (m + 1) left c (omega arith) (omega arith) passes in
+    by-if (λ l. Among (ownTurnOf c) l) (isChoice s (streamOfCell m) (indexOfCell m)) _ _
+    (λ here. ⊎-elim (λ (u : c ≤ m). let same : c ≡ m = omega arith in inl (ap ownTurnOf same)) (λ (u : m < c). inr (later u)) (le-or-lt c m))
+    (λ skipped.
+    ⊎-elim
+    (λ (u : c ≤ m). let same : c ≡ m = omega arith in absurd (false≢true (sym skipped ∙ rw same at passes)))
+    later (le-or-lt c m))
+
+-- each of them once, since they come by the cells
+choices-stand-once : (s : Session) (m left : ℕ) → Once (choicesFrom s m left)
+unfolding choicesFrom Once
+choices-stand-once s m zero = tt
+choices-stand-once s m (suc left) =
+    let later = choices-stand-once s (m + 1) left in
+    by-if Once (isChoice s (streamOfCell m) (indexOfCell m)) _ _
+    (λ here. (λ again. let c = choices-pass s (m + 1) left (ownTurnOf m) again in omega (arith, c .low, cell-told m (c .cell) (c .is)), later))
+    (λ skipped. later)
+
+pub choices-once : (s : Session) (event : Event) → Once (mayBe s event)
+unfolding mayBe Once Among
+choices-once s event =
+    by-if Once (isSend s event) _ _ (λ sending. choices-stand-once s 0 cells-max) (λ other. (λ none. none, tt))
+
+-- ---- what a send comes to
+
+-- the session afterwards and the line are those of the request, whichever call sends it
+abbrev sentOutcome : Session → ℕ → ℕ → ℕ → Outcome
+sentOutcome s n i j =
+    record {
+      session = apply s (send i j);
+      line = record { event = n; answer = 21; stream = i + 1; value = placeAt s i j; clock = s .clock .0; tag = tagAt s i j };
+    }
+
+sent-outcome : (s : Session) (n : ℕ) (k : Call) (i j : ℕ) → verdict s k ≡ send i j → called s n k ≡ sentOutcome s n i j
+unfolding called answerTo lineOf replyTo apply
+sent-outcome s n k i j is =
+    ap (λ (v : Verdict). let a = outcome s v in record { session = a .session; line = lineOf n k a }) is
+
+own-outcome : (s : Session) (n i j : ℕ) → sends s (Call.OwnTurn (i + 1) j) ≡ true → applied s n (Event.OwnTurn (i + 1) j) ≡ sentOutcome s n i j
+unfolding applied
+own-outcome s n i j e = sent-outcome s n (Call.OwnTurn (i + 1) j) i j (own-sent s i j e .is)
+
+-- what may be sent is sent by its own turn, and is the first of those alike
+choice-parts : (s : Session) (i j : ℕ) → isChoice s i j ≡ true
+    → (sends s (Call.OwnTurn (i + 1) j) ≡ true) × (isFirst (streamAt s i) j ≡ true)
+unfolding isChoice
+choice-parts s i j = both _ _
+
+-- ---- the house's own choice
+
+-- none before it in its queue is like it: in a tie the earlier is sent
+none-alike : (s : Session) → sends s Call.Turn ≡ true → (k : ℕ) → k < leadingAt s (chosen s)
+    → alike (streamAt s (chosen s)) k (leadingAt s (chosen s)) ≡ true → ⊥
+unfolding alike
+none-alike s e k l is =
+    let i = chosen s in
+    let turn = turn-sent s e in
+    let g = turn .1 .grounds in
+    let among : inSet s i k ≡ true = lt-ltb k (filledAt s i) (omega (arith, g .inSet)) in
+    let same : placeAt s i k ≡ leadingPlace s i = eqb-true _ _ (both _ _ is .0) in
+    let tie : takenBefore s (leadingPlace s i) (placeAt s i k) ≡ false = rw same (tied (s .order) (s .head) (leadingPlace s i)) in
+    omega (arith, sent-goes-first s i k (turn .0) (g .exists) among .earlier refl tie)
+
+-- so it may be sent
+house-is-choice : (s : Session) → sends s Call.Turn ≡ true → isChoice s (chosen s) (leadingAt s (chosen s)) ≡ true
+unfolding isChoice isFirst
+house-is-choice s e =
+    let i = chosen s in
+    let j = leadingAt s i in
+    let turn = turn-sent s e .1 in
+    let g = turn .grounds in
+    rw (
+      set-sends s (of-sound s (turn .orderly)) (g .idle) i j (g .exists) (g .inSet),
+      all-of (λ k. not (alike (streamAt s i) k j)) j (λ k l. not-of _ (none-alike s e k l)),
+    )
+
+-- and its own turn is among the choices, and comes to what the turn does
+house-among : (s : Session) (n : ℕ) → sends s Call.Turn ≡ true
+    → (own : Event) × Among own (choicesFrom s 0 cells-max) × (applied s n own ≡ applied s n Event.Turn)
+unfolding applied
+house-among s n e =
+    let i = chosen s in
+    let j = leadingAt s i in
+    let turn = turn-sent s e .1 in
+    let fits = sendable s (turn .orderly) i j (turn .grounds) in
+    let (m, high, stream-is, index-is) = cell-of i j (fits .0) (fits .1) in
+    let choice = house-is-choice s e in
+    let passes : isChoice s (streamOfCell m) (indexOfCell m) ≡ true = ap₂ (isChoice s) stream-is index-is ∙ choice in (
+      ownTurnOf m,
+      passes-among s 0 cells-max m (omega arith) (omega arith) passes,
+      ap₂ (λ (a b : ℕ). applied s n (Event.OwnTurn (a + 1) b)) stream-is index-is
+          ∙ own-outcome s n i j (choice-parts s i j choice .0)
+          ∙ sym (sent-outcome s n Call.Turn i j (turn .is)),
+    )
+
+-- a turn's send is a turn
+send-is-turn : (s : Session) (event : Event) → isSend s event ≡ true → (P : Event → Type 0) → (sends s Call.Turn ≡ true → P Event.Turn) → P event
+send-is-turn s (Event.Arrival stream place tag) e P of-turn = absurd (false≢true e)
+send-is-turn s Event.Turn e P of-turn = of-turn e
+send-is-turn s (Event.OwnTurn stream index) e P of-turn = absurd (false≢true e)
+send-is-turn s (Event.Done duration) e P of-turn = absurd (false≢true e)
+send-is-turn s (Event.Clock time) e P of-turn = absurd (false≢true e)
+send-is-turn s Event.Malformed e P of-turn = absurd (false≢true e)
+
+-- the event itself may stand there, or what comes to the same
+pub itself-may-be : (s : Session) (n : ℕ) (event : Event) → (e : Event) × Among e (mayBe s event) × (applied s n e ≡ applied s n event)
+unfolding mayBe Among
+itself-may-be s n event =
+    by-if (λ l. (e : Event) × Among e l × (applied s n e ≡ applied s n event)) (isSend s event) _ _
+    (λ sending. send-is-turn s event sending (λ z. (e : Event) × Among e (choicesFrom s 0 cells-max) × (applied s n e ≡ applied s n z)) (house-among s n))
+    (λ other. (event, inl refl, refl))
+
+-- ---- what a line tells
+
+-- of two requests of a queue that are alike, the one before is not the first
+alike-before : (x : Stream) (j k : ℕ) → getD (x .places) j 0 ≡ getD (x .places) k 0 → getD (x .tags) j 0 ≡ getD (x .tags) k 0 → isFirst x k ≡ true → k ≤ j
+unfolding isFirst alike
+alike-before x j k places tags first =
+    ⊎-elim
+    (λ (u : k ≤ j). u)
+    (λ (u : j < k). absurd (false≢true (rw (eq-eqb _ _ places, eq-eqb _ _ tags) at (all-at (λ m. not (alike x m k)) k first j u))))
+    (le-or-lt k j)
+
+first-alike : (x : Stream) (j k : ℕ) → isFirst x j ≡ true → isFirst x k ≡ true
+    → getD (x .places) j 0 ≡ getD (x .places) k 0 → getD (x .tags) j 0 ≡ getD (x .tags) k 0 → j ≡ k
+first-alike x j k first-j first-k places tags =
+    omega (arith, alike-before x j k places tags first-k, alike-before x k j (sym places) (sym tags) first-j)
+
+-- the line of a choice has the stream, the place and the tag of its request, so there is no other with its line
+choice-told : (s : Session) (n i j a b : ℕ) → isChoice s i j ≡ true → isChoice s a b ≡ true
+    → lineBy s n (Event.OwnTurn (i + 1) j) ≡ lineBy s n (Event.OwnTurn (a + 1) b) → (i ≡ a) × (j ≡ b)
+unfolding eventFields
+choice-told s n i j a b one two lines =
+    let (sends-one, first-one) = choice-parts s i j one in
+    let (sends-two, first-two) = choice-parts s a b two in
+    let shown : ℕ → ℕ → List ℕ = λ i j. n ∷ 21 ∷ (i + 1) ∷ placeAt s i j ∷ s .clock .0 ∷ tagAt s i j ∷ [] in
+    let line : Outcome → List ℕ = λ o. rendered (fieldsOf (o .line)) in
+    let numbers = numbers-tell (shown i j) (shown a b)
+    (sym (ap line (own-outcome s n i j sends-one)) ∙ lines ∙ ap line (own-outcome s n a b sends-two)) in
+    let streams : i + 1 ≡ a + 1 = cc in
+    let places : placeAt s i j ≡ placeAt s a b = cc in
+    let tags : tagAt s i j ≡ tagAt s a b = cc in
+    let same : i ≡ a = omega arith in
+    let Told : ℕ → Type 0 = λ m. isFirst (streamAt s m) b ≡ true → placeAt s i j ≡ placeAt s m b → tagAt s i j ≡ tagAt s m b → j ≡ b in
+    (same, subst Told same (first-alike (streamAt s i) j b first-one) first-two places tags)
+
+-- an element of a list of one
+only-among : {A : Type 0} (x y : A) → Among x (y ∷ []) → x ≡ y
+unfolding Among
+only-among x y = ⊎-elim (λ is. is) absurd
+
+-- two that may stand for an event and have one line are one
+pub lines-tell-choices : (s : Session) (n : ℕ) (event a b : Event) → Among a (mayBe s event) → Among b (mayBe s event)
+    → lineBy s n a ≡ lineBy s n b → a ≡ b
+unfolding mayBe
+lines-tell-choices s n event a b =
+    by-if (λ l. Among a l → Among b l → lineBy s n a ≡ lineBy s n b → a ≡ b) (isSend s event) _ _
+    (λ sending here there lines.
+    let c = choices-pass s 0 cells-max a here in
+    let d = choices-pass s 0 cells-max b there in
+    let told = choice-told s n (streamOfCell (c .cell)) (indexOfCell (c .cell)) (streamOfCell (d .cell)) (indexOfCell (d .cell)) (c .passes) (d .passes)
+    (sym (ap (lineBy s n) (c .is)) ∙ lines ∙ ap (lineBy s n) (d .is)) in
+    c .is ∙ ap₂ (λ (i j : ℕ). Event.OwnTurn (i + 1) j) (told .0) (told .1) ∙ sym (d .is))
+    (λ other here there lines. only-among a event here ∙ sym (only-among b event there))

@@ -143,18 +143,18 @@ cell-of : (i j : ℕ) → i < 8 → j < 16
 cell-of i j l k = (i * queue-max + j, omega arith, omega arith, omega arith)
 
 -- a choice is the own turn of a cell that passes
-record Passing (s : Session) (m left : ℕ) (event : Event) : Type 0 where
-  cell : ℕ
-  low : m ≤ cell
-  high : cell < m + left
-  passes : isChoice s (streamOfCell cell) (indexOfCell cell) ≡ true
-  is : event ≡ ownTurnOf cell
+pub record Passing (s : Session) (m left : ℕ) (event : Event) : Type 0 where
+  pub cell : ℕ
+  pub low : m ≤ cell
+  pub high : cell < m + left
+  pub passes : isChoice s (streamOfCell cell) (indexOfCell cell) ≡ true
+  pub is : event ≡ ownTurnOf cell
 
 passing-later : (s : Session) (m left : ℕ) (event : Event) → Passing s (m + 1) left event → Passing s m (suc left) event
 passing-later s m left event c =
     record { cell = c .cell; low = omega (arith, c .low); high = omega (arith, c .high); passes = c .passes; is = c .is }
 
-choices-pass : (s : Session) (m left : ℕ) (event : Event) → Among event (choicesFrom s m left) → Passing s m left event
+pub choices-pass : (s : Session) (m left : ℕ) (event : Event) → Among event (choicesFrom s m left) → Passing s m left event
 unfolding choicesFrom Among
 choices-pass s m zero event = absurd
 choices-pass s m (suc left) event =
@@ -265,7 +265,7 @@ house-among s n e =
     )
 
 -- a turn's send is a turn
-send-is-turn : (s : Session) (event : Event) → isSend s event ≡ true → (P : Event → Type 0) → (sends s Call.Turn ≡ true → P Event.Turn) → P event
+pub send-is-turn : (s : Session) (event : Event) → isSend s event ≡ true → (P : Event → Type 0) → (sends s Call.Turn ≡ true → P Event.Turn) → P event
 send-is-turn s (Event.Arrival stream place tag) e P of-turn = absurd (false≢true e)
 send-is-turn s Event.Turn e P of-turn = of-turn e
 send-is-turn s (Event.OwnTurn stream index) e P of-turn = absurd (false≢true e)
@@ -316,7 +316,7 @@ choice-told s n i j a b one two lines =
     (same, subst Told same (first-alike (streamAt s i) j b first-one) first-two places tags)
 
 -- an element of a list of one
-only-among : {A : Type 0} (x y : A) → Among x (y ∷ []) → x ≡ y
+pub only-among : {A : Type 0} (x y : A) → Among x (y ∷ []) → x ≡ y
 unfolding Among
 only-among x y = ⊎-elim (λ is. is) absurd
 

@@ -212,7 +212,7 @@ unfolding applied
 own-outcome s n i j e = sent-outcome s n (Call.OwnTurn (i + 1) j) i j (own-sent s i j e .is)
 
 -- what may be sent is sent by its own turn, and is the first of those alike
-choice-parts : (s : Session) (i j : ℕ) → isChoice s i j ≡ true
+pub choice-parts : (s : Session) (i j : ℕ) → isChoice s i j ≡ true
     → (sends s (Call.OwnTurn (i + 1) j) ≡ true) × (isFirst (streamAt s i) j ≡ true)
 unfolding isChoice
 choice-parts s i j = both _ _

@@ -1,5 +1,5 @@
 -- A listing that follows keeps the promise: it is what is printed of some calls, one for each event.
-use mathlib.Core.Bool.{true, false≢true}
+use mathlib.Core.Bool.{true, false, false≢true}
 use mathlib.Core.List.{List, [], _∷_, _++_}
 use mathlib.Core.Logic.{inl, inr}
 use mathlib.Core.Path.{_≡_, refl, sym, _∙_, ap, subst}
@@ -22,34 +22,35 @@ use Rattle.file.proofs.Round.{accepted-is-within}
 use Rattle.listing.specs.Line.{rendered, headerFields}
 use Rattle.listing.specs.Laws.{Each}
 use Rattle.trace.specs.Trace.{Outcome, called, applied, fieldsOf}
-use Rattle.logs.specs.Choices.{streamOfCell, indexOfCell, cells-max, isSend, mayBe}
+use Rattle.logs.specs.Choices.{sends, streamOfCell, indexOfCell, cells-max, isSend, mayBe}
 use Rattle.logs.specs.Follow.{Among, FollowsFrom, sessionIn}
 use Rattle.logs.specs.Laws.{StandsFor, StandFor, printed, FollowedIsKept}
-use Rattle.logs.proofs.Choosing.{choices-pass, send-is-turn, only-among}
+use Rattle.logs.proofs.Choosing.{choices-pass, choice-parts, send-is-turn, only-among}
 
 -- ---- one event
 
 -- a call that may be made for an event, and comes to what another event does
 record Made (s : Session) (event other : Event) : Type 0 where
   call : Call
-  stands : StandsFor event call
+  stands : StandsFor s event call
   same : (n : ℕ) → applied s n other ≡ called s n call
 
 -- an event that is as laid out is a call
-itself-made : (s : Session) (event : Event) → formed event ≡ true → Made s event event
+itself-made : (s : Session) (event : Event) → formed event ≡ true → isSend s event ≡ false → Made s event event
 unfolding applied
-itself-made s (Event.Arrival stream place tag) e = record { call = Call.Arrival stream place tag; stands = refl; same = λ n. refl }
-itself-made s Event.Turn e = record { call = Call.Turn; stands = inl refl; same = λ n. refl }
-itself-made s (Event.OwnTurn stream index) e = record { call = Call.OwnTurn stream index; stands = refl; same = λ n. refl }
-itself-made s (Event.Done duration) e = record { call = Call.Done duration; stands = refl; same = λ n. refl }
-itself-made s (Event.Clock time) e = record { call = Call.Clock time; stands = refl; same = λ n. refl }
-itself-made s Event.Malformed e = absurd (false≢true e)
+itself-made s (Event.Arrival stream place tag) e other = record { call = Call.Arrival stream place tag; stands = refl; same = λ n. refl }
+itself-made s Event.Turn e other = record { call = Call.Turn; stands = inl (other, refl); same = λ n. refl }
+itself-made s (Event.OwnTurn stream index) e other = record { call = Call.OwnTurn stream index; stands = refl; same = λ n. refl }
+itself-made s (Event.Done duration) e other = record { call = Call.Done duration; stands = refl; same = λ n. refl }
+itself-made s (Event.Clock time) e other = record { call = Call.Clock time; stands = refl; same = λ n. refl }
+itself-made s Event.Malformed e other = absurd (false≢true e)
 
--- an own turn may be made for a turn
-own-made : (s : Session) (stream index : ℕ) → Made s Event.Turn (Event.OwnTurn stream index)
+-- an own turn that sends may be made for a turn that does
+own-made : (s : Session) (stream index : ℕ) → sends s (Call.OwnTurn stream index) ≡ true → sends s Call.Turn ≡ true
+    → Made s Event.Turn (Event.OwnTurn stream index)
 unfolding applied
-own-made s stream index =
-    record { call = Call.OwnTurn stream index; stands = inr (stream, index, refl); same = λ n. refl }
+own-made s stream index own turn =
+    record { call = Call.OwnTurn stream index; stands = inr (turn, own, (stream, index, refl)); same = λ n. refl }
 
 -- so whatever may stand for an event is a call
 made : (s : Session) (event other : Event) → formed event ≡ true → Among other (mayBe s event) → Made s event other
@@ -58,21 +59,22 @@ made s event other e =
     by-if (λ l. Among other l → Made s event other) (isSend s event) _ _
     (λ sending among.
     let c = choices-pass s 0 cells-max other among in
+    let i = streamOfCell (c .cell) in
+    let j = indexOfCell (c .cell) in
     subst (Made s event) (sym (c .is))
-    (send-is-turn s event sending (λ z. Made s z (Event.OwnTurn (streamOfCell (c .cell) + 1) (indexOfCell (c .cell))))
-    (λ turn. own-made s (streamOfCell (c .cell) + 1) (indexOfCell (c .cell)))))
-    (λ not-sending among. subst (Made s event) (sym (only-among other event among)) (itself-made s event e))
+    (send-is-turn s event sending (λ z. Made s z (Event.OwnTurn (i + 1) j)) (own-made s (i + 1) j (choice-parts s i j (c .passes) .0))))
+    (λ itself among. subst (Made s event) (sym (only-among other event among)) (itself-made s event e itself))
 
 -- ---- all events
 
 -- a text is what is printed of some calls, one for each event from i on
 record Printed (s : Session) (trace : List ℕ) (i : ℕ) (text : List ℕ) : Type 0 where
   calls : List Call
-  stand-for : StandFor trace i calls
+  stand-for : StandFor s trace i calls
   prints : text ≡ printed (linesFrom (i + 1) s calls)
 
 -- one event before others
-printed-more : (s : Session) (trace : List ℕ) (i : ℕ) (text later : List ℕ) (k : Call) → StandsFor (eventAt trace i) k
+printed-more : (s : Session) (trace : List ℕ) (i : ℕ) (text later : List ℕ) (k : Call) → StandsFor s (eventAt trace i) k
     → text ≡ rendered (fieldsOf (called s (i + 1) k .line)) ++ later
     → Printed (called s (i + 1) k .session) trace (i + 1) later
     → Printed s trace i text

@@ -1,5 +1,5 @@
 -- What is proved of following. The quotes are document 02, Req 09.
-use mathlib.Core.Bool.{true, _&&_}
+use mathlib.Core.Bool.{true, false, _&&_}
 use mathlib.Core.List.{List, [], _∷_, _++_}
 use mathlib.Core.Logic.{_⊎_, _↔_}
 use mathlib.Core.Path.{_≡_}
@@ -8,7 +8,7 @@ use lib.Dec.{ltb}
 use lib.ListN.{length, drop}
 use Rattle.calls.specs.declared.Call.{Call}
 use Rattle.session.specs.Session.{inSet}
-use Rattle.session.specs.Calls.{after, Line, linesFrom}
+use Rattle.session.specs.Calls.{answerTo, after, Line, linesFrom}
 use Rattle.session.specs.History.{historyOf}
 use Rattle.session.specs.Promise.{Always, OnTime}
 use Rattle.session.specs.declared.Session.{Session}
@@ -76,19 +76,21 @@ PiecesJoin =
     × (leftOf (piece ++ next) ≡ leftOf (leftOf piece ++ next))
     × (leftOf piece ≡ drop (length piece - fed .left) piece)
 
--- the call that is made for an event: its own, or for a turn any own turn
-abbrev pub StandsFor : Event → Call → Type 0
-StandsFor (Event.Arrival stream place tag) k = k ≡ Call.Arrival stream place tag
-StandsFor Event.Turn k = (k ≡ Call.Turn) ⊎ ((stream : ℕ) × (index : ℕ) × (k ≡ Call.OwnTurn stream index))
-StandsFor (Event.OwnTurn stream index) k = k ≡ Call.OwnTurn stream index
-StandsFor (Event.Done duration) k = k ≡ Call.Done duration
-StandsFor (Event.Clock time) k = k ≡ Call.Clock time
-StandsFor Event.Malformed k = ⊥
+-- the call that is made for an event that a session is handed: its own, or for a turn's send an own turn that is answered by 21 too, and so of a request of the set
+abbrev pub StandsFor : Session → Event → Call → Type 0
+StandsFor s (Event.Arrival stream place tag) k = k ≡ Call.Arrival stream place tag
+StandsFor s Event.Turn k =
+    ((sends s Call.Turn ≡ false) × (k ≡ Call.Turn))
+    ⊎ ((sends s Call.Turn ≡ true) × (sends s k ≡ true) × ((stream : ℕ) × (index : ℕ) × (k ≡ Call.OwnTurn stream index)))
+StandsFor s (Event.OwnTurn stream index) k = k ≡ Call.OwnTurn stream index
+StandsFor s (Event.Done duration) k = k ≡ Call.Done duration
+StandsFor s (Event.Clock time) k = k ≡ Call.Clock time
+StandsFor s Event.Malformed k = ⊥
 
 -- one call for each event from i on
-unfoldable pub StandFor : List ℕ → ℕ → List Call → Type 0
-StandFor trace i [] = i ≡ eventsIn trace
-StandFor trace i (k ∷ rest) = StandsFor (eventAt trace i) k × StandFor trace (i + 1) rest
+unfoldable pub StandFor : Session → List ℕ → ℕ → List Call → Type 0
+StandFor s trace i [] = i ≡ eventsIn trace
+StandFor s trace i (k ∷ rest) = StandsFor s (eventAt trace i) k × StandFor (answerTo s k .session) trace (i + 1) rest
 
 unfoldable pub printed : List Line → List ℕ
 printed [] = []
@@ -97,7 +99,7 @@ printed (line ∷ rest) = rendered (fieldsOf line) ++ printed rest
 -- What is accepted keeps demand 3: it is what our program prints of some calls, one for each event, and the promise is of those calls as of any. So a listing that follows and has no 26 and no 28 closed every job in time.
 pub record Kept (file listing : List ℕ) : Type 0 where
   pub calls : List Call
-  pub stand-for : StandFor (traceIn file) 0 calls
+  pub stand-for : StandFor (sessionIn file) (traceIn file) 0 calls
   pub prints : listing ≡ rendered headerFields ++ printed (linesFrom 1 (sessionIn file) calls)
   pub always : Always (tableIn file) (after (sessionIn file) calls) (historyOf (sessionIn file) calls)
   pub on-time : Each (λ line. (line .answer ≡ 26 → ⊥) × (line .answer ≡ 28 → ⊥)) (linesFrom 1 (sessionIn file) calls)

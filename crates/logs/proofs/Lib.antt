@@ -1,2 +1,5 @@
+pub mod Files
+pub mod Looking
+pub mod Feeding
 pub mod Choosing
 pub mod Promised

@@ -13,7 +13,7 @@ use Rattle.session.specs.Opening.{zeroSession, openingOf}
 use Rattle.session.specs.declared.Session.{Session}
 use Rattle.file.specs.Reading.{eventAt, eventsIn, tableIn, orderIn, traceIn, isLaidOut}
 use Rattle.file.specs.declared.event.Event.{Event}
-use Rattle.listing.specs.Line.{decimal, rendered, headerFields, refusedFields, acceptedFields, placeFields}
+use Rattle.listing.specs.Line.{rendered, headerFields, refusedFields, acceptedFields, placeFields}
 use Rattle.trace.specs.Trace.{applied, fieldsOf}
 use Rattle.logs.specs.Choices.{mayBe}
 use Rattle.logs.specs.Lines.{linesOf, leftOf, sameBytes}

@@ -103,16 +103,16 @@ fn line_of_choice(session: Session, number: u64, k: usize) -> Text
     ensures { λ r. ⌜ r ≡ textHolding (getD (linesOfNexts (map (nextBy session number) (choicesFrom session 0 cells-max))) k []) ⌝ }
     ensures { λ r. ⌜ Within r ⌝ }
 {
-    let mut before = k;
+    let mut ahead = k;
     let mut m: usize = 0;
     while m < CELLS {
         if is_choice(session, m / Stream::QUEUE_MAX, m % Stream::QUEUE_MAX) {
-            if before == 0 {
+            if ahead == 0 {
                 let stepped = trace::step(session, number, own_turn_of(m));
                 let text = stepped.text;
                 return text;
             }
-            before -= 1;
+            ahead -= 1;
         }
         m += 1;
     }
@@ -157,14 +157,16 @@ fn is_first(x: Stream, j: usize) -> bool
 {
     let places = x.places;
     let tags = x.tags;
+    let place = places[j];
+    let tag = tags[j];
+    let mut first = true;
     let mut k: usize = 0;
     while k < j {
-        if (places[k] == places[j]) & (tags[k] == tags[j]) {
-            return false;
-        }
+        let alike = (places[k] == place) & (tags[k] == tag);
+        first = first & !alike;
         k += 1;
     }
-    true
+    first
 }
 
 // Whether an event is a turn that sends.

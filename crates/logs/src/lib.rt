@@ -11,7 +11,7 @@ use session::Session;
 use table::Table;
 ghost use mathlib.Core.Path.{_≡_};
 ghost use mathlib.Core.List.{[]};
-ghost use lib.ListN.{length, getD};
+ghost use lib.ListN.{getD};
 ghost use Rattle.listing.specs.Line.{textHolding, Within};
 ghost use Rattle.logs.specs.Following.{refusedAt, openedAt, begun, traceOf, awaited, follower, withLine, fedBy, isWhole, checkedBy, reportOf};
 

@@ -13,14 +13,13 @@ pub(crate) fn same_bytes(a: &[u8], b: &[u8]) -> bool
     if a.len() != b.len() {
         return false;
     }
+    let mut same = true;
     let mut i: usize = 0;
     while i < a.len() {
-        if a[i] != b[i] {
-            return false;
-        }
+        same = same & (a[i] == b[i]);
         i += 1;
     }
-    true
+    same
 }
 
 // Line k of a single one.

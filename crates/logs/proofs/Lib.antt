@@ -3,3 +3,4 @@ pub mod Looking
 pub mod Feeding
 pub mod Choosing
 pub mod Promised
+pub mod Splitting

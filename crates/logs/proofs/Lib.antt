@@ -3,4 +3,9 @@ pub mod Looking
 pub mod Feeding
 pub mod Choosing
 pub mod Promised
+pub mod Members
 pub mod Splitting
+pub mod Nexts
+pub mod Steps
+pub mod Whole
+pub mod Follows

@@ -9,3 +9,4 @@ pub mod Nexts
 pub mod Steps
 pub mod Whole
 pub mod Follows
+pub mod Rejecting

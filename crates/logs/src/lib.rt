@@ -11,7 +11,8 @@ use session::Session;
 use table::Table;
 ghost use mathlib.Core.Path.{_≡_};
 ghost use mathlib.Core.List.{[]};
-ghost use lib.ListN.{getD};
+ghost use Prim.Native.Nat.{_≤_};
+ghost use lib.ListN.{length, getD};
 ghost use Rattle.listing.specs.Line.{textHolding, Within};
 ghost use Rattle.logs.specs.Following.{refusedAt, openedAt, begun, traceOf, awaited, follower, withLine, fedBy, isWhole, checkedBy, reportOf};
 
@@ -80,6 +81,7 @@ impl Follower {
     // Takes a piece of a listing, line by line. What is left behind its last line comes again, before the next piece.
     pub fn feed(self, file: &[u8], piece: &[u8]) -> Fed
         ensures { λ r. ⌜ r ≡ fedBy self (traceOf (now (file .entry))) (now (piece .entry)) ⌝ }
+        ensures { λ r. ⌜ r .left ≤ length (now (piece .entry)) ⌝ }
     {
         let trace = trace_of(file);
         let mut follower = self;
@@ -138,6 +140,13 @@ impl Follower {
             return Awaited::Event(self.due - 2);
         }
         Awaited::Nothing
+    }
+
+    // Whether a line did not follow, so that nothing more is looked at.
+    pub fn has_failed(self) -> bool
+        ensures { λ r. ⌜ r ≡ self .failed ⌝ }
+    {
+        self.failed
     }
 
     // Line k of what is said of a listing, counted from 0, where these bytes are left behind its last line: `accepted`; or the number of the line that does not follow, and then each that could have stood there. There is nothing in a line past the last.

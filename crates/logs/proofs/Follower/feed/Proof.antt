@@ -63,8 +63,8 @@ returns : tie.Need-returns Inv-loop μ-loop
 returns c =
     let at = c .before in
     let a = at .before .before .before .before .args in
-    taken-all _ _ _ _ _ _ (at .loop .inv) (c .loop-test .left)
-    ∙ ap (λ (trace : List ℕ). fedBy (a .self) trace (a .piece .now)) (at .before .trace-of .ensures)
+    let whole = taken-all _ _ _ _ _ _ (at .loop .inv) (c .loop-test .left) in
+    (whole ∙ ap (λ (trace : List ℕ). fedBy (a .self) trace (a .piece .now)) (at .before .trace-of .ensures), omega arith)
 
 pub feed-spec : {M : Type 1} → statement M
 feed-spec =

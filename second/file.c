@@ -1,13 +1,10 @@
 // The layout of the session file, each part from its own sentence.
 #include "file.h"
 
-#include <inttypes.h>
 #include <string.h>
 
 // The bodies in the order in which they stand; the kind of each entry is one more.
 enum body { BODY_TABLE, BODY_TRACE, BODY_ORDER, BODIES };
-
-enum kind { EVENT_ARRIVAL = 1, EVENT_TURN, EVENT_OWN_TURN, EVENT_DONE, EVENT_CLOCK };
 
 // "numbers little-endian"
 static uint64_t number_at(const uint8_t *bytes, size_t width)
@@ -150,6 +147,18 @@ struct opening start_run(struct run *run, FILE *in)
     return o;
 }
 
+bool open_run(struct run *run, const char *name, struct opening *o)
+{
+    *o = (struct opening){BAD_LAYOUT, 0};
+    FILE *in = fopen(name, "rb");
+    if (in == NULL)
+        return false;
+    *o = start_run(run, in);
+    bool whole = !ferror(in);
+    fclose(in);
+    return whole;
+}
+
 struct event run_event_at(const struct run *run, size_t index)
 {
     return event_at(run->trace + index * EVENT_BYTES);
@@ -169,12 +178,4 @@ struct reply run_event(struct session *s, struct event e)
     default:
         return session_clock(s, e.value);
     }
-}
-
-void print_refused(struct opening o)
-{
-    if (o.number == OVERLOAD)
-        printf("refused %d %" PRId64 "\n", (int)o.number, -o.margin);
-    else
-        printf("refused %d\n", (int)o.number);
 }

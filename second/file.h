@@ -21,6 +21,9 @@
 #define FILE_MAX \
     (CONTENTS_BYTES(ENTRIES_ORDERED) + TABLE_BYTES + STREAM_MAX * RESERVATION_BYTES + EVENT_MAX * EVENT_BYTES + ORDER_BYTES)
 
+// "Kinds: 1 arrival, 2 turn, 3 own turn, 4 done, 5 clock."
+enum kind { EVENT_ARRIVAL = 1, EVENT_TURN, EVENT_OWN_TURN, EVENT_DONE, EVENT_CLOCK };
+
 // The tag is an arrival's, and 0 in every other event.
 struct event {
     uint8_t kind;
@@ -48,13 +51,12 @@ struct opening {
 // Reads a file and opens its session.
 struct opening start_run(struct run *run, FILE *in);
 
+// The same of a file by its name. False if it cannot be opened or read; what there is of it is then not as laid out.
+bool open_run(struct run *run, const char *name, struct opening *o);
+
 // An event of the trace, by its index from 0.
 struct event run_event_at(const struct run *run, size_t index);
 
 struct reply run_event(struct session *s, struct event e);
-
-// "If reading or opening refuses it prints `refused N`, nothing more."; document 02, Req 05: "the program prints
-// `refused 7 N` with N the amount over the span. Other refusals carry margin 0 and print as before."
-void print_refused(struct opening o);
 
 #endif

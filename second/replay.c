@@ -1,24 +1,10 @@
 // Reads one session file from standard input and prints its listing, or its refusal. With the word `margin` it prints
 // what opening answers instead; with `latest` the latest safe moment after opening and after each event, by going round
 // the table; and with `kept` the same from what the session keeps for those who ask.
-#include "file.h"
+#include "listing.h"
 
 #include <inttypes.h>
 #include <string.h>
-
-static bool refused(struct reply r)
-{
-    return r.number < ARRIVED || r.number == UNSOUND;
-}
-
-// "its number from 1, the reply, the stream (.. a refused call shows the event's own stream byte), the value (0 for a
-// refusal), the clock afterwards"; document 02, Req 07: "The printed line gets a last field, the tag of the request sent or
-// done, else 0, and the header gets the word `tag`."
-static void print_line(size_t number, struct event e, struct reply r, uint64_t clock)
-{
-    uint32_t stream = refused(r) ? e.stream : r.stream;
-    printf("%zu %d %" PRIu32 " %" PRIu64 " %" PRIu64 " %" PRIu32 "\n", number, (int)r.number, stream, r.value, clock, r.tag);
-}
 
 // The number and the margin that opening answers, or reading: of an admitted table the margin that "the session keeps".
 static void print_opening(struct opening o, const struct session *s)
@@ -28,11 +14,11 @@ static void print_opening(struct opening o, const struct session *s)
 
 static void print_listing(struct run *run)
 {
-    puts("event answer stream value clock tag");
+    print_line(header_line());
     for (size_t i = 0; i < run->count; i++) {
         struct event e = run_event_at(run, i);
         struct reply r = run_event(&run->session, e);
-        print_line(i + 1, e, r, run->session.clock);
+        print_line(event_line(i + 1, e, r, run->session.clock));
     }
 }
 
@@ -71,7 +57,7 @@ int main(int count, char **words)
     if (strcmp(word, "margin") == 0)
         print_opening(o, &run.session);
     else if (o.number != ADMITTED)
-        print_refused(o);
+        print_line(refused_line(o));
     else if (strcmp(word, "latest") == 0)
         print_moments(&run, print_latest);
     else if (strcmp(word, "kept") == 0)

@@ -1,7 +1,7 @@
 // Prints a tally of session files: by file and stream, and then by stream number over all files.
 // The files are named as words, or, where there is none, on standard input, one name a line.
 #define _POSIX_C_SOURCE 200809L // for getline
-#include "file.h"
+#include "listing.h"
 
 #include <inttypes.h>
 #include <stdlib.h>
@@ -99,27 +99,17 @@ static void print_tallies(const struct tally *streams, uint32_t count)
     }
 }
 
-// A file that cannot be opened or read is one that is not as laid out, and is told besides.
-static struct opening open_run(struct run *run, const char *name)
-{
-    FILE *in = fopen(name, "rb");
-    struct opening o = in == NULL ? (struct opening){BAD_LAYOUT, 0} : start_run(run, in);
-    if (in == NULL || ferror(in))
-        fprintf(stderr, "tally: cannot read %s\n", name);
-    if (in != NULL)
-        fclose(in);
-    return o;
-}
-
-// "A refused file gets its number and adds nothing."
+// "A refused file gets its number and adds nothing." One that cannot be opened or read is refused, and is told besides.
 static void take_file(struct totals *totals, const char *name)
 {
     static struct run run;
     struct tally streams[STREAM_MAX] = {0};
     printf("file %s\n", name);
-    struct opening o = open_run(&run, name);
+    struct opening o;
+    if (!open_run(&run, name, &o))
+        fprintf(stderr, "tally: cannot read %s\n", name);
     if (o.number != ADMITTED) {
-        print_refused(o);
+        print_line(refused_line(o));
         return;
     }
     tally_run(streams, &run);

@@ -1,8 +1,9 @@
-// What the parts of the maker share: chance, a file in the making, and the three kinds of parts.
+// What the parts of the maker share: a file in the making, and the three kinds of parts.
 #ifndef TRIALS_MAKER_H
 #define TRIALS_MAKER_H
 
 #include "../second/engine.h"
+#include "chance.h"
 
 #include <stddef.h>
 
@@ -11,7 +12,6 @@
 #define RESERVATION_BYTES 8
 #define EVENT_BYTES 16
 #define ORDER_BYTES 4
-#define LENGTH(array) (sizeof(array) / sizeof *(array))
 
 enum { EVENT_ARRIVAL = 1, EVENT_TURN, EVENT_OWN_TURN, EVENT_DONE, EVENT_CLOCK };
 
@@ -33,47 +33,6 @@ struct trace {
     struct event events[EVENT_MAX + 1];
     size_t count;
 };
-
-// --- Chance: everything in a file follows from its seed and index. ---
-// C leaves the order of arguments and initializers open, so none of them holds two draws.
-
-struct chance {
-    uint64_t state;
-};
-
-// splitmix64, which is short and the same on every machine.
-static inline uint64_t draw(struct chance *c)
-{
-    uint64_t z = c->state += 0x9e3779b97f4a7c15u;
-    z = (z ^ (z >> 30)) * 0xbf58476d1ce4e5b9u;
-    z = (z ^ (z >> 27)) * 0x94d049bb133111ebu;
-    return z ^ (z >> 31);
-}
-
-// 0 to n - 1
-static inline uint64_t below(struct chance *c, uint64_t n)
-{
-    return draw(c) % n;
-}
-
-static inline bool percent(struct chance *c, uint64_t n)
-{
-    return below(c, 100) < n;
-}
-
-// 1 to most, small ones as likely as large ones
-static inline uint64_t spread(struct chance *c, uint64_t most)
-{
-    unsigned bits = 1;
-    while (bits < 63 && most >> bits != 0)
-        bits++;
-    uint64_t number = below(c, (uint64_t)1 << (1 + below(c, bits)));
-    return number == 0 ? 1 : number > most ? most : number;
-}
-
-#define ONE_OF(c, array) ((array)[below(c, LENGTH(array))])
-
-// --- The parts ---
 
 // A table that opening admits, most often with no slack left.
 void make_table(struct chance *c, struct table *t);

@@ -4,7 +4,6 @@ use mathlib.Core.Path.{_≡_, refl, sym, _∙_}
 use lib.ListN.{length}
 use lib.Seq.{length-take-le}
 use native.Mathlib.Omega.{arith}
-use borrow.Author.Needs.{needs}
 use Rattle.follow.proofs.input.follow_input.Statement.{statement}
 use Rattle.follow.proofs.input.follow_input.Tie as tie
 

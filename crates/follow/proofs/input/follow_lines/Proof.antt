@@ -1,5 +1,5 @@
 -- `follow_lines` moves what is left, which lies within the bytes that were taken.
-use mathlib.Core.Path.{_≡_, sym}
+use mathlib.Core.Path.{sym}
 use Prim.Native.Nat.{_≤_}
 use lib.Seq.{length-take-le}
 use native.Mathlib.Omega.{arith}

@@ -1,9 +1,7 @@
 -- A file is counted as it was read and opened.
-use mathlib.Core.Bool.{Bool, true, false}
 use mathlib.Core.List.{List}
-use mathlib.Core.Path.{_≡_, refl, sym}
+use mathlib.Core.Path.{_≡_, sym}
 use Prim.Native.Nat.{ℕ}
-use native.Mathlib.Omega.{arith}
 use borrow.Author.Tests.{ne-eqb}
 use Rattle.table.specs.Fold.{if}
 use Rattle.table.specs.Admission.{admissionOf}
@@ -12,7 +10,7 @@ use Rattle.table.specs.declared.Table.{Table}
 use Rattle.table.proofs.Margins.{answer-carries-margin}
 use Rattle.order.specs.declared.Order.{Order}
 use Rattle.session.specs.Opening.{openingOf}
-use Rattle.file.specs.Reading.{part, eventsIn, tableIn, isLaidOut, readOf}
+use Rattle.file.specs.Reading.{part, eventsIn, tableIn, readOf}
 use Rattle.file.specs.declared.form.Form.{Form}
 use Rattle.file.specs.declared.Reading.the-variants as reading
 use Rattle.file.proofs.Accepted as accepted
@@ -31,12 +29,8 @@ opened-refused t order trace some = rw (ne-eqb (admissionOf t) 0 some)
 
 -- a file that reading refuses
 pub filed-refused : (file : List ℕ) (n : ℕ) → readOf file ≡ reading.Refused n → filedOf file ≡ refusedFile 16 0
-unfolding readOf filedOf if
-filed-refused file n h = go (isLaidOut file) refl h
-  where
-    go : (b : Bool) → isLaidOut file ≡ b → readOf file ≡ reading.Refused n → filedOf file ≡ refusedFile 16 0
-    go true e r = absurd (let never : _≡_ {A = ℕ} 0 1 = cc in omega arith)
-    go false e r = rw e
+unfolding filedOf if
+filed-refused file n h = rw (accepted.unread file n h)
 
 -- and one that it accepts
 pub filed-opened : (file : List ℕ) (form : Form) (order : Order) (count start end events : ℕ) → readOf file ≡ reading.LaidOut form order count start end events

@@ -151,3 +151,12 @@ answered file form order count start end events h =
       end-is = q .5;
       events-are = q .6;
     }
+
+-- and one that refuses from a file that is not
+pub unread : (file : List ℕ) (n : ℕ) → readOf file ≡ Refused n → isLaidOut file ≡ false
+unfolding readOf if
+unread file n h = go (isLaidOut file) refl h
+  where
+    go : (b : Bool) → isLaidOut file ≡ b → readOf file ≡ Refused n → isLaidOut file ≡ false
+    go true e r = absurd (let never : _≡_ {A = ℕ} 0 1 = cc in omega arith)
+    go false e r = e

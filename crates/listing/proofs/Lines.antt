@@ -110,14 +110,14 @@ numbers-tell a b h =
 
 -- ---- the newline
 
-abbrev NoNewline : ℕ → Type 0
+abbrev pub NoNewline : ℕ → Type 0
 NoNewline byte = byte ≡ newline → ⊥
 
 field-newline : (field : List ℕ) → Each Above field → Each NoNewline field
 field-newline = each-weaker Above NoNewline (λ byte l e. omega (arith, e))
 
 -- some bytes that are no newline, and then one
-abbrev OneNewline : List ℕ → Type 0
+abbrev pub OneNewline : List ℕ → Type 0
 OneNewline line = (front : List ℕ) × (line ≡ front ++ (newline ∷ [])) × Each NoNewline front
 
 newline-alone : OneNewline (newline ∷ [])

@@ -14,7 +14,7 @@ use Rattle.file.specs.Reading.{eventAt, eventsIn}
 use Rattle.file.specs.declared.event.Event.{Event}
 use Rattle.listing.specs.Line.{ascii, rendered, eventFields, wordedFields, refusedFields}
 use Rattle.listing.specs.Laws.{Each, Field}
-use Rattle.listing.proofs.Lines.{decimal-fields, prints-fields, newline-ends}
+use Rattle.listing.proofs.Lines.{decimal-fields, prints-fields, newline-ends, OneNewline}
 use Rattle.trace.specs.Trace.{applied, fieldsOf}
 use Rattle.logs.specs.Choices.{mayBe}
 use Rattle.logs.specs.Follow.{Among, lineBy}
@@ -25,7 +25,6 @@ use Rattle.logs.specs.declared.Awaited.{Awaited}
 use Rattle.logs.specs.declared.Awaited.the-variants.{First, Event as EventAt, Nothing}
 use Rattle.logs.proofs.Choosing.{itself-may-be, lines-tell-choices, choices-once}
 use Rattle.logs.proofs.Members.{map-among, among-map, Tells, once-map, among-one, one-among, once-one}
-use Rattle.logs.proofs.Splitting.{OneNewline}
 
 -- ---- how many lines are due
 

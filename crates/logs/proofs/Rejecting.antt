@@ -15,7 +15,8 @@ use Rattle.logs.specs.Following.{begun, traceOf, Next, nexts, linesOfNex
 use Rattle.logs.specs.Laws.{Once, Rejected, RejectedThere}
 use Rattle.logs.specs.declared.Follower.{Follower}
 use Rattle.logs.proofs.Members.{map-among, among-map, each-parts}
-use Rattle.logs.proofs.Splitting.{OneNewline, line-first, lines-first, lines-only, flatten-append, text-parts, with-more}
+use Rattle.listing.proofs.Lines.{OneNewline}
+use Rattle.logs.proofs.Splitting.{line-first, lines-first, lines-only, flatten-append, text-parts, with-more}
 use Rattle.logs.proofs.Nexts.{lacking, none-due, some-due, nexts-end, nexts-once, some-next, no-next}
 use Rattle.logs.proofs.Steps.{IsOf, onto, stopped, step, stopped-nexts, stays-stopped}
 use Rattle.logs.proofs.Whole.{FollowsBy, Whole, after-line, whole-follows, follows-whole, some-follows}

@@ -14,6 +14,7 @@ use Rattle.table.proofs.Tests.{both}
 use Rattle.table.proofs.Folds.{all-at, all-of}
 use Rattle.listing.specs.Line.{newline}
 use Rattle.listing.specs.Laws.{Each}
+use Rattle.listing.proofs.Lines.{NoNewline, OneNewline}
 use Rattle.logs.specs.Lines.{linesAfter, linesOf, leftAfter, leftOf, sameBytes}
 use Rattle.logs.specs.Following.{withLine, withLines, fedBy}
 use Rattle.logs.specs.Laws.{PiecesJoin}
@@ -36,13 +37,6 @@ same-bytes a b = (
 )
 
 -- ---- lines
-
-abbrev pub NoNewline : ℕ → Type 0
-NoNewline byte = byte ≡ newline → ⊥
-
--- a line has one newline, its last byte
-abbrev pub OneNewline : List ℕ → Type 0
-OneNewline line = (front : List ℕ) × (line ≡ front ++ (newline ∷ [])) × Each NoNewline front
 
 -- bytes that are no newline come before those of the first line
 past : (before front rest : List ℕ) → Each NoNewline front

@@ -15,7 +15,8 @@ use Rattle.logs.specs.Follow.{Among}
 use Rattle.logs.specs.Lines.{linesAfter, linesOf, leftAfter, leftOf}
 use Rattle.logs.specs.Following.{awaited, Next, nexts, withLine, withLines, isNothing, isWhole}
 use Rattle.logs.specs.declared.Follower.{Follower}
-use Rattle.logs.proofs.Splitting.{NoNewline, OneNewline, line-first, no-line, line-or-none}
+use Rattle.listing.proofs.Lines.{NoNewline, OneNewline}
+use Rattle.logs.proofs.Splitting.{line-first, no-line, line-or-none}
 use Rattle.logs.proofs.Nexts.{lacking, none-due, some-due, nexts-end, some-next, no-next}
 use Rattle.logs.proofs.Steps.{IsOf, onto, stopped, step, step-onto, stays-stopped}
 

@@ -66,10 +66,10 @@ fn search_event(session: Session, number: u64, event: Event, line: &[u8]) -> Fou
     search_text(session, after, text, line)
 }
 
-// Whether it is a text, after which the session is another.
-pub(crate) fn search_text(session: Session, after: Session, text: Text, line: &[u8]) -> Found
+// Whether it is a text; the session before it is one, and after it another.
+pub(crate) fn search_text(before: Session, after: Session, text: Text, line: &[u8]) -> Found
     requires { ⌜ Within text ⌝ }
-    ensures { λ r. ⌜ r ≡ foundIf session after (now (line .entry)) (take (text .len) (text .bytes)) ⌝ }
+    ensures { λ r. ⌜ r ≡ foundIf before after (now (line .entry)) (take (text .len) (text .bytes)) ⌝ }
 {
     let bytes = text.bytes;
     let len = text.len;
@@ -81,7 +81,7 @@ pub(crate) fn search_text(session: Session, after: Session, text: Text, line: &[
     }
     Found {
         found: false,
-        session,
+        session: before,
     }
 }
 

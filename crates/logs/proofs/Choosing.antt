@@ -1,14 +1,14 @@
 -- What may stand for a turn that sends: requests of the set, the house's own choice among them, each told by its line.
 use mathlib.Core.Bool.{Bool, true, false, not, false≢true}
 use mathlib.Core.List.{List, [], _∷_}
-use mathlib.Core.Logic.{inl, inr, ⊎-elim}
+use mathlib.Core.Logic.{_⊎_, inl, inr, ⊎-elim}
 use mathlib.Core.Path.{_≡_, refl, sym, _∙_, ap, ap₂, subst}
 use Prim.Native.Nat.{ℕ, zero, suc, _+_, _-_, _*_, _≤_, _<_}
 use native.Mathlib.Omega.{arith}
 use lib.Dec.{ltb, eqb}
 use lib.ListN.{getD}
 use borrow.Author.Tests.{eqb-true, ltb-true, eq-eqb, ne-eqb, lt-ltb, le-ltb}
-use Rattle.table.specs.Fold.{if}
+use Rattle.table.specs.Fold.{if, allTo}
 use Rattle.table.proofs.Tests.{by-if, both, same-test, le-or-lt}
 use Rattle.table.proofs.Folds.{all-at, all-of}
 use Rattle.order.proofs.Orders.{alike as tied}
@@ -30,7 +30,7 @@ use Rattle.listing.proofs.Lines.{numbers-tell}
 use Rattle.trace.specs.Trace.{Outcome, called, applied, fieldsOf}
 use Rattle.logs.specs.Choices.{sends, alike, isFirst, isChoice, streamOfCell, indexOfCell, cells-max, ownTurnOf, choicesFrom, isSend, mayBe}
 use Rattle.logs.specs.Follow.{Among, lineBy}
-use Rattle.logs.specs.Laws.{SetIsSent, Once}
+use Rattle.logs.specs.Laws.{SetIsSent, AnyRequestMayStand, Once}
 
 -- a test that does not hold
 not-of : (b : Bool) → (b ≡ true → ⊥) → not b ≡ true
@@ -217,6 +217,14 @@ pub choice-parts : (s : Session) (i j : ℕ) → isChoice s i j ≡ true
 unfolding isChoice
 choice-parts s i j = both _ _
 
+-- and its own turn is among the choices
+choice-among : (s : Session) (i j : ℕ) → isChoice s i j ≡ true → Among (Event.OwnTurn (i + 1) j) (choicesFrom s 0 cells-max)
+choice-among s i j choice =
+    let own = own-sent s i j (choice-parts s i j choice .0) in
+    let fits = sendable s (own .orderly) i j (own .grounds) in
+    let (m, high, stream-is, index-is) = cell-of i j (fits .0) (fits .1) in
+    rw (stream-is, index-is) at (passes-among s 0 cells-max m (omega arith) (omega arith) (rw (stream-is, index-is) choice))
+
 -- ---- the house's own choice
 
 -- none before it in its queue is like it: in a tie the earlier is sent
@@ -252,16 +260,10 @@ unfolding applied
 house-among s n e =
     let i = chosen s in
     let j = leadingAt s i in
-    let turn = turn-sent s e .1 in
-    let fits = sendable s (turn .orderly) i j (turn .grounds) in
-    let (m, high, stream-is, index-is) = cell-of i j (fits .0) (fits .1) in
-    let choice = house-is-choice s e in
-    let passes : isChoice s (streamOfCell m) (indexOfCell m) ≡ true = ap₂ (isChoice s) stream-is index-is ∙ choice in (
-      ownTurnOf m,
-      passes-among s 0 cells-max m (omega arith) (omega arith) passes,
-      ap₂ (λ (a b : ℕ). applied s n (Event.OwnTurn (a + 1) b)) stream-is index-is
-          ∙ own-outcome s n i j (choice-parts s i j choice .0)
-          ∙ sym (sent-outcome s n Call.Turn i j (turn .is)),
+    let choice = house-is-choice s e in (
+      Event.OwnTurn (i + 1) j,
+      choice-among s i j choice,
+      own-outcome s n i j (choice-parts s i j choice .0) ∙ sym (sent-outcome s n Call.Turn i j (turn-sent s e .1 .is)),
     )
 
 -- a turn's send is a turn
@@ -333,3 +335,69 @@ lines-tell-choices s n event a b =
     (sym (ap (lineBy s n) (c .is)) ∙ lines ∙ ap (lineBy s n) (d .is)) in
     c .is ∙ ap₂ (λ (i j : ℕ). Event.OwnTurn (i + 1) j) (told .0) (told .1) ∙ sym (d .is))
     (λ other here there lines. only-among a event here ∙ sym (only-among b event there))
+
+-- ---- each request of the set
+
+-- of the numbers below n none passes a test, or there is a first that does
+abbrev noneTo : (ℕ → Bool) → ℕ → Bool
+noneTo f n = allTo (λ k. not (f k)) n
+
+abbrev Searched : (ℕ → Bool) → ℕ → Type 0
+Searched f n = (noneTo f n ≡ true) ⊎ ((k : ℕ) × (k < n) × (f k ≡ true) × (noneTo f k ≡ true))
+
+searched : (f : ℕ → Bool) (n : ℕ) → Searched f n
+unfolding allTo
+searched f zero = inl refl
+searched f (suc n) = ⊎-elim (go (f n) refl) (λ (k, l, passes, none). inr (k, omega arith, passes, none)) (searched f n)
+  where
+    go : (b : Bool) → f n ≡ b → noneTo f n ≡ true → Searched f (suc n)
+    go true passes none = inr (n, omega arith, passes, none)
+    go false fails none = inl (rw (none, fails))
+
+-- the first of the requests of a queue that are like request j: itself or an earlier one
+record Earliest (x : Stream) (j : ℕ) : Type 0 where
+  index : ℕ
+  low : index ≤ j
+  places : getD (x .places) index 0 ≡ getD (x .places) j 0
+  tags : getD (x .tags) index 0 ≡ getD (x .tags) j 0
+  first : isFirst x index ≡ true
+
+earliest : (x : Stream) (j : ℕ) → Earliest x j
+unfolding isFirst alike
+earliest x j =
+    ⊎-elim
+    (λ none. record { index = j; low = omega arith; places = refl; tags = refl; first = none })
+    (λ (k, l, is, none).
+    let same = both _ _ is in
+    let places = eqb-true _ _ (same .0) in
+    let tags = eqb-true _ _ (same .1) in
+    record { index = k; low = omega arith; places = places; tags = tags; first = simp (places, tags) none })
+    (searched (λ k. alike x k j) j)
+
+-- what may stand for a turn that sends are the choices
+send-may-be : (s : Session) → sends s Call.Turn ≡ true → mayBe s Event.Turn ≡ choicesFrom s 0 cells-max
+unfolding mayBe if
+send-may-be s e = rw e
+
+-- so they are own turns of requests of the set; and the first of those alike to a request of the set is one of them, and has its line
+pub any-request-may-stand : AnyRequestMayStand
+unfolding isChoice
+any-request-may-stand s e = (
+  λ event among.
+      let c = choices-pass s 0 cells-max event (rw (send-may-be s e) at among) in
+      let i = streamOfCell (c .cell) in
+      let j = indexOfCell (c .cell) in
+      let g = own-sent s i j (choice-parts s i j (c .passes) .0) .grounds in
+      record { stream = i; index = j; own-turn = c .is; exists = g .exists; of-the-set = lt-ltb j (filledAt s i) (g .inSet) },
+  λ i j exists among.
+      let first = earliest (streamAt s i) j in
+      let k = first .index in
+      let high : j < filledAt s i = ltb-true j (filledAt s i) among in
+      let own : (m : ℕ) → m ≤ j → sends s (Call.OwnTurn (i + 1) m) ≡ true = λ m l. rw (set-is-sent s e i m, lt-ltb i (s .count) exists, lt-ltb m (filledAt s i) (omega arith)) in
+      let own-k = own k (first .low) in (
+        k,
+        first .low,
+        rw (send-may-be s e) (choice-among s i k (rw (own-k, first .first))),
+        λ n. rw (own-outcome s n i k own-k, own-outcome s n i j (own j (omega arith)), first .places, first .tags),
+      ),
+)

@@ -3,7 +3,7 @@ use mathlib.Core.Bool.{true, false, _&&_}
 use mathlib.Core.List.{List, [], _∷_, _++_}
 use mathlib.Core.Logic.{_⊎_, _↔_}
 use mathlib.Core.Path.{_≡_}
-use Prim.Native.Nat.{ℕ, suc, _+_, _-_}
+use Prim.Native.Nat.{ℕ, suc, _+_, _-_, _≤_, _<_}
 use lib.Dec.{ltb}
 use lib.ListN.{length, drop}
 use Rattle.calls.specs.declared.Call.{Call}
@@ -17,8 +17,8 @@ use Rattle.file.specs.declared.event.Event.{Event}
 use Rattle.listing.specs.Line.{rendered, headerFields}
 use Rattle.listing.specs.Laws.{Each}
 use Rattle.trace.specs.Trace.{fieldsOf, listingOf}
-use Rattle.logs.specs.Choices.{sends}
-use Rattle.logs.specs.Follow.{Among, opens, sessionIn, Follows}
+use Rattle.logs.specs.Choices.{sends, mayBe}
+use Rattle.logs.specs.Follow.{Among, lineBy, opens, sessionIn, Follows}
 use Rattle.logs.specs.Lines.{linesOf, leftOf}
 use Rattle.logs.specs.Following.{withLines, fedBy, accepted, rejected, checkedOf}
 use Rattle.logs.specs.declared.Follower.{Follower}
@@ -35,6 +35,23 @@ AcceptedFollows = (file listing : List ℕ) → (checkedOf file listing ≡ acce
 abbrev pub SetIsSent : Type 0
 SetIsSent =
     (s : Session) → sends s Call.Turn ≡ true → (i j : ℕ) → sends s (Call.OwnTurn (i + 1) j) ≡ (ltb i (s .count) && inSet s i j)
+
+-- the own turn of a request of the set; its stream and the request are counted from 0
+pub record OfTheSet (s : Session) (event : Event) : Type 0 where
+  pub stream : ℕ
+  pub index : ℕ
+  pub own-turn : event ≡ Event.OwnTurn (stream + 1) index
+  pub exists : stream < s .count
+  pub of-the-set : inSet s stream index ≡ true
+
+-- "a turn's send may be any request in the set": what may stand for a turn that sends are own turns of requests of the set, and each request of the set has its line among theirs, whatever number the line has. It is there by the own turn of the request or of an earlier one: "two queued requests of one stream with equal place and tag are taken in order of arrival".
+abbrev pub AnyRequestMayStand : Type 0
+AnyRequestMayStand =
+    (s : Session) → sends s Call.Turn ≡ true
+    → ((event : Event) → Among event (mayBe s Event.Turn) → OfTheSet s event)
+    × ((i j : ℕ) → i < s .count → inSet s i j ≡ true
+    → (k : ℕ) × (k ≤ j) × Among (Event.OwnTurn (i + 1) k) (mayBe s Event.Turn)
+    × ((n : ℕ) → lineBy s n (Event.OwnTurn (i + 1) k) ≡ lineBy s n (Event.OwnTurn (i + 1) j)))
 
 -- no element of a list stands in it again
 module _ {A : Type 0} where

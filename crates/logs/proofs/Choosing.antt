@@ -7,7 +7,7 @@ use Prim.Native.Nat.{ℕ, zero, suc, _+_, _-_, _*_, _≤_, _<_}
 use native.Mathlib.Omega.{arith}
 use lib.Dec.{ltb, eqb}
 use lib.ListN.{getD}
-use borrow.Author.Tests.{eqb-true, ltb-true, eq-eqb, ne-eqb, lt-ltb, le-ltb}
+use borrow.Author.Tests.{eqb-true, ltb-true, eq-eqb, ne-eqb, lt-ltb, le-ltb, not-true}
 use Rattle.table.specs.Fold.{if, allTo}
 use Rattle.table.proofs.Tests.{by-if, both, same-test, le-or-lt}
 use Rattle.table.proofs.Folds.{all-at, all-of}
@@ -31,6 +31,7 @@ use Rattle.trace.specs.Trace.{Outcome, called, applied, fieldsOf}
 use Rattle.logs.specs.Choices.{sends, alike, isFirst, isChoice, streamOfCell, indexOfCell, cells-max, ownTurnOf, choicesFrom, isSend, mayBe}
 use Rattle.logs.specs.Follow.{Among, lineBy}
 use Rattle.logs.specs.Laws.{SetIsSent, AnyRequestMayStand, Once}
+use Rattle.logs.proofs.Members.{among-one, once-one}
 
 -- a test that does not hold
 not-of : (b : Bool) → (b ≡ true → ⊥) → not b ≡ true
@@ -190,7 +191,7 @@ choices-stand-once s m (suc left) =
 pub choices-once : (s : Session) (event : Event) → Once (mayBe s event)
 unfolding mayBe Once Among
 choices-once s event =
-    by-if Once (isSend s event) _ _ (λ sending. choices-stand-once s 0 cells-max) (λ other. (λ none. none, tt))
+    by-if Once (isSend s event) _ _ (λ sending. choices-stand-once s 0 cells-max) (λ other. once-one event)
 
 -- ---- what a send comes to
 
@@ -317,11 +318,6 @@ choice-told s n i j a b one two lines =
     let Told : ℕ → Type 0 = λ m. isFirst (streamAt s m) b ≡ true → placeAt s i j ≡ placeAt s m b → tagAt s i j ≡ tagAt s m b → j ≡ b in
     (same, subst Told same (first-alike (streamAt s i) j b first-one) first-two places tags)
 
--- an element of a list of one
-pub only-among : {A : Type 0} (x y : A) → Among x (y ∷ []) → x ≡ y
-unfolding Among
-only-among x y = ⊎-elim (λ is. is) absurd
-
 -- two that may stand for an event and have one line are one
 pub lines-tell-choices : (s : Session) (n : ℕ) (event a b : Event) → Among a (mayBe s event) → Among b (mayBe s event)
     → lineBy s n a ≡ lineBy s n b → a ≡ b
@@ -334,7 +330,7 @@ lines-tell-choices s n event a b =
     let told = choice-told s n (streamOfCell (c .cell)) (indexOfCell (c .cell)) (streamOfCell (d .cell)) (indexOfCell (d .cell)) (c .passes) (d .passes)
     (sym (ap (lineBy s n) (c .is)) ∙ lines ∙ ap (lineBy s n) (d .is)) in
     c .is ∙ ap₂ (λ (i j : ℕ). Event.OwnTurn (i + 1) j) (told .0) (told .1) ∙ sym (d .is))
-    (λ other here there lines. only-among a event here ∙ sym (only-among b event there))
+    (λ other here there lines. among-one a event here ∙ sym (among-one b event there))
 
 -- ---- each request of the set
 
@@ -381,14 +377,21 @@ send-may-be s e = rw e
 
 -- so they are own turns of requests of the set; and the first of those alike to a request of the set is one of them, and has its line
 pub any-request-may-stand : AnyRequestMayStand
-unfolding isChoice
+unfolding isChoice isFirst
 any-request-may-stand s e = (
   λ event among.
       let c = choices-pass s 0 cells-max event (rw (send-may-be s e) at among) in
       let i = streamOfCell (c .cell) in
       let j = indexOfCell (c .cell) in
       let g = own-sent s i j (choice-parts s i j (c .passes) .0) .grounds in
-      record { stream = i; index = j; own-turn = c .is; exists = g .exists; of-the-set = lt-ltb j (filledAt s i) (g .inSet) },
+      record {
+        stream = i;
+        index = j;
+        own-turn = c .is;
+        exists = g .exists;
+        of-the-set = lt-ltb j (filledAt s i) (g .inSet);
+        in-order = λ k l. not-true _ (all-at (λ m. not (alike (streamAt s i) m j)) j (choice-parts s i j (c .passes) .1) k l);
+      },
   λ i j exists among.
       let first = earliest (streamAt s i) j in
       let k = first .index in

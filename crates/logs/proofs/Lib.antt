@@ -1,9 +1,9 @@
 pub mod Files
 pub mod Looking
 pub mod Feeding
+pub mod Members
 pub mod Choosing
 pub mod Promised
-pub mod Members
 pub mod Splitting
 pub mod Nexts
 pub mod Steps

@@ -25,7 +25,8 @@ use Rattle.trace.specs.Trace.{Outcome, called, applied, fieldsOf}
 use Rattle.logs.specs.Choices.{sends, streamOfCell, indexOfCell, cells-max, isSend, mayBe}
 use Rattle.logs.specs.Follow.{Among, FollowsFrom, sessionIn}
 use Rattle.logs.specs.Laws.{StandsFor, StandFor, printed, FollowedIsKept}
-use Rattle.logs.proofs.Choosing.{choices-pass, choice-parts, send-is-turn, only-among}
+use Rattle.logs.proofs.Choosing.{choices-pass, choice-parts, send-is-turn}
+use Rattle.logs.proofs.Members.{among-one}
 
 -- ---- one event
 
@@ -63,7 +64,7 @@ made s event other e =
     let j = indexOfCell (c .cell) in
     subst (Made s event) (sym (c .is))
     (send-is-turn s event sending (λ z. Made s z (Event.OwnTurn (i + 1) j)) (own-made s (i + 1) j (choice-parts s i j (c .passes) .0))))
-    (λ itself among. subst (Made s event) (sym (only-among other event among)) (itself-made s event e itself))
+    (λ itself among. subst (Made s event) (sym (among-one other event among)) (itself-made s event e itself))
 
 -- ---- all events
 

@@ -7,7 +7,7 @@ use Prim.Native.Nat.{ℕ, suc, _+_, _-_, _≤_, _<_}
 use lib.Dec.{ltb}
 use lib.ListN.{length, drop}
 use Rattle.calls.specs.declared.Call.{Call}
-use Rattle.session.specs.Session.{inSet}
+use Rattle.session.specs.Session.{streamAt, inSet}
 use Rattle.session.specs.Calls.{answerTo, after, Line, linesFrom}
 use Rattle.session.specs.History.{historyOf}
 use Rattle.session.specs.Promise.{Always, OnTime}
@@ -17,7 +17,7 @@ use Rattle.file.specs.declared.event.Event.{Event}
 use Rattle.listing.specs.Line.{rendered, headerFields}
 use Rattle.listing.specs.Laws.{Each}
 use Rattle.trace.specs.Trace.{fieldsOf, listingOf}
-use Rattle.logs.specs.Choices.{sends, mayBe}
+use Rattle.logs.specs.Choices.{sends, alike, mayBe}
 use Rattle.logs.specs.Follow.{Among, lineBy, opens, sessionIn, Follows}
 use Rattle.logs.specs.Lines.{linesOf, leftOf}
 use Rattle.logs.specs.Following.{withLines, fedBy, accepted, rejected, checkedOf}
@@ -43,6 +43,8 @@ pub record OfTheSet (s : Session) (event : Event) : Type 0 where
   pub own-turn : event ≡ Event.OwnTurn (stream + 1) index
   pub exists : stream < s .count
   pub of-the-set : inSet s stream index ≡ true
+  -- no earlier request of its queue has its place and its tag
+  pub in-order : (k : ℕ) → k < index → alike (streamAt s stream) k index ≡ false
 
 -- "a turn's send may be any request in the set": what may stand for a turn that sends are own turns of requests of the set, and each request of the set has its line among theirs, whatever number the line has. It is there by the own turn of the request or of an earlier one: "two queued requests of one stream with equal place and tag are taken in order of arrival".
 abbrev pub AnyRequestMayStand : Type 0

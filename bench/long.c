@@ -1,6 +1,6 @@
 // Writes the trace of a lively session of eight streams to standard output: FILE_EVENTS events of all calls.
 // A session of the second engine is kept at hand, so that most calls are ones that a recorder would make.
-#include "engine.h"
+#include "../second/engine.h"
 
 #include <stdio.h>
 #include <stdlib.h>

@@ -249,10 +249,8 @@ house-is-choice s e =
     let j = leadingAt s i in
     let turn = turn-sent s e .1 in
     let g = turn .grounds in
-    rw (
-      set-sends s (of-sound s (turn .orderly)) (g .idle) i j (g .exists) (g .inSet),
-      all-of (λ k. not (alike (streamAt s i) k j)) j (λ k l. not-of _ (none-alike s e k l)),
-    )
+    let first : isFirst (streamAt s i) j ≡ true = all-of (λ k. not (alike (streamAt s i) k j)) j (λ k l. not-of _ (none-alike s e k l)) in
+    rw (set-sends s (of-sound s (turn .orderly)) (g .idle) i j (g .exists) (g .inSet), first)
 
 -- and its own turn is among the choices, and comes to what the turn does
 house-among : (s : Session) (n : ℕ) → sends s Call.Turn ≡ true

@@ -47,7 +47,7 @@ begun file = if (isLaidOut file) (openedAt (tableIn file) (orderIn file)) (refus
 unfoldable pub traceOf : List ℕ → List ℕ
 traceOf file = if (isLaidOut file) (traceIn file) []
 
--- the line that is due, "the header is line 1": the first, which is the header or the refusal; that of an event, counted from 0; or none
+-- the line that is due, where "the header is line 1" and that of the first event line 2: the first, which is the header or the refusal; that of an event, counted from 0; or none
 unfoldable pub awaited : Follower → List ℕ → Awaited
 awaited f trace =
     if (leb (f .due) 1) First

@@ -129,7 +129,7 @@ impl Follower {
         }
     }
 
-    // Which line is due.
+    // Which line is due: the header is line 1, and that of the first event line 2.
     pub(crate) fn awaited(self, trace: &[u8]) -> Awaited
         ensures { λ r. ⌜ r ≡ awaited self (now (trace .entry)) ⌝ }
     {

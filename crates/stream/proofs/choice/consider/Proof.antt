@@ -2,12 +2,25 @@
 use borrow.Author.Tests.{eq-eqb, ne-eqb}
 use Rattle.table.specs.Fold.{if}
 use Rattle.stream.specs.Stream.{filled}
-use Rattle.stream.specs.Search.{considered}
+use Rattle.order.specs.Order.{goesBefore}
+use Rattle.stream.specs.Search.{lead, considered}
+use Rattle.stream.specs.declared.choice.Pick.{Pick}
+use Rattle.stream.specs.declared.Stream.{Stream}
 use native.Mathlib.Omega.{arith}
-use mathlib.Core.Path.{sym, _∙_}
+use mathlib.Core.Bool.{Bool, true, false, not, _&&_, _||_}
+use mathlib.Core.Path.{_≡_, sym, _∙_}
+use Prim.Native.Nat.{ℕ}
+use lib.Dec.{ltb, eqb}
 use borrow.Author.Needs.{needs}
 use Rattle.stream.proofs.choice.consider.Statement.{statement}
 use Rattle.stream.proofs.choice.consider.Tie as tie
+
+-- whether the best so far stays: it was found, and the request of stream x neither has an earlier deadline nor goes before it
+abbrev stays : ℕ → ℕ → (ℕ → ℕ → Bool) → Pick → Stream → Bool
+stays worst h before best x =
+    best .found
+    && not (ltb (x .deadline .0) (best .deadline .0)
+    || (eqb (x .deadline .0) (best .deadline .0) && before (lead before (x .places) (filled worst h x) .place) (best .place)))
 
 filled-requires : tie.Need-filled-requires
 filled-requires c κs = search needs
@@ -37,7 +50,9 @@ returns-2 c =
     let led = compared .before .before in
     let some = led .before .before in
     let slots = some .before .filled .ensures in
-    let test = rw (here .goes-before .ensures, here .before .is .ensures, compared .is-after .ensures, led .leading .ensures, slots) at (c .if2 .taken) in
+    let a = some .before .before .args in
+    let test : stays (a .worst) (a .h .0) (goesBefore (a .order) (a .head)) (a .best) (a .x) ≡ true =
+    rw (here .goes-before .ensures, here .before .is .ensures, compared .is-after .ensures, led .leading .ensures, slots) at (c .if2 .taken) in
     rw (ne-eqb _ _ (λ e. some .if1 .left (slots ∙ e)), test)
 
 returns-3 : tie.Need-returns-3
@@ -48,7 +63,9 @@ returns-3 c =
     let led = compared .before .before in
     let some = led .before .before in
     let slots = some .before .filled .ensures in
-    let test = rw (here .goes-before .ensures, here .before .is .ensures, compared .is-after .ensures, led .leading .ensures, slots) at (c .if2 .left) in
+    let a = some .before .before .args in
+    let test : stays (a .worst) (a .h .0) (goesBefore (a .order) (a .head)) (a .best) (a .x) ≡ false =
+    rw (here .goes-before .ensures, here .before .is .ensures, compared .is-after .ensures, led .leading .ensures, slots) at (c .if2 .left) in
     rw (led .leading .ensures, slots, ne-eqb _ _ (λ e. some .if1 .left (slots ∙ e)), test)
 
 pub consider-spec : {M : Type 1} → statement M

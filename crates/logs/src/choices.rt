@@ -66,7 +66,7 @@ fn search_event(session: Session, number: u64, event: Event, line: &[u8]) -> Fou
     search_text(session, after, text, line)
 }
 
-// Whether it is a text; the session before it is one, and after it another.
+// Whether it is that of a text, with the session before it and the one after it.
 pub(crate) fn search_text(before: Session, after: Session, text: Text, line: &[u8]) -> Found
     requires { ⌜ Within text ⌝ }
     ensures { λ r. ⌜ r ≡ foundIf before after (now (line .entry)) (take (text .len) (text .bytes)) ⌝ }
@@ -130,7 +130,7 @@ fn own_turn_of(m: usize) -> Event
     }
 }
 
-// Whether a request, and its stream, counted from 0, may be sent: it is in the set, and the first of its queue with its place and tag. What is not queued is not looked at further.
+// Whether request j of stream i, both counted from 0, may be sent: it is in the set, and the first of its queue with its place and tag. What is not queued is not looked at further.
 fn is_choice(session: Session, i: usize, j: usize) -> bool
     requires { ⌜ (i < streams-max) × (j < queue-max) ⌝ }
     ensures { λ r. ⌜ r ≡ isChoice session i j ⌝ }

@@ -6,7 +6,7 @@ use Rattle.session.proofs.Session.Laws as S′
 use Rattle.calls.proofs.Reply as Y
 use Rattle.calls.proofs.Reply.Laws as Y′
 use Rattle.session.proofs.Answer as A
-use Rattle.session.proofs.Lending.{Answering}
+use Rattle.table.proofs.Lending.{Answering}
 
 abbrev pub by-session : Answering
 by-session =

@@ -32,6 +32,5 @@ pub mod Requests
 pub mod HandedBack
 pub mod Untagged
 pub mod PromiseMet
-pub mod Lending
 pub mod Answering
 pub mod Dues

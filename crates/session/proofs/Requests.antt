@@ -7,7 +7,8 @@ use native.Mathlib.Numerals.{add-one}
 use native.Mathlib.Omega.{arith}
 use lib.ListN.{length, getD, take, drop, set}
 use lib.Seq.{length-take-le, take-append-le, take-suc-set, getD-take}
-use Rattle.stream.specs.Stream.{queue-max, closedUp, arrived, without}
+use Rattle.table.specs.Fold.{closedUp}
+use Rattle.stream.specs.Stream.{queue-max, arrived, without}
 use Rattle.stream.specs.declared.Stream.{Stream}
 use Rattle.stream.proofs.Orderly.{Queue}
 use Rattle.session.specs.Tags.{Request, leaving, requests, queuedIn}
@@ -72,7 +73,7 @@ module _ (i : ℕ) (x : Stream) (q : Queue (x .queued) (x .places) (x .tags)) wh
     left =
         let n = x .queued - 1 in
         let all : suc n ≡ x .queued = omega (arith, l) in
-        let fewer : (row : List ℕ) → length row ≡ queue-max → take n (closedUp j row) ≡ leaving j (take (x .queued) row) =
+        let fewer : (row : List ℕ) → length row ≡ queue-max → take n (closedUp 0 j row) ≡ leaving j (take (x .queued) row) =
         λ row sixteen. closes-up 0 j n row (omega (arith, l)) (omega (arith, l, sixteen, q .places .queued-high)) ∙ ap (λ (m : ℕ). leaving j (take m row)) all in
         ap₂ (requests (i + 1)) (fewer (x .places) (q .places .sixteen)) (fewer (x .tags) (q .tags .sixteen))
         ∙ leave (i + 1) j (take (x .queued) (x .places)) (take (x .queued) (x .tags))

@@ -1,6 +1,6 @@
 -- Images and what is told of them as the law of a thin call takes them.
 use denote.Struct.Laws as LL
-use Rattle.session.proofs.Lending.{Answering}
+use Rattle.table.proofs.Lending.{Answering}
 use Rattle.shelf.specs.declared.images.Answered.{Answered}
 use Rattle.shelf.proofs.images.Image as S
 use Rattle.shelf.proofs.images.Image.Laws as S′

@@ -1,5 +1,4 @@
 pub mod Slots
-pub mod Queue
 pub mod Orderly
 pub mod Carried
 pub mod Unused

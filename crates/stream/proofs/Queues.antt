@@ -6,9 +6,10 @@ use Prim.Native.Nat.{ℕ, suc, _+_, _-_, _≤_, _<_}
 use native.Mathlib.Omega.{arith}
 use lib.ListN.{length, getD, set, length-set, List·getD-eq-default}
 use lib.Seq.{getD-set-other}
+use Rattle.table.specs.Fold.{closedUp}
 use Rattle.table.proofs.Tests.{le-or-lt}
 use Rattle.table.proofs.Lists.{length-closed-up, getD-closed-up}
-use Rattle.stream.specs.Stream.{queue-max, arrived, closedUp, without}
+use Rattle.stream.specs.Stream.{queue-max, arrived, without}
 use Rattle.stream.specs.declared.Stream.{Stream}
 use Rattle.stream.proofs.Orderly.{Row, Queue}
 
@@ -30,7 +31,7 @@ past-requests queued cells q j past =
     (le-or-lt queue-max j)
 
 -- what leaves sets the last cell free
-row-closes-up : (j queued : ℕ) (cells : List ℕ) → Row queued cells → j < queued → Row (queued - 1) (closedUp j cells)
+row-closes-up : (j queued : ℕ) (cells : List ℕ) → Row queued cells → j < queued → Row (queued - 1) (closedUp 0 j cells)
 row-closes-up j queued cells q l =
     let cell : j < length cells = omega (arith, q .sixteen, q .queued-high) in
     record {

@@ -5,7 +5,7 @@ use mathlib.Core.List.{List, [], _∷_, _++_}
 use Prim.Native.Nat.{ℕ, suc, _+_, _-_, _*_, _/_, min}
 use lib.ListN.{length, getD, set, take, drop, replicate}
 use lib.Dec.{leb, ltb, eqb}
-use Rattle.table.specs.Fold.{if, allTo}
+use Rattle.table.specs.Fold.{if, closedUp, allTo}
 use Rattle.table.specs.Admission.{grantedOf}
 use Rattle.time.specs.Time.{session-end, duration-max, moment, diskTime}
 use Rattle.time.specs.Exact.{Fraction}
@@ -86,11 +86,8 @@ unfoldable pub arrived : ℕ → ℕ → Stream → Stream
 arrived place tag x = withQueue x (x .queued + 1) (set (x .places) (x .queued) place) (set (x .tags) (x .queued) tag)
 
 -- "The request leaves its queue, the others keep their order": places and tags close up over one index, and the cell set free is 0
-abbrev pub closedUp : ℕ → List ℕ → List ℕ
-closedUp j cells = take j cells ++ (drop (suc j) cells ++ (0 ∷ []))
-
 unfoldable pub without : ℕ → Stream → Stream
-without j x = withQueue x (x .queued - 1) (closedUp j (x .places)) (closedUp j (x .tags))
+without j x = withQueue x (x .queued - 1) (closedUp 0 j (x .places)) (closedUp 0 j (x .tags))
 
 -- "clock and charge of the stream served both grow by a"
 unfoldable pub charged : ℕ → Stream → Stream

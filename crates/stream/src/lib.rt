@@ -6,7 +6,8 @@ mod sums;
 
 ghost use mathlib.Core.Path.{_≡_};
 ghost use Prim.Native.Nat.{_-_, _≤_, _<_};
-ghost use Rattle.stream.specs.Stream.{queue-max, slots, filled, soundQueue, soundCells, zeroJob, unusedStream, arrived, closedUp, without, charged, lapsed, closed, moved, closesPastEnd, freshStream};
+ghost use Rattle.stream.specs.Stream.{queue-max, slots, filled, soundQueue, soundCells, zeroJob, unusedStream, arrived, without, charged, lapsed, closed, moved, closesPastEnd, freshStream};
+ghost use Rattle.table.specs.Fold.{closedUp};
 ghost use Rattle.table.specs.Ranges.{worst-max, period-max};
 ghost use Rattle.table.specs.Admission.{grantedOf};
 ghost use Rattle.time.specs.Time.{session-end};
@@ -327,7 +328,7 @@ fn queue_is_sound(
 // The rows of a queue without the request at j: those behind it close up.
 fn closed_up(places: [u64; Stream::QUEUE_MAX], tags: [u32; Stream::QUEUE_MAX], j: usize) -> Rows
     requires { ⌜ j < queue-max ⌝ }
-    ensures { λ r. ⌜ (r .places ≡ closedUp j places) × (r .tags ≡ closedUp j tags) ⌝ }
+    ensures { λ r. ⌜ (r .places ≡ closedUp 0 j places) × (r .tags ≡ closedUp 0 j tags) ⌝ }
 {
     let mut places_left = places;
     let mut tags_left = tags;

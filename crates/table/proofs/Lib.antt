@@ -11,5 +11,6 @@ pub mod Paddings
 pub mod LentTables
 pub mod Parameters
 pub mod Taking
+pub mod Lending
 pub mod Loops
 pub mod Determined

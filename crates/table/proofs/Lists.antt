@@ -6,9 +6,9 @@ use Prim.Native.Nat.{ℕ, zero, suc, _+_, _-_, _≤_, _<_}
 use native.Mathlib.Nat.{not-suc-le-zero}
 use native.Mathlib.Numerals.{add-one}
 use native.Mathlib.Omega.{arith}
-use lib.ListN.{length, getD, take, drop, set, length-append, length-take, length-drop, length-set, List·getD-append, List·getD-map}
-use lib.Seq.{length-take-le, take-all, take-suc, take-suc-set, getD-set-same, getD-set-other, map-set-same, getD-drop, getD-at, getD-append-add}
-use Rattle.table.specs.Fold.{listTo}
+use lib.ListN.{length, getD, take, drop, set, length-append, length-take, length-drop, length-set, List·getD-append, List·getD-map, List·getD-eq-default}
+use lib.Seq.{length-take-le, take-at, take-all, take-suc, take-suc-set, getD-set-same, getD-set-other, map-set-same, getD-drop, getD-at, getD-append-add}
+use Rattle.table.specs.Fold.{closedUp, listTo}
 use Rattle.table.proofs.Tests.{le-or-lt}
 use Rattle.table.proofs.Folds.{at-or-below}
 
@@ -88,10 +88,7 @@ getD-padded (x ∷ xs) d (suc n) = getD-padded xs d n
 
 -- a list that loses the element at j, and gets the default at its end
 module _ {A : Type 0} (xs : List A) (d : A) (j : ℕ) (l : j < length xs) where
-  abbrev closed-up : List A
-  closed-up = take j xs ++ (drop (suc j) xs ++ (d ∷ []))
-
-  pub length-closed-up : length closed-up ≡ length xs
+  pub length-closed-up : length (closedUp d j xs) ≡ length xs
   length-closed-up =
       rw (
         length-append (take j xs) (drop (suc j) xs ++ (d ∷ [])),
@@ -102,12 +99,12 @@ module _ {A : Type 0} (xs : List A) (d : A) (j : ℕ) (l : j < length xs) where
       (omega arith)
 
   -- from j on the elements stand one place lower
-  pub getD-closed-up : (k : ℕ) → j ≤ k → getD closed-up k d ≡ getD xs (suc k) d
+  pub getD-closed-up : (k : ℕ) → j ≤ k → getD (closedUp d j xs) k d ≡ getD xs (suc k) d
   getD-closed-up k le =
       let n = k - j in
       let here : k ≡ length (take j xs) + n = omega (arith, length-take-le j xs (omega arith)) in
       let there : suc j + n ≡ suc k = omega arith in
-      ap (λ m. getD closed-up m d) here
+      ap (λ m. getD (closedUp d j xs) m d) here
       ∙ getD-append-add (take j xs) (drop (suc j) xs ++ (d ∷ [])) n d
       ∙ getD-padded (drop (suc j) xs) d n
       ∙ getD-drop (suc j) xs n d
@@ -127,3 +124,39 @@ module _ {A B : Type 0} (f : A → B) (xs : List A) (d : A) where
 -- a list, by its indices
 pub relisted : {A : Type 0} (xs : List A) (d : A) (n : ℕ) → length xs ≡ n → listTo (λ i. getD xs i d) n ≡ xs
 relisted xs d n e = mapped (λ x. x) xs d n e ∙ map-id xs
+
+-- a row of cells closes up over the one at j, cell by cell
+module _ {A : Type 0} (row : List A) (empty : A) (j last : ℕ) (cells : length row ≡ suc last) (hj : j < suc last) where
+  -- what it has in a cell afterwards
+  abbrev closedCell : ℕ → A
+  closedCell x = getD (closedUp empty j row) x empty
+
+  long : length (closedUp empty j row) ≡ suc last
+  long = length-closed-up row empty j (omega (arith, cells)) ∙ cells
+
+  -- the cells before j are as they were
+  pub closing-starts : Filled closedCell row j (suc last)
+  closing-starts =
+      record {
+        cells = cells;
+        front =
+            sym
+            (front-mapped (λ (x : A). x) (closedUp empty j row) empty j (omega (arith, long))
+            ∙ map-id (take j (closedUp empty j row))
+            ∙ take-at (take j row) (drop (suc j) row ++ (empty ∷ [])) j (length-take-le j row (omega (arith, cells))));
+      }
+
+  -- each next cell takes what stood behind it
+  pub closing-goes-on : (left : List A) (i : ℕ) → j ≤ i → i < last → Filled closedCell left i (suc last)
+      → Filled closedCell (set left i (getD row (i + 1) empty)) (i + 1) (suc last)
+  closing-goes-on left i le l q =
+      let behind : closedCell i ≡ getD row (i + 1) empty = getD-closed-up row empty j (omega (arith, cells)) i le ∙ ap (λ (n : ℕ). getD row n empty) (sym (add-one i)) in
+      subst (λ (v : A). Filled closedCell (set left i v) (i + 1) (suc last)) behind (filled-more closedCell left i (suc last) (omega arith) q)
+
+  -- and the last is empty
+  pub closing-ends : (left : List A) → Filled closedCell left last (suc last) → set left last empty ≡ closedUp empty j row
+  closing-ends left q =
+      let free : closedCell last ≡ empty = getD-closed-up row empty j (omega (arith, cells)) last (omega arith) ∙ List·getD-eq-default row empty {n = suc last} (omega (arith, cells)) in
+      subst (λ (v : A). set left last v ≡ closedUp empty j row) free
+      (filled-all closedCell (set left last (closedCell last)) (suc last) (subst (λ (m : ℕ). Filled closedCell (set left last (closedCell last)) m (suc last)) (add-one last) (filled-more closedCell left last (suc last) (omega arith) q))
+      ∙ relisted (closedUp empty j row) empty (suc last) long)

@@ -59,13 +59,16 @@ smallestPeriod t = smallestTo (periodAt t) (t .count)
 unfoldable pub loadOf : Table → ℕ
 loadOf t = sharesOf t + t .worst * (t .span / smallestPeriod t)
 
--- 1 "no stream, or more than 8", 2 "W outside its range", 3 "H outside its range", 4 "k above 3"
+-- 2 "W outside its range", 3 "H outside its range", 4 "k above 3"
+abbrev pub rangesRefusal : ℕ → ℕ → ℕ → ℕ
+rangesRefusal worst span k =
+    given (outside worst-min worst-max worst) 2
+    or-next given (outside span-min span-max span) 3
+    or-next given (ltb padding-max k) 4
+
+-- and before them 1 "no stream, or more than 8"
 unfoldable pub numbersRefusal : Table → ℕ
-numbersRefusal t =
-    given (outside 1 streams-max (t .count)) 1
-    or-next given (outside worst-min worst-max (t .worst)) 2
-    or-next given (outside span-min span-max (t .span)) 3
-    or-next given (ltb padding-max (t .padding)) 4
+numbersRefusal t = given (outside 1 streams-max (t .count)) 1 or-next rangesRefusal (t .worst) (t .span) (t .padding)
 
 -- of a stream with reserved time e and period p: 5 "p outside its range or not dividing H", 6 "e = 0 or g > p"
 unfoldable pub streamRefusal : ℕ → ℕ → ℕ → ℕ → ℕ → ℕ
@@ -84,9 +87,12 @@ streamsRefusal t = firstTo (streamRefusalAt t) (t .count)
 unfoldable pub admissionOf : Table → ℕ
 admissionOf t = numbersRefusal t or-next streamsRefusal t or-next given (ltb (t .span) (loadOf t)) 7
 
--- 1 to 6 of these, and the load where it is judged: 0 where one of them applies
+-- 1 to 6 of these, and the shares and the load where they are judged: 0 where one of them applies
 unfoldable pub partsRefusal : Table → ℕ
 partsRefusal t = numbersRefusal t or-next streamsRefusal t
+
+unfoldable pub judgedShares : Table → ℕ
+judgedShares t = if (eqb (partsRefusal t) 0) (sharesOf t) 0
 
 unfoldable pub judgedLoad : Table → ℕ
 judgedLoad t = if (eqb (partsRefusal t) 0) (loadOf t) 0

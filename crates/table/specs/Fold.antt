@@ -1,12 +1,17 @@
--- A choice by a test, and folds over the streams of a table or a session, which are counted from 0: each goes up to a count, and each is written once, here.
+-- A choice by a test, cells that close up, and folds over the streams of a table or a session, which are counted from 0: each goes up to a count, and each is written once, here.
 use mathlib.Core.Bool.{Bool, true, false, _&&_, _||_}
 use mathlib.Core.List.{List, [], _∷_, _++_}
 use Prim.Native.Nat.{ℕ, zero, suc, _+_, min, max}
+use lib.ListN.{take, drop}
 
 module _ {A : Type 0} where
   unfoldable pub if : Bool → A → A → A
   if true x y = x
   if false x y = y
+
+  -- cells that close up over the one at j, where the last, which is set free, is empty then
+  abbrev pub closedUp : A → ℕ → List A → List A
+  closedUp empty j cells = take j cells ++ (drop (suc j) cells ++ (empty ∷ []))
 
 -- f 0 + .. + f (n - 1)
 unfoldable pub sumTo : (ℕ → ℕ) → ℕ → ℕ

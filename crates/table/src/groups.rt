@@ -1,19 +1,43 @@
 // The load by groups of streams with one period: the span is divided once for each distinct period.
 // Loops go over all eight places, since the compiler writes out a loop of a fixed length; one over the count takes more instructions.
 ghost use mathlib.Core.Path.{_≡_};
-ghost use Prim.Native.Nat.{max, _≤_, _<_};
+ghost use Prim.Native.Nat.{max, _/_, _≤_, _<_};
 ghost use lib.ListN.{getD};
 ghost use Rattle.table.specs.Fold.{listTo};
 ghost use Rattle.table.specs.Ranges.{streams-max};
-ghost use Rattle.table.specs.Admission.{numbersRefusal, streamsRefusal};
-ghost use Rattle.table.specs.Groups.{firstWith, groupAt, groupedLoad};
+ghost use Rattle.table.specs.Admission.{smallestPeriod, numbersRefusal, streamsRefusal};
+ghost use Rattle.table.specs.Groups.{firstWith, groupAt, groupedShares, groupedLoad};
 use crate::Table;
 use crate::granted;
 
-// Each group's budgets times its quotient, and W times the quotient of the smallest period, which is the largest.
+// The sum of the groups' shares, and the largest of their quotients.
+struct Sums {
+    shares: u64,
+    largest: u64,
+}
+
+// W times the quotient of the smallest period, which is the largest, beside the shares.
 pub(crate) fn grouped_load(t: Table) -> u64
     requires { ⌜ (numbersRefusal t ≡ 0) × (streamsRefusal t ≡ 0) ⌝ }
     ensures { λ r. ⌜ r ≡ groupedLoad t ⌝ }
+{
+    let sums = add_up(t);
+    sums.shares + t.worst as u64 * sums.largest
+}
+
+// The shares alone.
+pub(crate) fn grouped_shares(t: Table) -> u64
+    requires { ⌜ (numbersRefusal t ≡ 0) × (streamsRefusal t ≡ 0) ⌝ }
+    ensures { λ r. ⌜ r ≡ groupedShares t ⌝ }
+{
+    let sums = add_up(t);
+    sums.shares
+}
+
+// Each group's budgets times its quotient, added up, and the quotients compared.
+fn add_up(t: Table) -> Sums
+    requires { ⌜ (numbersRefusal t ≡ 0) × (streamsRefusal t ≡ 0) ⌝ }
+    ensures { λ r. ⌜ (r .shares ≡ groupedShares t) × (r .largest ≡ t .span / smallestPeriod t) ⌝ }
 {
     let group = budgets(t);
     let period = t.period;
@@ -29,7 +53,7 @@ pub(crate) fn grouped_load(t: Table) -> u64
         }
         j += 1;
     }
-    shares + t.worst as u64 * largest
+    Sums { shares, largest }
 }
 
 // The granted budgets of each group, added up where it stands, and 0 at the other places.

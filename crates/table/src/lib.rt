@@ -7,7 +7,7 @@ mod signed;
 ghost use mathlib.Core.Path.{_≡_};
 ghost use Prim.Native.Nat.{_≤_};
 ghost use Rattle.table.specs.Ranges.{streams-max};
-ghost use Rattle.table.specs.Admission.{paddingOf, grantedOf, loadOf, judgedLoad, numbersRefusal, streamRefusal, streamsRefusal, partsRefusal};
+ghost use Rattle.table.specs.Admission.{paddingOf, grantedOf, loadOf, judgedShares, judgedLoad, rangesRefusal, numbersRefusal, streamRefusal, streamsRefusal, partsRefusal};
 ghost use Rattle.table.specs.Margin.{answerOf, numberIn, marginIn, overIn};
 pub use margin::Margin;
 pub use reservations::Records;
@@ -98,6 +98,17 @@ impl Table {
         Admission::Admitted(margin)
     }
 
+    // The sum of the streams' shares, of a table that 1 to 6 do not refuse; 0 of another.
+    pub fn shares(self) -> u64
+        ensures { λ r. ⌜ r ≡ judgedShares self ⌝ }
+    {
+        let first = parts_refusal(self);
+        if first != 0 {
+            return 0;
+        }
+        groups::grouped_shares(self)
+    }
+
     // The load of a table that 1 to 6 do not refuse; 0 of another.
     pub fn load(self) -> u64
         ensures { λ r. ⌜ r ≡ judgedLoad self ⌝ }
@@ -156,13 +167,20 @@ pub fn numbers_refusal(t: Table) -> u64
     if (t.count < 1) | (Table::STREAMS_MAX < t.count) {
         return 1;
     }
-    if (t.worst < Table::WORST_MIN) | (Table::WORST_MAX < t.worst) {
+    ranges_refusal(t.worst, t.span, t.padding)
+}
+
+// 2 to 4: W, H and k.
+pub fn ranges_refusal(worst: u32, span: u32, k: u32) -> u64
+    ensures { λ r. ⌜ r ≡ rangesRefusal worst span k ⌝ }
+{
+    if (worst < Table::WORST_MIN) | (Table::WORST_MAX < worst) {
         return 2;
     }
-    if (t.span < Table::SPAN_MIN) | (Table::SPAN_MAX < t.span) {
+    if (span < Table::SPAN_MIN) | (Table::SPAN_MAX < span) {
         return 3;
     }
-    if Padding::MAX < t.padding { 4 } else { 0 }
+    if Padding::MAX < k { 4 } else { 0 }
 }
 
 // 5 and 6: one stream.

@@ -6,7 +6,7 @@ use denote.Triple.Table.{entered, cited}
 use Rattle.calls.specs.declared.Call.{Call}
 use Rattle.shelf.specs.Image.{answeredAs}
 use Rattle.shelf.proofs.Answering.{by-image}
-use Rattle.session.proofs.Lending.{lent}
+use Rattle.table.proofs.Lending.{lent}
 use Rattle.shelf.proofs.answers.turn as g
 use Rattle.shelf.proofs.answers.turn.Symbol as g-def
 use Rattle.shelf.proofs.answers.turn.Symbol.{name as #g}

@@ -1,17 +1,21 @@
 -- `closed_up` gives the queue without its request j: the invariant is that the cells passed are those of each row closed up.
 use mathlib.Core.List.{List}
-use lib.ListN.{length}
-use Rattle.table.proofs.Lists.{Filled}
-use Rattle.stream.proofs.Queue.{closedCell, closing-starts, closing-goes-on, closing-ends}
+use lib.ListN.{length, getD}
+use Rattle.table.specs.Fold.{closedUp}
+use Rattle.table.proofs.Lists.{Filled, closing-starts, closing-goes-on, closing-ends}
 use native.Mathlib.Omega.{arith}
 use mathlib.Core.Path.{_≡_, subst}
 use Prim.Native.Nat.{ℕ, _≤_, _-_}
 use Rattle.stream.proofs.closed_up.Statement.{statement}
 use Rattle.stream.proofs.closed_up.Tie as tie
 
+-- what a row closed up has in a cell
+abbrev closed : List ℕ → ℕ → ℕ → ℕ
+closed row j x = getD (closedUp 0 j row) x 0
+
 abbrev Inv-loop : tie.InvT-loop
 Inv-loop j places tags places-left₀ tags-left₀ i₀ places-left tags-left i =
-    (j ≤ i) × (i ≤ 15) × Filled (closedCell places j) places-left i 16 × Filled (closedCell tags j) tags-left i 16
+    (j ≤ i) × (i ≤ 15) × Filled (closed places j) places-left i 16 × Filled (closed tags j) tags-left i 16
 
 abbrev μ-loop : tie.MeasureT-loop
 μ-loop j places tags places-left₀ tags-left₀ i₀ places-left tags-left i = 15 - i
@@ -21,7 +25,7 @@ loop-holds c =
     let j = c .args .j in
     let places : length (c .args .t1) ≡ 16 = omega (arith, c .good) in
     let tags : length (c .args .t2) ≡ 16 = omega (arith, c .good) in
-    (omega arith, omega arith, closing-starts (c .args .t1) j places (c .pre), closing-starts (c .args .t2) j tags (c .pre))
+    (omega arith, omega arith, closing-starts (c .args .t1) 0 j 15 places (c .pre), closing-starts (c .args .t2) 0 j 15 tags (c .pre))
 
 add-places-left : tie.Need-add-places-left Inv-loop μ-loop
 add-places-left c = omega arith
@@ -65,8 +69,8 @@ loop-again c =
     let at = c .before .loop in
     let places : length (start .args .t1) ≡ 16 = omega (arith, start .good) in
     let tags : length (start .args .t2) ≡ 16 = omega (arith, start .good) in
-    let on : (row now : List ℕ) → length row ≡ 16 → Filled (closedCell row (start .args .j)) now (at .i) 16 → _ =
-    λ row now sixteen. closing-goes-on row (start .args .j) sixteen (start .pre) now (at .i) (at .inv .0) (omega arith) in
+    let on : (row now : List ℕ) → length row ≡ 16 → Filled (closed row (start .args .j)) now (at .i) 16 → _ =
+    λ row now sixteen. closing-goes-on row 0 (start .args .j) 15 sixteen (start .pre) now (at .i) (at .inv .0) (omega arith) in
     (omega arith, omega arith, on (start .args .t1) (at .places-left) places (at .inv .2), on (start .args .t2) (at .tags-left) tags (at .inv .3))
 
 array-write-places-left-2 : tie.Need-array-write-places-left-2 Inv-loop μ-loop
@@ -83,8 +87,8 @@ returns c =
     let places : length (start .args .t1) ≡ 16 = omega (arith, start .good) in
     let tags : length (start .args .t2) ≡ 16 = omega (arith, start .good) in
     let e : at .i ≡ 15 = omega arith in (
-      closing-ends (start .args .t1) j places (start .pre) (at .places-left) (subst (λ (n : ℕ). Filled (closedCell (start .args .t1) j) (at .places-left) n 16) e (at .inv .2)),
-      closing-ends (start .args .t2) j tags (start .pre) (at .tags-left) (subst (λ (n : ℕ). Filled (closedCell (start .args .t2) j) (at .tags-left) n 16) e (at .inv .3)),
+      closing-ends (start .args .t1) 0 j 15 places (start .pre) (at .places-left) (subst (λ (n : ℕ). Filled (closed (start .args .t1) j) (at .places-left) n 16) e (at .inv .2)),
+      closing-ends (start .args .t2) 0 j 15 tags (start .pre) (at .tags-left) (subst (λ (n : ℕ). Filled (closed (start .args .t2) j) (at .tags-left) n 16) e (at .inv .3)),
     )
 
 pub closed-up-spec : {M : Type 1} → statement M

@@ -6,7 +6,7 @@ use denote.Triple.Table.{entered, cited}
 use Rattle.session.specs.Calls.{answerTo}
 use Rattle.calls.specs.declared.Call.{Call}
 use Rattle.session.proofs.Answering.{by-session}
-use Rattle.session.proofs.Lending.{lent}
+use Rattle.table.proofs.Lending.{lent}
 use Rattle.session.proofs.Session.turn as g
 use Rattle.session.proofs.Session.turn.Symbol as g-def
 use Rattle.session.proofs.Session.turn.Symbol.{name as #g}

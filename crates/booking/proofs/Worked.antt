@@ -1,0 +1,14 @@
+-- The worked cases, by computation.
+use mathlib.Core.Path.{refl}
+use Rattle.table.specs.Fold.{if, sumTo, smallestTo, allTo, listTo}
+use Rattle.table.specs.Refusal.{given, _or-next_, outside, firstTo}
+use Rattle.table.specs.Admission.{paddingOf, grantedOf, shareOf, sharesOf, smallestPeriod, loadOf, numbersRefusal, streamRefusal, streamsRefusal, admissionOf, partsRefusal, judgedLoad}
+use Rattle.table.specs.Reservations.{recordsOf, tableOfRecords}
+use Rattle.booking.specs.Book.{deskOf, withDesk, keepsLimit, emptyCell, soundCells, tableRefusal, isSound}
+use Rattle.booking.specs.Bookings.{begunOf, withStream, withoutStream, deskRefusal, addRefusal, withdrawRefusal, addOf, withdrawOf}
+use Rattle.booking.specs.Cases.{told, cases}
+use Rattle.booking.specs.Laws.{CasesHold}
+
+pub cases-hold : CasesHold
+unfolding if sumTo smallestTo allTo listTo given _or-next_ outside firstTo paddingOf grantedOf shareOf sharesOf smallestPeriod loadOf numbersRefusal streamRefusal streamsRefusal admissionOf partsRefusal judgedLoad recordsOf tableOfRecords deskOf withDesk keepsLimit emptyCell soundCells tableRefusal isSound begunOf withStream withoutStream deskRefusal addRefusal withdrawRefusal addOf withdrawOf told cases
+cases-hold = refl

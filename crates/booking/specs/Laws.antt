@@ -1,0 +1,106 @@
+-- What is proved of booking tables.
+use mathlib.Core.Bool.{true, false}
+use mathlib.Core.List.{List, [], _∷_, map}
+use mathlib.Core.Path.{_≡_}
+use Prim.Native.Nat.{ℕ, _≤_}
+use Rattle.table.specs.Admission.{smallestPeriod, judgedLoad, rangesRefusal, admissionOf}
+use Rattle.table.specs.Reservations.{tableOfRecords}
+use Rattle.table.specs.declared.Table.{Table}
+use Rattle.booking.specs.Book.{deskOf, countIn, tableIn, sharesIn, isSound}
+use Rattle.booking.specs.Bookings.{accepted, booked, zeroBook, begunOf, addOf, withdrawOf, bookingOf, finishedOf}
+use Rattle.booking.specs.Cases.{Case, cases}
+use Rattle.booking.specs.declared.Book.{Book}
+use Rattle.booking.specs.declared.Booking.{Booking}
+use Rattle.booking.specs.declared.Booking.the-variants.{Add, Withdraw}
+
+-- a table after any bookings
+unfoldable pub afterAll : Book → List Booking → Book
+afterAll b [] = b
+afterAll b (x ∷ rest) = afterAll (bookingOf b x .book) rest
+
+-- the desk that books
+abbrev pub deskIn : Booking → ℕ
+deskIn (Add desk e p) = desk
+deskIn (Withdraw desk number) = desk
+
+-- A table that is begun is sound; one whose beginning is refused is the all-zero one, which is not.
+abbrev pub BegunIsSound : Type 0
+BegunIsSound =
+    (worst span k limit1 limit2 : ℕ)
+    → (rangesRefusal worst span k ≡ 0 → isSound (begunOf worst span k limit1 limit2 .book) ≡ true)
+    × ((rangesRefusal worst span k ≡ 0 → ⊥) → begunOf worst span k limit1 limit2 .book ≡ zeroBook)
+    × (isSound zeroBook ≡ false)
+
+-- Every booking keeps it sound, and so do any bookings: 31 never comes to what was begun.
+abbrev pub BookingKeepsSound : Type 0
+BookingKeepsSound = (b : Book) (x : Booking) → isSound b ≡ true → isSound (bookingOf b x .book) ≡ true
+
+abbrev pub BookingsKeepSound : Type 0
+BookingsKeepSound = (b : Book) (bookings : List Booking) → isSound b ≡ true → isSound (afterAll b bookings) ≡ true
+
+-- "a refused one changes nothing", and its value is 0.
+abbrev pub RefusedChangesNothing : Type 0
+RefusedChangesNothing =
+    (b : Book) (x : Booking) → let r = bookingOf b x in (r .receipt .number ≡ 0 → ⊥) → (r .book ≡ b) × (r .receipt .value ≡ 0)
+
+-- "An accepted booking replies 0 and the desk's own count after it"; the other desk is as it was, and the numbers and limits of the table are "fixed".
+pub record Kept (desk : ℕ) (b after : Book) : Type 0 where
+  pub worst : after .worst ≡ b .worst
+  pub span : after .span ≡ b .span
+  pub padding : after .padding ≡ b .padding
+  pub first-limit : after .first .limit ≡ b .first .limit
+  pub second-limit : after .second .limit ≡ b .second .limit
+  pub second-stays : desk ≡ 1 → after .second ≡ b .second
+  pub first-stays : desk ≡ 2 → after .first ≡ b .first
+
+abbrev pub OthersStay : Type 0
+OthersStay =
+    (b : Book) (x : Booking) → let r = bookingOf b x in
+    Kept (deskIn x) b (r .book) × (r .receipt .number ≡ 0 → r .receipt .value ≡ deskOf (r .book) (deskIn x) .count)
+
+-- "Each desk has a limit on the sum of g × (H / p) over its own streams": it is never passed, whatever is booked.
+abbrev pub LimitIsKept : Type 0
+LimitIsKept =
+    (b : Book) (bookings : List Booking) (desk : ℕ) → isSound b ≡ true
+    → let after = afterAll b bookings in sharesIn after (deskOf after desk) ≤ deskOf b desk .limit
+
+-- the finished table, as opening takes it
+abbrev pub finishedTable : Book → Table
+finishedTable b = let streams = finishedOf b .records in tableOfRecords (b .worst) (b .span) (b .padding) (streams .rows) (streams .count)
+
+-- "Demands 2 and 3 apply from opening on": a sound table with a stream in it is admitted when it is opened, so that 7 comes at the desk or not at all; one without is refused by 1.
+abbrev pub FinishedIsAdmitted : Type 0
+FinishedIsAdmitted =
+    (b : Book) → isSound b ≡ true
+    → (finishedOf b .number ≡ 0)
+    × (finishedTable b ≡ tableIn b)
+    × (1 ≤ countIn b → admissionOf (finishedTable b) ≡ 0)
+    × (countIn b ≡ 0 → admissionOf (finishedTable b) ≡ 1)
+
+-- Who withdraws what was just added has the table back, cell by cell.
+abbrev pub AddedIsWithdrawn : Type 0
+AddedIsWithdrawn =
+    (b : Book) (desk e p : ℕ) → let r = addOf b desk e p in
+    r .receipt .number ≡ 0 → withdrawOf (r .book) desk (r .receipt .value) ≡ booked b (accepted (deskOf b desk .count))
+
+-- "What a desk is told may depend on its own streams, its limit, the number of all streams and the load of the whole table, smallest period included, and on nothing else of the other desk." So two tables are alike to a desk:
+pub record Alike (desk : ℕ) (a b : Book) : Type 0 where
+  pub worst : a .worst ≡ b .worst
+  pub span : a .span ≡ b .span
+  pub padding : a .padding ≡ b .padding
+  pub own : deskOf a desk ≡ deskOf b desk
+  pub count : countIn a ≡ countIn b
+  pub load : judgedLoad (tableIn a) ≡ judgedLoad (tableIn b)
+  pub smallest : smallestPeriod (tableIn a) ≡ smallestPeriod (tableIn b)
+
+-- and where two sound tables are, the same booking has the same reply, and leaves the desk the same. It is of one booking: after a withdrawal two tables need not be alike any more, and the load alone is not enough (`cases`).
+abbrev pub DesksAreIsolated : Type 0
+DesksAreIsolated =
+    (a b : Book) (x : Booking) → isSound a ≡ true → isSound b ≡ true → Alike (deskIn x) a b
+    → let p = bookingOf a x in
+    let q = bookingOf b x in
+    (p .receipt ≡ q .receipt) × (deskOf (p .book) (deskIn x) ≡ deskOf (q .book) (deskIn x))
+
+-- The worked cases come out as they stand there.
+abbrev pub CasesHold : Type 0
+CasesHold = map (λ (k : Case). k .rules) cases ≡ map (λ (k : Case). k .expected) cases

@@ -1,0 +1,4 @@
+pub mod Book
+pub mod Bookings
+pub mod Laws
+pub mod Cases

@@ -8,7 +8,8 @@ use Rattle.table.specs.Fold.{if, closedUp}
 use Rattle.table.specs.Refusal.{given, _or-next_, outside}
 use Rattle.table.specs.Ranges.{streams-max}
 use Rattle.table.specs.Admission.{loadOf, rangesRefusal, streamRefusal}
-use Rattle.table.specs.Reservations.{noRecord, recordsOf}
+use Rattle.table.specs.Reservations.{noRecord, recordsOf, tableOfRecords}
+use Rattle.table.specs.declared.Table.{Table}
 use Rattle.table.specs.declared.reservations.Reservation.{Reservation}
 use Rattle.booking.specs.Book.{deskOf, withDesk, streamsIn, countIn, tableIn, sharesIn, isSound}
 use Rattle.booking.specs.declared.Desk.{Desk}
@@ -103,6 +104,11 @@ unfoldable pub finishedOf : Book → Finished
 finishedOf b =
     if (isSound b) (record { number = 0; records = recordsOf (streamsIn b) }) (record { number = 31; records = recordsOf [] })
 
--- and the table, of which nothing changes
+-- the table of them that is opened
+abbrev pub finishedTable : Book → Table
+finishedTable b =
+    let streams = finishedOf b .records in tableOfRecords (b .worst) (b .span) (b .padding) (streams .rows) (streams .count)
+
+-- finishing answers them beside the booking table, of which nothing changes
 abbrev pub closedOf : Book → Closed
 closedOf b = record { book = b; finished = finishedOf b }

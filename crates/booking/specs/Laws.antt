@@ -4,10 +4,8 @@ use mathlib.Core.List.{List, [], _∷_, map}
 use mathlib.Core.Path.{_≡_}
 use Prim.Native.Nat.{ℕ, _≤_}
 use Rattle.table.specs.Admission.{smallestPeriod, judgedLoad, rangesRefusal, admissionOf}
-use Rattle.table.specs.Reservations.{tableOfRecords}
-use Rattle.table.specs.declared.Table.{Table}
 use Rattle.booking.specs.Book.{deskOf, countIn, tableIn, sharesIn, isSound}
-use Rattle.booking.specs.Bookings.{accepted, booked, zeroBook, begunOf, addOf, withdrawOf, bookingOf, finishedOf}
+use Rattle.booking.specs.Bookings.{accepted, booked, zeroBook, begunOf, addOf, withdrawOf, bookingOf, finishedOf, finishedTable}
 use Rattle.booking.specs.Cases.{Case, cases}
 use Rattle.booking.specs.declared.Book.{Book}
 use Rattle.booking.specs.declared.Booking.{Booking}
@@ -63,10 +61,6 @@ abbrev pub LimitIsKept : Type 0
 LimitIsKept =
     (b : Book) (bookings : List Booking) (desk : ℕ) → isSound b ≡ true
     → let after = afterAll b bookings in sharesIn after (deskOf after desk) ≤ deskOf b desk .limit
-
--- the finished table, as opening takes it
-abbrev pub finishedTable : Book → Table
-finishedTable b = let streams = finishedOf b .records in tableOfRecords (b .worst) (b .span) (b .padding) (streams .rows) (streams .count)
 
 -- "Demands 2 and 3 apply from opening on": a sound table with a stream in it is admitted when it is opened, so that 7 comes at the desk or not at all; one without is refused by 1.
 abbrev pub FinishedIsAdmitted : Type 0

@@ -1,0 +1,2 @@
+-- What is proved of files of bookings.
+use Prim.Native.Nat.{ℕ}

@@ -1,0 +1,3 @@
+pub mod Entry
+pub mod Ledger
+pub mod Laws

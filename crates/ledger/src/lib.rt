@@ -1,0 +1,22 @@
+// A file of bookings: its lines, whether each may stand where it stands, and what is printed of them.
+pub enum Entry {
+    Blank,
+    Begin {
+        worst: u32,
+        span: u32,
+        padding: u32,
+        limit1: u64,
+        limit2: u64,
+    },
+    Call(Booking),
+    Wrong,
+}
+
+// Of a file: every line may stand where it stands; no table is begun; or the number of the first line that may not, and whether a table was begun before it.
+pub enum Judged {
+    Right,
+    Unbegun,
+    Amiss { line: u64, begun: bool },
+}
+
+use booking::Booking;

@@ -57,6 +57,12 @@ pub sum-term : (f : ℕ → ℕ) (n i : ℕ) → i < n → f i ≤ sumTo f n
 unfolding sumTo
 sum-term f n i l = omega (arith, sum-part f (suc i) n l)
 
+-- a sum from its first term on
+pub sum-front : (f : ℕ → ℕ) (n : ℕ) → sumTo f (suc n) ≡ f 0 + sumTo (λ i. f (suc i)) n
+unfolding sumTo
+sum-front f zero = omega arith
+sum-front f (suc n) = omega (arith, sum-front f n)
+
 -- a sum of sums, term by term
 pub sum-add : (f g : ℕ → ℕ) (n : ℕ) → sumTo (λ i. f i + g i) n ≡ sumTo f n + sumTo g n
 unfolding sumTo

@@ -11,7 +11,7 @@ use borrow.Author.Tests.{ltb-false, eqb-true, eqb-false, not-false}
 use Rattle.table.specs.Ranges.{streams-max, worst-min, worst-max, span-min, span-max, padding-max, period-min, period-max}
 use Rattle.table.specs.Fold.{if}
 use Rattle.table.specs.Refusal.{outside, _or-next_}
-use Rattle.table.specs.Admission.{reservedAt, periodAt, grantedOf, shareOf, shareAt, sharesOf, smallestPeriod, numbersRefusal, streamRefusal, streamRefusalAt, streamsRefusal, loadOf, admissionOf, partsRefusal, judgedLoad}
+use Rattle.table.specs.Admission.{reservedAt, periodAt, grantedOf, shareOf, shareAt, sharesOf, smallestPeriod, numbersRefusal, streamRefusal, streamRefusalAt, streamsRefusal, loadOf, admissionOf, partsRefusal, judgedShares, judgedLoad}
 use Rattle.table.specs.Margin.{load-max}
 use Rattle.table.specs.Laws.{LoadIsExact}
 use Rattle.table.specs.declared.Table.{Table}
@@ -107,6 +107,10 @@ parts-none t = or-next-none (numbersRefusal t) (streamsRefusal t)
 pub judged-load : (t : Table) → numbersRefusal t ≡ 0 → streamsRefusal t ≡ 0 → judgedLoad t ≡ loadOf t
 unfolding judgedLoad partsRefusal _or-next_ if
 judged-load t n s = rw (n, s)
+
+pub judged-shares : (t : Table) → partsRefusal t ≡ 0 → judgedShares t ≡ sharesOf t
+unfolding judgedShares if
+judged-shares t none = rw none
 
 -- a table that is admitted passes each judgement
 pub record Admits (t : Table) : Type 0 where

@@ -3,14 +3,14 @@ use mathlib.Core.List.{List, [], _∷_, _++_, map, map-id, map-map, map-append}
 use mathlib.Core.Path.{_≡_, refl, sym, subst, _∙_, ap, fun-ext}
 use mathlib.Core.Logic.{⊎-elim}
 use Prim.Native.Nat.{ℕ, zero, suc, _+_, _-_, _≤_, _<_}
-use native.Mathlib.Nat.{not-suc-le-zero}
+use native.Mathlib.Nat.{not-suc-le-zero, suc-le-suc-iff}
 use native.Mathlib.Numerals.{add-one}
 use native.Mathlib.Omega.{arith}
 use lib.ListN.{length, getD, take, drop, set, length-append, length-take, length-drop, length-set, List·getD-append, List·getD-map, List·getD-eq-default}
-use lib.Seq.{length-take-le, take-at, take-all, take-suc, take-suc-set, getD-set-same, getD-set-other, map-set-same, getD-drop, getD-at, getD-append-add}
-use Rattle.table.specs.Fold.{closedUp, listTo}
+use lib.Seq.{length-take-le, take-at, take-all, take-suc, take-suc-set, take-append-le, getD-set-same, getD-set-other, map-set-same, getD-drop, getD-at, getD-append-add}
+use Rattle.table.specs.Fold.{closedUp, leaving, sumTo, listTo}
 use Rattle.table.proofs.Tests.{le-or-lt}
-use Rattle.table.proofs.Folds.{at-or-below}
+use Rattle.table.proofs.Folds.{at-or-below, sum-front}
 
 module _ {A : Type 0} (f : ℕ → A) where
   -- of n cells those below i are filled
@@ -160,3 +160,102 @@ module _ {A : Type 0} (row : List A) (empty : A) (j last : ℕ) (cells : length 
       subst (λ (v : A). set left last v ≡ closedUp empty j row) free
       (filled-all closedCell (set left last (closedCell last)) (suc last) (subst (λ (m : ℕ). Filled closedCell (set left last (closedCell last)) m (suc last)) (add-one last) (filled-more closedCell left last (suc last) (omega arith) q))
       ∙ relisted (closedUp empty j row) empty (suc last) long)
+
+-- a list that leaves one out: it is as it was before that one, and from there on each stands one place lower
+module _ {A : Type 0} (d : A) where
+  pub leaving-below : (j k : ℕ) (xs : List A) → k < j → getD (leaving j xs) k d ≡ getD xs k d
+  unfolding leaving
+  leaving-below j k [] l = refl
+  leaving-below zero k (x ∷ xs) l = absurd (not-suc-le-zero l)
+  leaving-below (suc j) zero (x ∷ xs) l = refl
+  leaving-below (suc j) (suc k) (x ∷ xs) l = leaving-below j k xs (suc-le-suc-iff .0 l)
+
+  pub leaving-from : (j k : ℕ) (xs : List A) → j ≤ k → getD (leaving j xs) k d ≡ getD xs (suc k) d
+  unfolding leaving
+  leaving-from j k [] le = refl
+  leaving-from zero k (x ∷ xs) le = refl
+  leaving-from (suc j) zero (x ∷ xs) le = absurd (not-suc-le-zero le)
+  leaving-from (suc j) (suc k) (x ∷ xs) le = leaving-from j k xs (suc-le-suc-iff .0 le)
+
+  -- cells that close up leave one out, and have the empty one at their end
+  pub closed-up-leaving : (j : ℕ) (xs : List A) → j < length xs → closedUp d j xs ≡ leaving j xs ++ (d ∷ [])
+  unfolding leaving
+  closed-up-leaving j [] l = absurd (not-suc-le-zero l)
+  closed-up-leaving zero (x ∷ xs) l = refl
+  closed-up-leaving (suc j) (x ∷ xs) l = ap (λ (ys : List A). x ∷ ys) (closed-up-leaving j xs (suc-le-suc-iff .0 l))
+
+  -- the first n of a list that closes up over j are its first n + 1 without that one
+  pub closes-up : (j n : ℕ) (xs : List A) → j ≤ n → n < length xs → take n (closedUp d j xs) ≡ leaving j (take (suc n) xs)
+  unfolding leaving
+  closes-up j n [] le l = absurd (not-suc-le-zero l)
+  closes-up zero n (x ∷ xs) le l = take-append-le n xs (d ∷ []) (suc-le-suc-iff .0 l)
+  closes-up (suc j) zero (x ∷ xs) le l = absurd (not-suc-le-zero le)
+  closes-up (suc j) (suc n) (x ∷ xs) le l =
+      ap (λ (ys : List A). x ∷ ys) (closes-up j n xs (suc-le-suc-iff .0 le) (suc-le-suc-iff .0 l))
+
+-- it is one shorter, and without the last of a list it is what stands before
+module _ {A : Type 0} where
+  pub length-leaving : (j : ℕ) (xs : List A) → j < length xs → suc (length (leaving j xs)) ≡ length xs
+  unfolding leaving
+  length-leaving j [] l = absurd (not-suc-le-zero l)
+  length-leaving zero (x ∷ xs) l = refl
+  length-leaving (suc j) (x ∷ xs) l = ap suc (length-leaving j xs (suc-le-suc-iff .0 l))
+
+  pub leaving-last : (xs : List A) (x : A) → leaving (length xs) (xs ++ (x ∷ [])) ≡ xs
+  unfolding leaving
+  leaving-last [] x = refl
+  leaving-last (y ∷ xs) x = ap (λ (ys : List A). y ∷ ys) (leaving-last xs x)
+
+-- what each element of a list passes
+abbrev pub Each : {A : Type 0} → A → (A → Type 0) → List A → Type 0
+Each d P xs = (i : ℕ) → i < length xs → P (getD xs i d)
+
+module _ {A : Type 0} (d : A) (P : A → Type 0) where
+  pub each-one : (x : A) → P x → Each d P (x ∷ [])
+  each-one x p zero l = p
+  each-one x p (suc i) l = absurd (omega arith)
+
+  -- each of two lists does exactly where each of both does
+  pub each-append : (xs ys : List A) → Each d P xs → Each d P ys → Each d P (xs ++ ys)
+  each-append xs ys here there i l =
+      ⊎-elim
+      (λ (u : length xs ≤ i).
+      let n = i - length xs in
+      let place : length xs + n ≡ i = omega arith in
+      subst (λ (m : ℕ). P (getD (xs ++ ys) m d)) place (rw (getD-append-add xs ys n d) (there n (omega (arith, length-append xs ys)))))
+      (λ (u : i < length xs). rw (List·getD-append xs ys d i u) (here i u))
+      (le-or-lt (length xs) i)
+
+  pub each-left : (xs ys : List A) → Each d P (xs ++ ys) → Each d P xs
+  each-left xs ys each i l = rw (List·getD-append xs ys d i l) at (each i (omega (arith, length-append xs ys)))
+
+  pub each-right : (xs ys : List A) → Each d P (xs ++ ys) → Each d P ys
+  each-right xs ys each i l = rw (getD-append-add xs ys i d) at (each (length xs + i) (omega (arith, length-append xs ys)))
+
+  -- and each that is left of a list where one is left out
+  pub each-leaving : (j : ℕ) (xs : List A) → j < length xs → Each d P xs → Each d P (leaving j xs)
+  each-leaving j xs l each i m =
+      ⊎-elim
+      (λ (u : j ≤ i). rw (leaving-from d j i xs u) (each (suc i) (omega (arith, length-leaving j xs l))))
+      (λ (u : i < j). rw (leaving-below d j i xs u) (each i (omega arith)))
+      (le-or-lt j i)
+
+-- the sum of a number of each element
+abbrev pub total : {A : Type 0} → A → (A → ℕ) → List A → ℕ
+total d f xs = sumTo (λ i. f (getD xs i d)) (length xs)
+
+module _ {A : Type 0} (d : A) (f : A → ℕ) where
+  pub total-cons : (x : A) (xs : List A) → total d f (x ∷ xs) ≡ f x + total d f xs
+  total-cons x xs = sum-front (λ i. f (getD (x ∷ xs) i d)) (length xs)
+
+  pub total-append : (xs ys : List A) → total d f (xs ++ ys) ≡ total d f xs + total d f ys
+  unfolding sumTo
+  total-append [] ys = omega arith
+  total-append (x ∷ xs) ys = omega (arith, total-cons x (xs ++ ys), total-cons x xs, total-append xs ys)
+
+  pub total-leaving : (j : ℕ) (xs : List A) → j < length xs → total d f (leaving j xs) + f (getD xs j d) ≡ total d f xs
+  unfolding leaving
+  total-leaving j [] l = absurd (not-suc-le-zero l)
+  total-leaving zero (x ∷ xs) l = omega (arith, total-cons x xs)
+  total-leaving (suc j) (x ∷ xs) l =
+      omega (arith, total-cons x xs, total-cons x (leaving j xs), total-leaving j xs (suc-le-suc-iff .0 l))

@@ -13,6 +13,12 @@ module _ {A : Type 0} where
   abbrev pub closedUp : A → ℕ → List A → List A
   closedUp empty j cells = take j cells ++ (drop (suc j) cells ++ (empty ∷ []))
 
+  -- a list without what it has at j, counted from 0: the others keep their order
+  unfoldable pub leaving : ℕ → List A → List A
+  leaving j [] = []
+  leaving zero (x ∷ rest) = rest
+  leaving (suc j) (x ∷ rest) = x ∷ leaving j rest
+
 -- f 0 + .. + f (n - 1)
 unfoldable pub sumTo : (ℕ → ℕ) → ℕ → ℕ
 sumTo f zero = 0

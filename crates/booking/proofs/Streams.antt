@@ -1,11 +1,11 @@
 -- Streams as a lent table: what its cells are, what is judged of it where each stream is in order, and its sums.
 use mathlib.Core.List.{List, [], _∷_, _++_}
-use mathlib.Core.Path.{_≡_, refl, _∙_}
-use Prim.Native.Nat.{ℕ, suc, _+_, _≤_, _<_}
+use mathlib.Core.Path.{_≡_, refl}
+use Prim.Native.Nat.{ℕ, _≤_, _<_}
 use native.Mathlib.Omega.{arith}
 use lib.ListN.{length}
 use borrow.Author.Tests.{le-ltb}
-use Rattle.table.specs.Fold.{if, sumTo}
+use Rattle.table.specs.Fold.{sumTo}
 use Rattle.table.specs.Refusal.{given, _or-next_, outside}
 use Rattle.table.specs.Ranges.{streams-max}
 use Rattle.table.specs.Admission.{reservedAt, periodAt, shareOf, shareAt, sharesOf, loadOf, rangesRefusal, numbersRefusal, streamRefusal, streamRefusalAt, streamsRefusal, partsRefusal, judgedShares, judgedLoad}

@@ -1,3 +1,5 @@
 pub mod Worked
 pub mod Streams
 pub mod Cells
+pub mod Desks
+pub mod Sound

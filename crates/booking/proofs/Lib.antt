@@ -3,3 +3,5 @@ pub mod Streams
 pub mod Cells
 pub mod Desks
 pub mod Sound
+pub mod Refusals
+pub mod Answering

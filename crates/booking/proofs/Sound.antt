@@ -19,7 +19,7 @@ use Rattle.booking.specs.Book.{deskOf, withDesk, streamsOf, streamsIn, c
 use Rattle.booking.specs.Bookings.{withStream, added}
 use Rattle.booking.specs.declared.Desk.{Desk}
 use Rattle.booking.specs.declared.Book.{Book}
-use Rattle.booking.proofs.Streams.{Each-fits, streams-each, parts-fit, load-judged, shares-judged, fits-append}
+use Rattle.booking.proofs.Streams.{Each-fits, streams-each, parts-fit, load-judged, shares-judged, fits-append, fits-left, fits-right}
 use Rattle.booking.proofs.Cells.{cells-of, more-streams, more-sound}
 use Rattle.booking.proofs.Desks.{desk-has, first-has, second-has, desk-count, desk-each, with-count, with-each}
 
@@ -81,32 +81,55 @@ refuses-none b long few ranges fits load =
     (λ (none : countIn b < 1). rw (eq-eqb (countIn b) 0 (omega arith)) ranges)
     (le-or-lt 1 (countIn b))
 
-module _ (b : Book) (s : Sound b) where
+-- before the limits are looked at
+module _ (b : Book) (one : soundCells (b .first) ≡ true) (two : soundCells (b .second) ≡ true) (few : countIn b ≤ streams-max) (none : tableRefusal b ≡ 0) where
   -- a table with a stream is admitted
-  pub sound-admits : 1 ≤ countIn b → admissionOf (tableIn b) ≡ 0
+  admitted : 1 ≤ countIn b → admissionOf (tableIn b) ≡ 0
   unfolding tableRefusal if
-  sound-admits some = rw (ne-eqb (countIn b) 0 (λ e. omega arith)) at (s .refusal)
+  admitted some = rw (ne-eqb (countIn b) 0 (λ e. omega arith)) at none
+
+  in-ranges : rangesRefusal (b .worst) (b .span) (b .padding) ≡ 0
+  unfolding tableRefusal admissionOf numbersRefusal tableOfRecords if
+  in-ranges =
+      ⊎-elim
+      (λ (some : 1 ≤ countIn b).
+      let numbers = or-next-none (numbersRefusal (tableIn b)) _ (admitted some) .0 in
+      or-next-none _ (rangesRefusal (b .worst) (b .span) (b .padding)) numbers .1)
+      (λ (empty : countIn b < 1). rw (eq-eqb (countIn b) 0 (omega arith)) at none)
+      (le-or-lt 1 (countIn b))
+
+  each-fits : Each-fits (b .worst) (b .span) (b .padding) (streamsIn b)
+  unfolding admissionOf
+  each-fits i l =
+      let long = streams-long b one two in
+      let some : 1 ≤ countIn b = omega (arith, long) in
+      let later = or-next-none (numbersRefusal (tableIn b)) _ (admitted some) .1 in
+      streams-each (b .worst) (b .span) (b .padding) (streamsIn b) (omega (arith, long, few))
+      (or-next-none (streamsRefusal (tableIn b)) _ later .0) i l
+
+  -- and the shares of each desk are judged
+  pub desks-judged : (judgedShares (tableWith b (streamsOf (b .first))) ≡ sharesIn b (b .first)) × (judgedShares (tableWith b (streamsOf (b .second))) ≡ sharesIn b (b .second))
+  desks-judged =
+      let judged : (d : Desk) → soundCells d ≡ true → Each-fits (b .worst) (b .span) (b .padding) (streamsOf d) → judgedShares (tableWith b (streamsOf d)) ≡ sharesIn b d =
+      λ d cells fits. shares-judged (b .worst) (b .span) (b .padding) (streamsOf d) in-ranges (omega (arith, cells-of d cells)) fits in
+      let streams1 = streamsOf (b .first) in
+      let streams2 = streamsOf (b .second) in (
+        judged (b .first) one (fits-left (b .worst) (b .span) (b .padding) streams1 streams2 each-fits),
+        judged (b .second) two (fits-right (b .worst) (b .span) (b .padding) streams1 streams2 each-fits),
+      )
+
+module _ (b : Book) (s : Sound b) where
+  pub sound-admits : 1 ≤ countIn b → admissionOf (tableIn b) ≡ 0
+  sound-admits = admitted b (s .first) (s .second) (s .count-high) (s .refusal)
 
   pub all-long : length (streamsIn b) ≡ countIn b
   all-long = streams-long b (s .first) (s .second)
 
   pub sound-ranges : rangesRefusal (b .worst) (b .span) (b .padding) ≡ 0
-  unfolding tableRefusal admissionOf numbersRefusal tableOfRecords if
-  sound-ranges =
-      ⊎-elim
-      (λ (some : 1 ≤ countIn b).
-      let numbers = or-next-none (numbersRefusal (tableIn b)) _ (sound-admits some) .0 in
-      or-next-none _ (rangesRefusal (b .worst) (b .span) (b .padding)) numbers .1)
-      (λ (none : countIn b < 1). rw (eq-eqb (countIn b) 0 (omega arith)) at (s .refusal))
-      (le-or-lt 1 (countIn b))
+  sound-ranges = in-ranges b (s .first) (s .second) (s .count-high) (s .refusal)
 
   pub sound-fits : Each-fits (b .worst) (b .span) (b .padding) (streamsIn b)
-  unfolding admissionOf
-  sound-fits i l =
-      let some : 1 ≤ countIn b = omega (arith, all-long) in
-      let later = or-next-none (numbersRefusal (tableIn b)) _ (sound-admits some) .1 in
-      streams-each (b .worst) (b .span) (b .padding) (streamsIn b) (omega (arith, all-long, s .count-high))
-      (or-next-none (streamsRefusal (tableIn b)) _ later .0) i l
+  sound-fits = each-fits b (s .first) (s .second) (s .count-high) (s .refusal)
 
   pub desk-sound : (desk : ℕ) → soundCells (deskOf b desk) ≡ true
   desk-sound desk = desk-has b desk (λ d. soundCells d ≡ true) (s .first) (s .second)

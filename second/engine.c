@@ -48,12 +48,10 @@ static int64_t load_test(const struct table *t, uint64_t load)
     return (int64_t)t->span - (int64_t)load;
 }
 
-// "Opening: 1, 2, 3, 4, then 5 and 6 stream by stream, then 7"; Req 05: "Other refusals carry margin 0"
-static enum number admit(const struct table *t, int64_t *margin)
+// 2 to 6 in the order of opening: "2, 3, 4, then 5 and 6 stream by stream"
+enum number judge_table(const struct table *t, uint64_t *total)
 {
-    *margin = 0;
-    if (t->count == 0 || t->count > STREAM_MAX)
-        return BAD_COUNT;
+    *total = 0;
     if (t->worst < WORST_MIN || t->worst > WORST_MAX)
         return BAD_WORST;
     if (t->span < SPAN_MIN || t->span > SPAN_MAX)
@@ -79,6 +77,20 @@ static enum number admit(const struct table *t, int64_t *margin)
         most = times > most ? times : most;
     }
     load += t->worst * most;
+    *total = load;
+    return ADMITTED;
+}
+
+// "Opening: 1, 2, 3, 4, then 5 and 6 stream by stream, then 7"; Req 05: "Other refusals carry margin 0"
+static enum number admit(const struct table *t, int64_t *margin)
+{
+    *margin = 0;
+    if (t->count == 0 || t->count > STREAM_MAX)
+        return BAD_COUNT;
+    uint64_t load;
+    enum number number = judge_table(t, &load);
+    if (number != ADMITTED)
+        return number;
     *margin = load_test(t, load);
     // "Admitted exactly if load ≤ H"
     return *margin < 0 ? OVERLOAD : ADMITTED;

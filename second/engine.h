@@ -121,6 +121,10 @@ struct reply {
     uint32_t tag;
 };
 
+// ADMITTED, or the refusal by 2 to 6 of a table with up to eight streams or none. Through the pointer goes the load, which is 0
+// without a stream, and with a refusal.
+enum number judge_table(const struct table *t, uint64_t *total);
+
 // ADMITTED, or the refusal; a refused opening leaves the all-zero session. Through the pointer goes the margin: not
 // negative if admitted, negative with 7, and 0 with every other refusal. A number that is no order is refused by UNSOUND,
 // before the table is looked at.

@@ -24,6 +24,7 @@
 enum number {
     ADMITTED = 0,
     TOLD = 0,
+    BOOKED = 0,
     BAD_COUNT = 1,
     BAD_WORST = 2,
     BAD_SPAN = 3,
@@ -40,6 +41,8 @@ enum number {
     PAST_END = 14,
     NOT_IN_SET = 15,
     BAD_LAYOUT = 16,
+    PAST_LIMIT = 18,
+    NOT_BOOKED = 19,
     ARRIVED = 20,
     SENT = 21,
     EXPIRED = 22,
@@ -49,6 +52,7 @@ enum number {
     DONE_OVERLONG = 26,
     CLOCK = 27,
     CLOCK_LATE = 28,
+    BAD_DESK = 30,
     UNSOUND = 31
 };
 

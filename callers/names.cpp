@@ -62,11 +62,26 @@ static void files()
     hold(yerbagunt_write(table, yerbagunt_bytes{nullptr, 0}, buffer, parts.order, parts.third).number == number, "a number has a type", 0);
 }
 
+static void bookings()
+{
+    yerbagunt_book book;
+    yerbagunt_receipt receipt = yerbagunt_begin(&book, 25000, 1000000, 1, 300000, 500000);
+    hold(receipt.number == YERBAGUNT_OK && book.desks[1].limit == 500000, "a booking table is begun", 0);
+    hold(yerbagunt_add(&book, 2, 175000, 500000).value == 1 && yerbagunt_add(&book, 1, 25000, 250000).value == 1, "each desk adds a stream", 0);
+    hold(yerbagunt_add(&book, 1, 25000, 250000).number == YERBAGUNT_LIMIT && yerbagunt_add(&book, 3, 25000, 250000).number == YERBAGUNT_NO_DESK, "a limit is kept", 0);
+    hold(yerbagunt_withdraw(&book, 1, 2).number == YERBAGUNT_NO_BOOKING, "a desk has no second stream", 0);
+    yerbagunt_finished finished = yerbagunt_finish(book);
+    yerbagunt_desk desk = book.desks[0];
+    hold(finished.count == 2 && finished.records[0].period == 250000 && desk.streams[0].reserved == 25000, "desk 1's stream comes first", 0);
+    hold(yerbagunt_open(book.worst, book.span, book.padding, yerbagunt_reservations{finished.records, finished.count}, YERBAGUNT_NEAREST).margin == 300000, "the finished table is opened", 0);
+}
+
 int main()
 {
     calls();
     shown();
     files();
+    bookings();
     printf("%lu facts, %lu wrong\n", held, wrong);
     return wrong != 0;
 }

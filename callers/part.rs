@@ -1,7 +1,7 @@
 //! Uses a part of the wrapper, which is copied beside this file as a product copies it.
 mod yerbagunt;
 
-use yerbagunt::{ORDER_SIZE, Order, Refusal, Reservation, Session, Table, read, write};
+use yerbagunt::{Book, ORDER_SIZE, Order, Refusal, Reservation, Session, Table, read, write};
 
 fn opened(order: Order, reserved: u32) -> Result<Session, Refusal> {
     Session::open(25000, 1000000, 1, &[Reservation { reserved, period: 1000000 }], order)
@@ -29,6 +29,22 @@ fn there_and_back(order: Order, third: u64) -> Result<(Order, u64, bool), u64> {
     Ok((file.order, file.third, out == again))
 }
 
+/// What two desks are told, and what comes of their table when it is opened.
+fn booked() -> (Vec<Result<u64, u64>>, Result<i64, Refusal>) {
+    let mut book = Book::begin(25000, 1000000, 1, [300000, 500000]).expect("W, H and k in their ranges");
+    let channel = Reservation { reserved: 25000, period: 250000 };
+    let told = vec![
+        book.add(2, Reservation { reserved: 175000, period: 500000 }),
+        book.add(1, channel),
+        book.add(1, channel),
+        book.add(0, channel),
+        book.withdraw(1, 2),
+        book.withdraw(1, 1),
+        book.add(1, channel),
+    ];
+    (told, book.open(Order::Nearest).map(|session| session.margin))
+}
+
 fn main() {
     let none = Session::open(25000, 1000000, 1, &[], Order::Nearest).err();
     let over = opened(Order::Sweep, 950001).err();
@@ -48,6 +64,12 @@ fn main() {
     let at_disk = session.tag;
     let done = session.done(5000);
     println!("tags {:?}", [sent.tag, at_disk, done.tag, session.tag]);
+
+    println!("desks {:?}", booked());
+    println!("not begun {:?} and none booked {:?}", Book::begin(0, 1000000, 1, [0, 0]), Book::begin(25000, 1000000, 1, [0, 0]).map(|book| book.open(Order::Sweep).err()));
+    let mut spoilt = Book::begin(25000, 1000000, 1, [0, 0]).expect("W, H and k in their ranges");
+    spoilt.desks[1].streams[7].period = 1;
+    println!("spoilt {:?}, {:?} and {:?}", spoilt.finish(), spoilt.withdraw(0, 0), spoilt.open(Order::Sweep).err());
 
     println!("sent from 500 {:?}", [Order::Nearest, Order::Sweep].map(sent_from_500));
     for (order, third) in [(Order::Nearest, 0), (Order::Nearest, ORDER_SIZE), (Order::Sweep, ORDER_SIZE), (Order::Sweep, 0)] {

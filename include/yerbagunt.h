@@ -5,16 +5,16 @@
  *
  * This is asked of a caller, and nothing else:
  *
- * - Pointers. A pointer is valid for the length beside it, and a session's for a session.
+ * - Pointers. A pointer is valid for the length beside it, a session's for a session, and a booking table's for a booking table.
  *   Where the length is 0 nothing is read or written, and the pointer may be null. Nowhere else may it be.
  * - No overlap. What one call is lent shares no byte. Only yerbagunt_write is lent two things, a trace and a buffer:
  *   with the trace inside the buffer it may answer 0 and leave there what no reader accepts.
- * - Alignment. A session and the records of a table stand where C puts them, at a multiple of 8 bytes and of 4. Bytes stand anywhere.
- * - One thread at a time. Until a call returns, no other thread uses its session or its buffer, nor writes what else it was lent.
- *   Different sessions are used by different threads as you like: the library keeps nothing from one call to the next.
+ * - Alignment. A session, a booking table and the records of a table stand where C puts them, at a multiple of 8 bytes and of 4. Bytes stand anywhere.
+ * - One thread at a time. Until a call returns, no other thread uses its session, its booking table or its buffer, nor writes what else it was lent.
+ *   Different ones are used by different threads as you like: the library keeps nothing from one call to the next.
  * - Stack. A call takes up to 16 KB of it. It takes no other memory.
  *
- * A session is a struct like any other: it may be moved and copied, and a copy goes on from where it was taken. */
+ * A session and a booking table are structs like any other: they may be moved and copied, and a copy goes on from where it was taken. */
 #ifndef YERBAGUNT_H
 #define YERBAGUNT_H
 
@@ -24,9 +24,9 @@
 /* The version of this header and of its library. Another major number: the layout of a struct changed, or the answer to some input; read what
  * changed, and compile anew. Another minor number: something was added, and programs go on as they are. Another patch: neither.
  * The numbers of replies keep their meaning through all of them. */
-#define YERBAGUNT_VERSION "7.0.0"
+#define YERBAGUNT_VERSION "7.1.0"
 #define YERBAGUNT_VERSION_MAJOR 7
-#define YERBAGUNT_VERSION_MINOR 0
+#define YERBAGUNT_VERSION_MINOR 1
 #define YERBAGUNT_VERSION_PATCH 0
 
 #ifdef __cplusplus
@@ -54,8 +54,8 @@ extern "C" {
 
 /* The numbers of replies. Their meaning does not change. */
 enum yerbagunt_number {
-    YERBAGUNT_OK = 0,          /* opened, shown, told, read or written */
-    YERBAGUNT_COUNT = 1,       /* no stream, or more than 8 */
+    YERBAGUNT_OK = 0,          /* opened, shown, told, read, written, begun, booked or finished */
+    YERBAGUNT_COUNT = 1,       /* no stream, or more than 8; of yerbagunt_add: a ninth */
     YERBAGUNT_WORST = 2,       /* W outside 1 to 1,000,000 */
     YERBAGUNT_SPAN = 3,        /* H outside 1,000 to 600,000,000 */
     YERBAGUNT_PADDING = 4,     /* k above 3 */
@@ -72,6 +72,8 @@ enum yerbagunt_number {
     YERBAGUNT_NOT_IN_SET = 15, /* index not in the set */
     YERBAGUNT_LAYOUT = 16,     /* file or event not as laid out */
     YERBAGUNT_ROOM = 17,       /* output buffer shorter than the file */
+    YERBAGUNT_LIMIT = 18,      /* the desk's own sum would pass its limit */
+    YERBAGUNT_NO_BOOKING = 19, /* the desk has no stream of that number */
     YERBAGUNT_ARRIVED = 20,    /* value: queue length */
     YERBAGUNT_SENT = 21,       /* value: place; with the request's tag */
     YERBAGUNT_EXPIRED = 22,    /* value: charge after */
@@ -81,7 +83,8 @@ enum yerbagunt_number {
     YERBAGUNT_OVERLONG = 26,   /* value: charge after; with the request's tag */
     YERBAGUNT_CLOCK = 27,      /* value: time */
     YERBAGUNT_LATE = 28,       /* value: time */
-    YERBAGUNT_UNSOUND = 31     /* the session handed to a call is not sound; of yerbagunt_open: no such order; of yerbagunt_latest: no such moment */
+    YERBAGUNT_NO_DESK = 30,    /* desk not 1 or 2 */
+    YERBAGUNT_UNSOUND = 31     /* the session or booking table handed to a call is not sound; of yerbagunt_open: no such order; of yerbagunt_latest: no such moment */
 };
 
 /* The order in which a turn takes requests. It chooses among those of the set that belong to the streams with the earliest deadline. The head is
@@ -304,6 +307,60 @@ struct yerbagunt_table yerbagunt_table(struct yerbagunt_bytes file);
  * and the third that reading it answered. */
 struct yerbagunt_written yerbagunt_write(struct yerbagunt_table table, struct yerbagunt_bytes trace, struct yerbagunt_buffer out, uint64_t order,
                                          uint64_t third);
+
+/* Two booking desks, 1 and 2, on one table, before it is opened. Each has a limit on the sum of g * (H / p) over its own streams, without the last
+ * term of the load, and counts its own streams from 1 in order of booking. What a desk is told depends on its own streams and limit, the number of
+ * all streams, the load of the whole table and its smallest period, and on nothing else of the other desk. */
+struct yerbagunt_desk {
+    uint64_t limit; /* any number; a sum that is as large does not pass it */
+    uint64_t count; /* the first so many streams are used; the others are 0 */
+    struct yerbagunt_reservation streams[YERBAGUNT_STREAMS_MAX];
+};
+
+/* A booking table: what yerbagunt_begin makes. Read its cells as you like; every booking answers 31 to a table that breaks 2 to 7 or a desk's limit,
+ * or of which an unused cell is not 0. Four bytes of padding follow `padding`. */
+struct yerbagunt_book {
+    uint32_t worst, span;
+    uint32_t padding; /* k as it was given; 0 stands for 3 */
+    struct yerbagunt_desk desks[2];
+};
+
+/* number 0, and how many streams the desk has then (after yerbagunt_begin 0); or the number of a refusal, and 0: 7 comes without the margin. */
+struct yerbagunt_receipt {
+    uint64_t number, value;
+};
+
+/* number 0 and the streams of both desks, desk 1's first; or 31 and none. */
+struct yerbagunt_finished {
+    uint64_t number;
+    struct yerbagunt_reservation records[YERBAGUNT_STREAMS_MAX];
+    uint64_t count;
+};
+
+YERBAGUNT_ASSERT(sizeof(struct yerbagunt_desk) == 80, "desk");
+YERBAGUNT_ASSERT(offsetof(struct yerbagunt_desk, count) == 8, "desk.count");
+YERBAGUNT_ASSERT(offsetof(struct yerbagunt_desk, streams) == 16, "desk.streams");
+YERBAGUNT_ASSERT(sizeof(struct yerbagunt_book) == 176, "book");
+YERBAGUNT_ASSERT(offsetof(struct yerbagunt_book, desks) == 16, "book.desks");
+YERBAGUNT_ASSERT(sizeof(struct yerbagunt_receipt) == 16, "receipt");
+YERBAGUNT_ASSERT(sizeof(struct yerbagunt_finished) == 80, "finished");
+YERBAGUNT_ASSERT(offsetof(struct yerbagunt_finished, records) == 8, "finished.records");
+YERBAGUNT_ASSERT(offsetof(struct yerbagunt_finished, count) == 72, "finished.count");
+
+/* Begins a booking table, whatever it was before, with W, H, k and the limits of desk 1 and desk 2: 2, 3, 4, and then it is all zero, which is not
+ * sound; 0. */
+struct yerbagunt_receipt yerbagunt_begin(struct yerbagunt_book *book, uint32_t worst, uint32_t span, uint32_t padding, uint64_t limit1, uint64_t limit2);
+
+/* A stream more of a desk: 31, 30, 1, 5, 6, 18, 7; 0. */
+struct yerbagunt_receipt yerbagunt_add(struct yerbagunt_book *book, uint64_t desk, uint32_t reserved, uint32_t period);
+
+/* One stream less of a desk, by its number among the desk's own; those behind it move up by one: 31, 30, 19; 0. */
+struct yerbagunt_receipt yerbagunt_withdraw(struct yerbagunt_book *book, uint64_t desk, uint64_t number);
+
+/* The streams of the finished table: 31. The table is passed by value: nothing of it can change, and bookings may go on. With its W, H and k they
+ * are opened as they are, in a yerbagunt_reservations of `records` and `count`: what comes of a sound table is admitted, or refused by 1 if it
+ * has no stream. */
+struct yerbagunt_finished yerbagunt_finish(struct yerbagunt_book book);
 
 #ifdef __cplusplus
 }

@@ -8,7 +8,7 @@
 use core::mem::offset_of;
 
 /// The version of this wrapper and its library, that of `yerbagunt.h`.
-pub const VERSION: &str = "7.0.0";
+pub const VERSION: &str = "7.1.0";
 
 pub const STREAMS_MAX: usize = 8;
 pub const QUEUE_MAX: usize = 16;
@@ -35,6 +35,8 @@ pub mod number {
     pub const NOT_IN_SET: u64 = 15;
     pub const LAYOUT: u64 = 16;
     pub const ROOM: u64 = 17;
+    pub const LIMIT: u64 = 18;
+    pub const NO_BOOKING: u64 = 19;
     pub const ARRIVED: u64 = 20;
     pub const SENT: u64 = 21;
     pub const EXPIRED: u64 = 22;
@@ -44,6 +46,7 @@ pub mod number {
     pub const OVERLONG: u64 = 26;
     pub const CLOCK: u64 = 27;
     pub const LATE: u64 = 28;
+    pub const NO_DESK: u64 = 30;
     pub const UNSOUND: u64 = 31;
 }
 
@@ -227,6 +230,44 @@ struct Written {
     length: u64,
 }
 
+/// What one of two booking desks has booked; the first `count` streams are used, and the others are 0.
+#[repr(C)]
+#[derive(Clone, Copy, Debug, PartialEq, Eq)]
+pub struct Desk {
+    /// On the sum of g × (H / p) over its own streams; a sum that is as large does not pass it.
+    pub limit: u64,
+    pub count: u64,
+    pub streams: [Reservation; STREAMS_MAX],
+}
+
+/// A table that two desks share before it is opened. A booking answers 31 to one that breaks 2 to 7 or a limit, or of which an unused cell is not 0.
+#[repr(C)]
+#[derive(Clone, Copy, Debug, PartialEq, Eq)]
+pub struct Book {
+    pub worst: u32,
+    pub span: u32,
+    /// k as it was given; 0 stands for 3.
+    pub padding: u32,
+    pub desks: [Desk; 2],
+}
+
+#[repr(C)]
+struct Receipt {
+    number: u64,
+    value: u64,
+}
+
+#[repr(C)]
+struct Finished {
+    number: u64,
+    records: [Reservation; STREAMS_MAX],
+    count: u64,
+}
+
+const _: () = assert!(size_of::<Desk>() == 80 && offset_of!(Desk, count) == 8 && offset_of!(Desk, streams) == 16);
+const _: () = assert!(size_of::<Book>() == 176 && offset_of!(Book, desks) == 16 && size_of::<Receipt>() == 16);
+const _: () = assert!(size_of::<Finished>() == 80 && offset_of!(Finished, records) == 8 && offset_of!(Finished, count) == 72);
+
 // A slice as it crosses: its pointer and its length.
 #[repr(C)]
 struct Lent<T> {
@@ -259,6 +300,10 @@ unsafe extern "C" {
     fn yerbagunt_read(file: Lent<u8>) -> File;
     fn yerbagunt_table(file: Lent<u8>) -> Table;
     fn yerbagunt_write(table: Table, trace: Lent<u8>, out: LentMut<u8>, order: Order, third: u64) -> Written;
+    fn yerbagunt_begin(book: &mut Book, worst: u32, span: u32, padding: u32, limit1: u64, limit2: u64) -> Receipt;
+    fn yerbagunt_add(book: &mut Book, desk: u64, reserved: u32, period: u32) -> Receipt;
+    fn yerbagunt_withdraw(book: &mut Book, desk: u64, number: u64) -> Receipt;
+    fn yerbagunt_finish(book: Book) -> Finished;
 }
 
 // Each call is safe. What `yerbagunt.h` asks of a caller holds of Rust's references: they are valid and aligned, what one may change overlaps
@@ -319,6 +364,48 @@ impl Session {
     pub fn last_job(&self, stream: u64) -> Result<Job, u64> {
         let closing = unsafe { yerbagunt_last_job(*self, stream) };
         if closing.number == number::OK { Ok(closing.job) } else { Err(closing.number) }
+    }
+}
+
+impl Receipt {
+    /// How many streams the desk has then; or the number of a refusal.
+    fn result(self) -> Result<u64, u64> {
+        if self.number == number::OK { Ok(self.value) } else { Err(self.number) }
+    }
+}
+
+impl Book {
+    /// Begins a table with W, H, k, where 0 stands for 3, and the limits of desk 1 and desk 2; or says by which number, 2 to 4, it is refused.
+    pub fn begin(worst: u32, span: u32, padding: u32, limits: [u64; 2]) -> Result<Book, u64> {
+        let none = Desk { limit: 0, count: 0, streams: [Reservation { reserved: 0, period: 0 }; STREAMS_MAX] };
+        let mut book = Book { worst: 0, span: 0, padding: 0, desks: [none; 2] };
+        let receipt = unsafe { yerbagunt_begin(&mut book, worst, span, padding, limits[0], limits[1]) };
+        receipt.result().map(|_| book)
+    }
+
+    /// A stream more of a desk, and how many of its own it has then; or 31, 30, 1, 5, 6, 18 or 7.
+    pub fn add(&mut self, desk: u64, stream: Reservation) -> Result<u64, u64> {
+        unsafe { yerbagunt_add(self, desk, stream.reserved, stream.period) }.result()
+    }
+
+    /// One stream less of a desk, by its number among its own, counted from 1, and how many it has then; or 31, 30 or 19.
+    pub fn withdraw(&mut self, desk: u64, number: u64) -> Result<u64, u64> {
+        unsafe { yerbagunt_withdraw(self, desk, number) }.result()
+    }
+
+    /// Opens a session with the streams of both desks, desk 1's first, and an order. Of a table that is sound and has a stream it is admitted.
+    pub fn open(&self, order: Order) -> Result<Session, Refusal> {
+        let finished = unsafe { yerbagunt_finish(*self) };
+        if finished.number != number::OK {
+            return Err(Refusal { number: finished.number, margin: 0 });
+        }
+        Session::open(self.worst, self.span, self.padding, &finished.records[..finished.count as usize], order)
+    }
+
+    /// The streams of both desks, desk 1's first, and how many they are; or 31.
+    pub fn finish(&self) -> Result<([Reservation; STREAMS_MAX], u64), u64> {
+        let finished = unsafe { yerbagunt_finish(*self) };
+        if finished.number == number::OK { Ok((finished.records, finished.count)) } else { Err(finished.number) }
     }
 }
 

@@ -1,10 +1,11 @@
-// What products in C and Rust link. A session crosses as an image of numbers, since an enum cannot.
+// What products in C and Rust link. A session crosses as an image of numbers, since an enum cannot; a booking table crosses as it is.
 mod answers;
 mod images;
 
 ghost use mathlib.Core.Path.{_≡_};
 ghost use Rattle.table.specs.Reservations.{lentTable};
 ghost use Rattle.file.specs.Reading.{readOf, tableIn};
+ghost use Rattle.booking.specs.Bookings.{begunOf, addOf, withdrawOf, finishedOf};
 ghost use Rattle.shelf.specs.Image.{openedAs, answeredAs, viewedAs, stateAs, closingAs, latestAs};
 ghost use Rattle.shelf.specs.Filed.{readAs, wroteAs, wroteOn};
 use answers::arrival;
@@ -19,6 +20,9 @@ use answers::state;
 use answers::turn;
 use answers::view;
 use answers::written;
+use booking::Book;
+use booking::Finished;
+use booking::Receipt;
 use calls::Call;
 use file::Form;
 use file::Writing;
@@ -162,4 +166,50 @@ pub extern "C" fn yerbagunt_write(
     let form = Form::of_third(third);
     let by = Order::of_number(order);
     written(file::write(table, form, by, trace, out))
+}
+
+// Begins a booking table, whatever it was, with W, H, k and the limits of desk 1 and desk 2.
+#[no_mangle]
+pub extern "C" fn yerbagunt_begin(
+    book: &mut Book,
+    worst: u32,
+    span: u32,
+    padding: u32,
+    limit1: u64,
+    limit2: u64,
+) -> Receipt
+    ensures { λ r. ⌜ (r ≡ begunOf worst span padding limit1 limit2 .receipt) × (now (book .exit) ≡ begunOf worst span padding limit1 limit2 .book) ⌝ }
+{
+    let a = (*book).begin_anew(worst, span, padding, limit1, limit2);
+    *book = a.book;
+    a.receipt
+}
+
+// A stream more of a desk.
+#[no_mangle]
+pub extern "C" fn yerbagunt_add(book: &mut Book, desk: u64, reserved: u32, period: u32) -> Receipt
+    ensures { λ r. ⌜ (r ≡ addOf (now (book .entry)) desk reserved period .receipt) × (now (book .exit) ≡ addOf (now (book .entry)) desk reserved period .book) ⌝ }
+{
+    let a = (*book).add(desk, reserved, period);
+    *book = a.book;
+    a.receipt
+}
+
+// One stream less of a desk.
+#[no_mangle]
+pub extern "C" fn yerbagunt_withdraw(book: &mut Book, desk: u64, number: u64) -> Receipt
+    ensures { λ r. ⌜ (r ≡ withdrawOf (now (book .entry)) desk number .receipt) × (now (book .exit) ≡ withdrawOf (now (book .entry)) desk number .book) ⌝ }
+{
+    let a = (*book).withdraw(desk, number);
+    *book = a.book;
+    a.receipt
+}
+
+// The streams of a finished table, as opening takes them.
+#[no_mangle]
+pub extern "C" fn yerbagunt_finish(book: Book) -> Finished
+    ensures { λ r. ⌜ r ≡ finishedOf book ⌝ }
+{
+    let closed = book.finish();
+    closed.finished
 }

@@ -11,6 +11,7 @@ pub struct Reservation {
 }
 
 // What is taken of a lent slice: its first eight records, zeros past its end, and its true length.
+#[repr(C)]
 pub struct Records {
     pub rows: [Reservation; Table::STREAMS_MAX],
     pub count: usize,

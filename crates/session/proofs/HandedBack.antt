@@ -7,7 +7,7 @@ use native.Mathlib.Omega.{arith}
 use lib.Dec.{eqb}
 use lib.ListN.{length, getD, set}
 use borrow.Author.Tests.{eq-eqb, ne-eqb}
-use Rattle.table.specs.Fold.{if}
+use Rattle.table.specs.Fold.{if, leaving}
 use Rattle.table.specs.declared.Table.{Table}
 use Rattle.table.proofs.Lists.{set-alike}
 use Rattle.stream.specs.Stream.{filled, charged, lapsed, closed, moved, freshStream}
@@ -17,7 +17,7 @@ use Rattle.session.specs.Session.{noStream, streamAt, horizon}
 use Rattle.session.specs.Calls.{Verdict, refuse, append, send, move, wait, expire, finish, set-clock, verdict, apply, replyTo, answerTo, after}
 use Rattle.session.specs.Opening.{NewlyOpened}
 use Rattle.session.specs.History.{Moment, historyFrom, historyOf, replied}
-use Rattle.session.specs.Tags.{Request, no-request, leaving, waitingAfter, waiting, atDiskAfter, atDisk, requests, queuedIn, queuedAt, servedAt, requestIn}
+use Rattle.session.specs.Tags.{Request, no-request, waitingAfter, waiting, atDiskAfter, atDisk, requests, queuedIn, queuedAt, servedAt, requestIn}
 use Rattle.session.specs.Laws.{HandedBack, TagComesBack}
 use Rattle.session.specs.declared.Session.{Session}
 use Rattle.calls.specs.declared.Call.{Call}

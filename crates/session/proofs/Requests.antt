@@ -1,27 +1,18 @@
 -- Lists of requests: what a queue holds as one arrives and as one leaves.
 use mathlib.Core.List.{List, [], _∷_, _++_}
 use mathlib.Core.Path.{_≡_, refl, sym, _∙_, ap, ap₂}
-use Prim.Native.Nat.{ℕ, zero, suc, _+_, _-_, _≤_, _<_}
-use native.Mathlib.Nat.{not-suc-le-zero, suc-le-suc-iff, suc-inj}
+use Prim.Native.Nat.{ℕ, zero, suc, _+_, _-_, _<_}
+use native.Mathlib.Nat.{not-suc-le-zero, suc-le-suc-iff}
 use native.Mathlib.Numerals.{add-one}
 use native.Mathlib.Omega.{arith}
-use lib.ListN.{length, getD, take, drop, set}
-use lib.Seq.{length-take-le, take-append-le, take-suc-set, getD-take}
-use Rattle.table.specs.Fold.{closedUp}
+use lib.ListN.{length, getD, take, set}
+use lib.Seq.{length-take-le, take-suc-set, getD-take}
+use Rattle.table.specs.Fold.{closedUp, leaving}
+use Rattle.table.proofs.Lists.{closes-up}
 use Rattle.stream.specs.Stream.{queue-max, arrived, without}
 use Rattle.stream.specs.declared.Stream.{Stream}
 use Rattle.stream.proofs.Orderly.{Queue}
-use Rattle.session.specs.Tags.{Request, leaving, requests, queuedIn}
-
--- the first n of a list that closes up over j are its first n + 1 without that one
-closes-up : {A : Type 0} (d : A) (j n : ℕ) (xs : List A) → j ≤ n → n < length xs
-    → take n (take j xs ++ (drop (suc j) xs ++ (d ∷ []))) ≡ leaving j (take (suc n) xs)
-unfolding leaving
-closes-up d j n [] le l = absurd (not-suc-le-zero l)
-closes-up d zero n (x ∷ xs) le l = take-append-le n xs (d ∷ []) (suc-le-suc-iff .0 l)
-closes-up d (suc j) zero (x ∷ xs) le l = absurd (not-suc-le-zero le)
-closes-up {A} d (suc j) (suc n) (x ∷ xs) le l =
-    ap (λ (ys : List A). x ∷ ys) (closes-up d j n xs (suc-le-suc-iff .0 le) (suc-le-suc-iff .0 l))
+use Rattle.session.specs.Tags.{Request, requests, queuedIn}
 
 -- requests without tags are none
 untold : (i : ℕ) (places : List ℕ) → requests i places [] ≡ []

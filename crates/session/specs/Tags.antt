@@ -1,9 +1,9 @@
 -- Tags: what a session is but for them, and which request it is that is sent or done. The quotes are document 02, Req 07.
 use mathlib.Core.List.{List, [], _∷_, _++_, map}
-use Prim.Native.Nat.{ℕ, zero, suc, _+_}
+use Prim.Native.Nat.{ℕ, _+_}
 use lib.Dec.{eqb}
 use lib.ListN.{getD, take}
-use Rattle.table.specs.Fold.{if}
+use Rattle.table.specs.Fold.{if, leaving}
 use Rattle.stream.specs.Stream.{withQueue}
 use Rattle.stream.specs.declared.Stream.{Stream}
 use Rattle.session.specs.Session.{streamAt, withStreams, withDisk}
@@ -55,13 +55,6 @@ pub record Request : Type 0 where
 
 abbrev pub no-request : Request
 no-request = record { stream = 0; place = 0; tag = 0 }
-
--- a list without what it has at j, counted from 0: the others keep their order
-module _ {A : Type 0} where
-  unfoldable pub leaving : ℕ → List A → List A
-  leaving j [] = []
-  leaving zero (x ∷ rest) = rest
-  leaving (suc j) (x ∷ rest) = x ∷ leaving j rest
 
 -- the request that a call brings: "Arrival takes both"
 abbrev pub broughtBy : Call → Request

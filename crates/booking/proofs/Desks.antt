@@ -4,6 +4,7 @@ use mathlib.Core.Path.{_≡_, refl}
 use Prim.Native.Nat.{ℕ, _+_, _≤_}
 use native.Mathlib.Omega.{arith}
 use lib.Dec.{eqb}
+use borrow.Author.Tests.{eq-eqb, ne-eqb}
 use Rattle.table.specs.Fold.{if}
 use Rattle.table.specs.Reservations.{noRecord}
 use Rattle.table.specs.declared.reservations.Reservation.{Reservation}
@@ -59,6 +60,22 @@ module _ (b : Book) (desk : ℕ) where
     unfolding withDesk if
     with-with x = either (λ c. withBy (withBy b c d) c x ≡ withBy b c x) refl refl (eqb desk 1)
 
+    -- a desk with the same limit leaves both limits, and the other desk is as it was
+    pub with-limits : d .limit ≡ deskOf b desk .limit → (withDesk b desk d .first .limit ≡ b .first .limit) × (withDesk b desk d .second .limit ≡ b .second .limit)
+    unfolding deskOf withDesk if
+    with-limits =
+        either
+        (λ c. d .limit ≡ deskBy b c .limit → (withBy b c d .first .limit ≡ b .first .limit) × (withBy b c d .second .limit ≡ b .second .limit))
+        (λ e. (e, refl)) (λ e. (refl, e)) (eqb desk 1)
+
+    pub second-stays : desk ≡ 1 → withDesk b desk d .second ≡ b .second
+    unfolding withDesk if
+    second-stays e = rw (eq-eqb desk 1 e)
+
+    pub first-stays : desk ≡ 2 → withDesk b desk d .first ≡ b .first
+    unfolding withDesk if
+    first-stays e = rw (ne-eqb desk 1 (λ z. omega arith))
+
     -- how many streams there are then
     pub with-count : countIn (withDesk b desk d) + deskOf b desk .count ≡ countIn b + d .count
     unfolding deskOf withDesk if
@@ -100,3 +117,8 @@ module _ (b : Book) (desk : ℕ) where
       let one = streamsOf (b .first) in
       let two = streamsOf (b .second) in
       desk-has (λ d. Each noRecord P (streamsOf d)) (each-left noRecord P one two all) (each-right noRecord P one two all)
+
+-- what the desks of two tables have in common, this one has
+pub desk-alike : (f : Desk → ℕ) (a b : Book) (desk : ℕ) → f (a .first) ≡ f (b .first) → f (a .second) ≡ f (b .second) → f (deskOf a desk) ≡ f (deskOf b desk)
+unfolding deskOf if
+desk-alike f a b desk one two = either (λ c. f (deskBy a c) ≡ f (deskBy b c)) one two (eqb desk 1)

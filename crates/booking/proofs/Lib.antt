@@ -5,3 +5,7 @@ pub mod Desks
 pub mod Sound
 pub mod Refusals
 pub mod Answering
+pub mod Loads
+pub mod Adding
+pub mod Withdrawing
+pub mod Outcomes

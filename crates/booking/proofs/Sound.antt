@@ -13,13 +13,13 @@ use Rattle.table.specs.Admission.{loadOf, rangesRefusal, numbersRefusal, stream
 use Rattle.table.specs.Reservations.{noRecord, tableOfRecords}
 use Rattle.table.specs.declared.reservations.Reservation.{Reservation}
 use Rattle.table.proofs.Tests.{both, or-next-none, le-or-lt}
-use Rattle.table.proofs.Lists.{each-one}
+use Rattle.table.proofs.Lists.{Each, each-one, each-append}
 use Rattle.table.proofs.Margins.{load-fits}
 use Rattle.booking.specs.Book.{deskOf, withDesk, streamsOf, streamsIn, countIn, tableWith, tableIn, sharesIn, keepsLimit, soundCells, tableRefusal, isSound}
 use Rattle.booking.specs.Bookings.{withStream, added}
 use Rattle.booking.specs.declared.Desk.{Desk}
 use Rattle.booking.specs.declared.Book.{Book}
-use Rattle.booking.proofs.Streams.{Each-fits, streams-each, parts-fit, load-judged, shares-judged, fits-append, fits-left, fits-right}
+use Rattle.booking.proofs.Streams.{Each-fits, streams-each, parts-fit, load-judged, shares-judged, fits-left, fits-right}
 use Rattle.booking.proofs.Cells.{cells-of, more-streams, more-sound}
 use Rattle.booking.proofs.Desks.{desk-has, first-has, second-has, desk-count, desk-each, with-count, with-each}
 
@@ -134,6 +134,9 @@ module _ (b : Book) (s : Sound b) where
   pub desk-sound : (desk : ℕ) → soundCells (deskOf b desk) ≡ true
   desk-sound desk = desk-has b desk (λ d. soundCells d ≡ true) (s .first) (s .second)
 
+  pub desk-limit : (desk : ℕ) → sharesIn b (deskOf b desk) ≤ deskOf b desk .limit
+  desk-limit desk = desk-has b desk (λ d. sharesIn b d ≤ d .limit) (s .first-limit) (s .second-limit)
+
   -- A desk that is another, whose cells are sound and whose limit is kept, leaves the table sound where nothing is refused of it then.
   module _ (desk : ℕ) (d : Desk) (cells : soundCells d ≡ true) where
     pub with-cells : (soundCells (withDesk b desk d .first) ≡ true) × (soundCells (withDesk b desk d .second) ≡ true)
@@ -165,10 +168,10 @@ module _ (b : Book) (s : Sound b) where
     own-space : deskOf b desk .count < streams-max
     own-space = omega (arith, desk-count b desk)
 
-    own-sound : soundCells own ≡ true
+    pub own-sound : soundCells own ≡ true
     own-sound = more-sound (deskOf b desk) (desk-sound desk) e p own-space
 
-    own-streams : streamsOf own ≡ streamsOf (deskOf b desk) ++ (record { reserved = e; period = p } ∷ [])
+    pub own-streams : streamsOf own ≡ streamsOf (deskOf b desk) ++ (record { reserved = e; period = p } ∷ [])
     own-streams = more-streams (deskOf b desk) (desk-sound desk) e p own-space
 
     pub added-count : countIn (added b desk e p) ≡ suc (countIn b)
@@ -181,16 +184,19 @@ module _ (b : Book) (s : Sound b) where
     pub added-long : length (streamsIn (added b desk e p)) ≡ suc (countIn b)
     added-long = with-long desk own own-sound ∙ added-count
 
-    module _ (passes : streamRefusal (b .worst) (b .span) (b .padding) e p ≡ 0) where
-      own-fits : Each-fits (b .worst) (b .span) (b .padding) (streamsOf own)
-      own-fits =
-          let before = streamsOf (deskOf b desk) in
-          let r : Reservation = record { reserved = e; period = p } in
-          subst (Each-fits (b .worst) (b .span) (b .padding)) (sym own-streams)
-          (fits-append (b .worst) (b .span) (b .padding) before (r ∷ []) (desk-each b desk (Fits b) sound-fits) (each-one noRecord (Fits b) r passes))
+    -- what each stream passes, and the new one, each passes then, of the desk and of all
+    pub own-each : (P : Reservation → Type 0) → Each noRecord P (streamsIn b) → P (record { reserved = e; period = p }) → Each noRecord P (streamsOf own)
+    own-each P all new =
+        let r : Reservation = record { reserved = e; period = p } in
+        subst (Each noRecord P) (sym own-streams)
+        (each-append noRecord P (streamsOf (deskOf b desk)) (r ∷ []) (desk-each b desk P all) (each-one noRecord P r new))
 
+    pub added-each : (P : Reservation → Type 0) → Each noRecord P (streamsIn b) → P (record { reserved = e; period = p }) → Each noRecord P (streamsIn (added b desk e p))
+    added-each P all new = with-each b desk own P all (own-each P all new)
+
+    module _ (passes : streamRefusal (b .worst) (b .span) (b .padding) e p ≡ 0) where
       pub added-fits : Each-fits (b .worst) (b .span) (b .padding) (streamsIn (added b desk e p))
-      added-fits = with-each b desk own (Fits b) sound-fits own-fits
+      added-fits = added-each (Fits b) sound-fits passes
 
       pub added-load : judgedLoad (tableIn (added b desk e p)) ≡ loadOf (tableIn (added b desk e p))
       unfolding withDesk
@@ -199,4 +205,4 @@ module _ (b : Book) (s : Sound b) where
 
       pub added-shares : judgedShares (tableWith b (streamsOf own)) ≡ sharesIn b own
       added-shares =
-          shares-judged (b .worst) (b .span) (b .padding) (streamsOf own) sound-ranges (omega (arith, cells-of own own-sound)) own-fits
+          shares-judged (b .worst) (b .span) (b .padding) (streamsOf own) sound-ranges (omega (arith, cells-of own own-sound)) (own-each (Fits b) sound-fits passes)

@@ -9,3 +9,5 @@ pub mod Loads
 pub mod Adding
 pub mod Withdrawing
 pub mod Outcomes
+pub mod Ends
+pub mod Undone

@@ -86,6 +86,12 @@ unfolding _or-next_
 or-next-first zero m h = absurd (h refl)
 or-next-first (suc n) m h = refl
 
+-- what comes next counts only where nothing is refused before
+pub or-next-agree : (n m k o : ℕ) → n ≡ k → (n ≡ 0 → m ≡ o) → n or-next m ≡ k or-next o
+unfolding _or-next_
+or-next-agree zero m k o same next = rw (sym same) (next refl)
+or-next-agree (suc n) m k o same next = rw (sym same)
+
 -- the first of three is that of the first two, and the third
 pub or-next-assoc : (n m o : ℕ) → n or-next m or-next o ≡ (n or-next m) or-next o
 unfolding _or-next_

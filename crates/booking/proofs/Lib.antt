@@ -11,3 +11,4 @@ pub mod Withdrawing
 pub mod Outcomes
 pub mod Ends
 pub mod Undone
+pub mod Isolated

@@ -1,4 +1,4 @@
-/* Calls the functions of a booking table with bad input, on tables of two desks that were booked and on changed ones. A refusal leaves every cell
+/* Calls the functions of a booking table with bad input, on tables of two desks that were booked and on changed ones. A refusal leaves every byte
  * as it was, what is not refused is what the second program makes of it, and what is finished is opened. */
 #include <stddef.h>
 #include <stdio.h>
@@ -11,14 +11,14 @@
 static unsigned long tried, met[32];
 
 /* The second program's table of a booking table, which has the streams of both desks in one row; none where a count is too large or an unused cell is
- * not 0, to which nothing there corresponds. */
+ * not 0, to which nothing there corresponds. No byte of a booking table is padding, so that all of it is compared. */
 static int to_second(const struct yerbagunt_book *b, struct booking_table *t)
 {
     memset(t, 0, sizeof *t);
     t->table.worst = b->worst;
     t->table.span = b->span;
     t->table.padding = b->padding;
-    if (b->desks[0].count > STREAM_MAX || b->desks[1].count > STREAM_MAX || b->desks[0].count + b->desks[1].count > STREAM_MAX)
+    if (b->unused != 0 || b->desks[0].count > STREAM_MAX || b->desks[1].count > STREAM_MAX || b->desks[0].count + b->desks[1].count > STREAM_MAX)
         return 0;
     for (uint64_t d = 0; d < DESK_COUNT; d++) {
         const struct yerbagunt_desk *desk = &b->desks[d];
@@ -35,21 +35,15 @@ static int to_second(const struct yerbagunt_book *b, struct booking_table *t)
     return 1;
 }
 
-/* Whether every cell of two tables is the same. */
-static int same(const struct yerbagunt_book *a, const struct yerbagunt_book *b)
-{
-    return a->worst == b->worst && a->span == b->span && a->padding == b->padding && memcmp(a->desks, b->desks, sizeof a->desks) == 0;
-}
-
 /* Whether a table has the limits of the second program's, and each desk its streams, in their order, and nothing else. */
 static int agrees(const struct yerbagunt_book *b, const struct booking_table *t)
 {
-    struct yerbagunt_book made = {t->table.worst, t->table.span, t->table.padding, {{.limit = t->limits[0]}, {.limit = t->limits[1]}}};
+    struct yerbagunt_book made = {t->table.worst, t->table.span, t->table.padding, 0, {{.limit = t->limits[0]}, {.limit = t->limits[1]}}};
     for (uint32_t i = 0; i < t->table.count; i++) {
         struct yerbagunt_desk *desk = &made.desks[t->desks[i] - 1];
         desk->streams[desk->count++] = (struct yerbagunt_reservation){t->table.reservations[i].reserved, t->table.reservations[i].period};
     }
-    return same(b, &made);
+    return memcmp(b, &made, sizeof made) == 0;
 }
 
 /* The bookings that are tried on each table. */
@@ -90,7 +84,7 @@ static void try_booking(const struct yerbagunt_book *b, const struct trial *t)
     if (r.number == YERBAGUNT_OK)
         hold(agrees(&copy, &other), "the table is the second program's then", tried);
     else
-        hold(same(&copy, b) && r.value == 0, "a refusal leaves every cell as it was", r.number);
+        hold(memcmp(&copy, b, sizeof copy) == 0 && r.value == 0, "a refusal leaves every byte as it was", r.number);
     met[r.number % 32]++;
 }
 
@@ -120,7 +114,7 @@ static void try_all(const struct yerbagunt_book *b)
     tried++;
 }
 
-/* A change in every byte of a table's cells. */
+/* A change in every byte of a table. */
 static void try_bytes(const struct yerbagunt_book *b)
 {
     static const uint8_t flips[] = {0x01, 0x80, 0xff};

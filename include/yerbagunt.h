@@ -318,10 +318,11 @@ struct yerbagunt_desk {
 };
 
 /* A booking table: what yerbagunt_begin makes. Read its cells as you like; every booking answers 31 to a table that breaks 2 to 7 or a desk's limit,
- * or of which an unused cell is not 0. Four bytes of padding follow `padding`. */
+ * or of which an unused cell is not 0. No byte of it is padding. */
 struct yerbagunt_book {
     uint32_t worst, span;
     uint32_t padding; /* k as it was given; 0 stands for 3 */
+    uint32_t unused;  /* 0 */
     struct yerbagunt_desk desks[2];
 };
 
@@ -341,6 +342,7 @@ YERBAGUNT_ASSERT(sizeof(struct yerbagunt_desk) == 80, "desk");
 YERBAGUNT_ASSERT(offsetof(struct yerbagunt_desk, count) == 8, "desk.count");
 YERBAGUNT_ASSERT(offsetof(struct yerbagunt_desk, streams) == 16, "desk.streams");
 YERBAGUNT_ASSERT(sizeof(struct yerbagunt_book) == 176, "book");
+YERBAGUNT_ASSERT(offsetof(struct yerbagunt_book, unused) == 12, "book.unused");
 YERBAGUNT_ASSERT(offsetof(struct yerbagunt_book, desks) == 16, "book.desks");
 YERBAGUNT_ASSERT(sizeof(struct yerbagunt_receipt) == 16, "receipt");
 YERBAGUNT_ASSERT(sizeof(struct yerbagunt_finished) == 80, "finished");

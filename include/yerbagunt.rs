@@ -248,6 +248,8 @@ pub struct Book {
     pub span: u32,
     /// k as it was given; 0 stands for 3.
     pub padding: u32,
+    /// 0.
+    pub unused: u32,
     pub desks: [Desk; 2],
 }
 
@@ -378,7 +380,7 @@ impl Book {
     /// Begins a table with W, H, k, where 0 stands for 3, and the limits of desk 1 and desk 2; or says by which number, 2 to 4, it is refused.
     pub fn begin(worst: u32, span: u32, padding: u32, limits: [u64; 2]) -> Result<Book, u64> {
         let none = Desk { limit: 0, count: 0, streams: [Reservation { reserved: 0, period: 0 }; STREAMS_MAX] };
-        let mut book = Book { worst: 0, span: 0, padding: 0, desks: [none; 2] };
+        let mut book = Book { worst: 0, span: 0, padding: 0, unused: 0, desks: [none; 2] };
         let receipt = unsafe { yerbagunt_begin(&mut book, worst, span, padding, limits[0], limits[1]) };
         receipt.result().map(|_| book)
     }

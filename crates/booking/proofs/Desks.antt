@@ -28,6 +28,7 @@ withBy b c d =
       worst = b .worst;
       span = b .span;
       padding = b .padding;
+      unused = b .unused;
       first = if c d (b .first);
       second = if c (b .second) d;
     }

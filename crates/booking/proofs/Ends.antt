@@ -20,7 +20,7 @@ use Rattle.booking.proofs.Sound.{Sound, sound-of, sound-is, all-long, s
 empty-sound : (worst span k limit1 limit2 : ℕ) → rangesRefusal worst span k ≡ 0 → Sound (emptyBook worst span k limit1 limit2)
 unfolding soundCells emptyCell allTo tableRefusal if sharesOf tableOfRecords sumTo
 empty-sound worst span k limit1 limit2 none =
-    record { first = refl; second = refl; count-high = omega arith; refusal = none; first-limit = omega arith; second-limit = omega arith }
+    record { first = refl; second = refl; count-high = omega arith; refusal = none; first-limit = omega arith; second-limit = omega arith; unused = refl }
 
 pub begun-is-sound : BegunIsSound
 unfolding begunOf if isSound soundCells emptyCell allTo tableRefusal keepsLimit given _or-next_ outside

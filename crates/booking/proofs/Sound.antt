@@ -30,11 +30,13 @@ pub record Sound (b : Book) : Type 0 where
   pub refusal : tableRefusal b ≡ 0
   pub first-limit : sharesIn b (b .first) ≤ b .first .limit
   pub second-limit : sharesIn b (b .second) ≤ b .second .limit
+  pub unused : b .unused ≡ 0
 
 pub sound-of : (b : Book) → isSound b ≡ true → Sound b
 unfolding isSound keepsLimit
 sound-of b h =
-    let second-limit = both _ _ h in
+    let unused = both _ _ h in
+    let second-limit = both _ _ (unused .0) in
     let first-limit = both _ _ (second-limit .0) in
     let refusal = both _ _ (first-limit .0) in
     let count = both _ _ (refusal .0) in
@@ -46,6 +48,7 @@ sound-of b h =
       refusal = eqb-true _ _ (refusal .1);
       first-limit = leb-true _ _ (first-limit .1);
       second-limit = leb-true _ _ (second-limit .1);
+      unused = eqb-true _ _ (unused .1);
     }
 
 pub sound-is : (b : Book) → Sound b → isSound b ≡ true
@@ -58,6 +61,7 @@ sound-is b s =
       eq-eqb (tableRefusal b) 0 (s .refusal),
       le-leb (sharesIn b (b .first)) (b .first .limit) (s .first-limit),
       le-leb (sharesIn b (b .second)) (b .second .limit) (s .second-limit),
+      eq-eqb (b .unused) 0 (s .unused),
     )
 
 -- a stream is in order with the W, H and k of a table
@@ -158,6 +162,7 @@ module _ (b : Book) (s : Sound b) where
           refusal = none;
           first-limit = first-has b desk (λ x. sharesIn b x ≤ x .limit) d kept (s .first-limit);
           second-limit = second-has b desk (λ x. sharesIn b x ≤ x .limit) d kept (s .second-limit);
+          unused = s .unused;
         }
 
   -- With a stream more, whose reservation is in order, the cells are sound, each stream is in order, and shares and load are judged.

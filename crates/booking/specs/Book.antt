@@ -24,6 +24,7 @@ withDesk b desk d =
       worst = b .worst;
       span = b .span;
       padding = b .padding;
+      unused = b .unused;
       first = if (eqb desk 1) d (b .first);
       second = if (eqb desk 1) (b .second) d;
     }
@@ -69,7 +70,7 @@ soundCells d =
 unfoldable pub tableRefusal : Book → ℕ
 tableRefusal b = if (eqb (countIn b) 0) (rangesRefusal (b .worst) (b .span) (b .padding)) (admissionOf (tableIn b))
 
--- what is not refused by 31
+-- what is not refused by 31; one cell of the table itself is unused, too
 unfoldable pub isSound : Book → Bool
 isSound b =
     soundCells (b .first)
@@ -78,3 +79,4 @@ isSound b =
     && eqb (tableRefusal b) 0
     && keepsLimit b (b .first)
     && keepsLimit b (b .second)
+    && eqb (b .unused) 0

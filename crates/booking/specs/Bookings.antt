@@ -37,7 +37,7 @@ emptyDesk limit = record { limit = limit; count = 0; streams = replicate streams
 
 abbrev pub emptyBook : ℕ → ℕ → ℕ → ℕ → ℕ → Book
 emptyBook worst span k limit1 limit2 =
-    record { worst = worst; span = span; padding = k; first = emptyDesk limit1; second = emptyDesk limit2 }
+    record { worst = worst; span = span; padding = k; unused = 0; first = emptyDesk limit1; second = emptyDesk limit2 }
 
 -- "Refusals: at the beginning 2, 3, 4, leaving an all-zero table"
 abbrev pub zeroBook : Book

@@ -46,6 +46,7 @@ pub record Kept (desk : ℕ) (b after : Book) : Type 0 where
   pub worst : after .worst ≡ b .worst
   pub span : after .span ≡ b .span
   pub padding : after .padding ≡ b .padding
+  pub unused : after .unused ≡ b .unused
   pub first-limit : after .first .limit ≡ b .first .limit
   pub second-limit : after .second .limit ≡ b .second .limit
   pub second-stays : desk ≡ 1 → after .second ≡ b .second

@@ -29,6 +29,7 @@ impl Book {
             worst,
             span,
             padding,
+            unused: 0,
             first,
             second,
         };
@@ -117,6 +118,7 @@ impl Book {
             worst: 0,
             span: 0,
             padding: 0,
+            unused: 0,
             first: none,
             second: none,
         }

@@ -23,12 +23,13 @@ pub struct Desk {
     pub streams: [Reservation; Table::STREAMS_MAX],
 }
 
-// The numbers of the whole table, and both desks.
+// The numbers of the whole table, and both desks. The cell `unused` is 0, and is there so that no byte is padding.
 #[repr(C)]
 pub struct Book {
     pub worst: u32,
     pub span: u32,
     pub padding: u32,
+    pub unused: u32,
     pub first: Desk,
     pub second: Desk,
 }

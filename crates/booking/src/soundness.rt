@@ -26,7 +26,9 @@ impl Book {
         if self.table_refusal() != 0 {
             return false;
         }
-        (self.shares(first) <= first.limit) & (self.shares(second) <= second.limit)
+        (self.shares(first) <= first.limit)
+            & (self.shares(second) <= second.limit)
+            & (self.unused == 0)
     }
 
     // 2 to 7: without streams, which have no load, 2 to 4 are left.

@@ -28,7 +28,7 @@ module _ (b : Book) where
     unfolding isSound
     at-refusal few some = rw (cells .0, cells .1, le-leb (countIn b) streams-max few, ne-eqb (tableRefusal b) 0 some)
 
-    at-limits : countIn b ≤ streams-max → tableRefusal b ≡ 0 → isSound b ≡ (keepsLimit b (b .first) && keepsLimit b (b .second))
+    at-limits : countIn b ≤ streams-max → tableRefusal b ≡ 0 → isSound b ≡ (keepsLimit b (b .first) && keepsLimit b (b .second) && eqb (b .unused) 0)
     unfolding isSound
     at-limits few none = rw (cells .0, cells .1, le-leb (countIn b) streams-max few, none)
 
@@ -75,12 +75,14 @@ shares-requires-2 c κs = cells-pass (c .before .before .before .before .before 
 returns-4 : tie.Need-returns-4
 unfolding keepsLimit
 returns-4 c =
-    let at = c .before .before .before .before in
+    let second = c .before .before in
+    let first = second .before .before in
+    let at = first .before in
     let cells = cells-pass (at .before .before .before .before) in
     let small = few (at .before .before) in
     let none = sym (at .before .table-refusal .ensures) ∙ at .if3 .left in
     let judged = desks-judged _ (cells .0) (cells .1) small none in
-    rw (at-limits _ cells small none, ← judged .0, ← judged .1, ← c .before .before .before .shares .ensures, ← c .before .shares2 .ensures)
+    rw (at-limits _ cells small none, ← judged .0, ← judged .1, ← first .shares .ensures, ← second .shares2 .ensures)
 
 pub is-sound-spec : {M : Type 1} → statement M
 is-sound-spec =

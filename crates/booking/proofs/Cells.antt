@@ -1,5 +1,5 @@
 -- A desk's cells and its streams: the cells of a sound desk are its streams and then 0, and stay so as a stream is added or withdrawn.
-use mathlib.Core.Bool.{Bool, true, false, _||_}
+use mathlib.Core.Bool.{true, _||_}
 use mathlib.Core.List.{List, [], _∷_, _++_}
 use mathlib.Core.Path.{_≡_, sym, _∙_, ap, ap₂}
 use mathlib.Core.Logic.{⊎-elim}
@@ -14,7 +14,7 @@ use Rattle.table.specs.Fold.{listTo, leaving, closedUp}
 use Rattle.table.specs.Ranges.{streams-max}
 use Rattle.table.specs.Reservations.{noRecord, recordAt, recordsOf}
 use Rattle.table.specs.declared.reservations.Reservation.{Reservation}
-use Rattle.table.proofs.Tests.{both, le-or-lt}
+use Rattle.table.proofs.Tests.{both, used-or-zero, le-or-lt}
 use Rattle.table.proofs.Folds.{all-at, all-of}
 use Rattle.table.proofs.Lists.{length-listTo, getD-listTo, getD-padded, length-closed-up, closed-up-leaving, leaving-below, leaving-from, length-leaving}
 use Rattle.booking.specs.Book.{streamsOf, emptyCell, soundCells}
@@ -80,10 +80,6 @@ listed-fewer xs j few l =
 abbrev pub deskWith : ℕ → List Reservation → Desk
 deskWith limit xs = record { limit = limit; count = length xs; streams = listed xs }
 
--- a cell that is used or 0
-used-or-empty : (a b : Bool) → (a || b) ≡ true → a ≡ false → b ≡ true
-used-or-empty a b h n = rw n at h
-
 pub empty-is : (r : Reservation) → emptyCell r ≡ true → r ≡ noRecord
 unfolding emptyCell
 empty-is r h =
@@ -143,7 +139,7 @@ cells-of d h =
     (λ (past : d .count ≤ i).
     ⊎-elim
     (λ (beyond : streams-max ≤ i). List·getD-eq-default (d .streams) noRecord (omega arith))
-    (λ (l : i < streams-max). empty-is _ (used-or-empty _ _ (all-at _ streams-max (a .1) i l) (le-ltb i (d .count) past)))
+    (λ (l : i < streams-max). empty-is _ (used-or-zero _ _ (all-at _ streams-max (a .1) i l) (le-ltb i (d .count) past)))
     (le-or-lt streams-max i)
     ∙ sym (List·getD-eq-default (streamsOf d) noRecord (omega arith)))
     (λ (used : i < d .count). sym (getD-take (d .count) (d .streams) i noRecord used))

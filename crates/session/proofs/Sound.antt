@@ -9,7 +9,7 @@ use lib.Dec.{ltb}
 use borrow.Author.Tests.{leb-true, eqb-true, le-leb, lt-ltb, le-ltb, eq-eqb}
 use Rattle.table.specs.Admission.{admissionOf}
 use Rattle.table.specs.Margin.{marginOf}
-use Rattle.table.proofs.Tests.{both, le-or-lt}
+use Rattle.table.proofs.Tests.{both, used-or-zero, le-or-lt}
 use Rattle.table.proofs.Folds.{all-at, all-of, smallest-le}
 use Rattle.table.proofs.Whole.{same-is, is-same}
 use Rattle.table.proofs.Judged.{Fits-in, Admits, admits-of}
@@ -23,7 +23,7 @@ use Rattle.time.specs.declared.Clock.{Clock}
 use Rattle.time.specs.declared.remainders.Remainders.{Remainders}
 use Rattle.stream.specs.declared.Stream.{Stream}
 use Rattle.session.specs.declared.Session.{Session}
-use Rattle.stream.proofs.Orderly.{InOrder, used-or-zero, or-right, stream-of, of-stream, bounded-of}
+use Rattle.stream.proofs.Orderly.{InOrder, or-right, stream-of, of-stream, bounded-of}
 use Rattle.stream.proofs.Unused.{unused-is-zero}
 
 -- the horizon and the sum that a session keeps

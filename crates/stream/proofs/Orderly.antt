@@ -1,7 +1,7 @@
 -- A stream whose cells are sound, test by test: what each test says, and that these facts make them sound.
-use mathlib.Core.Bool.{Bool, true, false, _&&_, _||_, false≢true}
+use mathlib.Core.Bool.{Bool, true, false, _&&_, _||_}
 use mathlib.Core.List.{List}
-use mathlib.Core.Path.{_≡_, refl, sym}
+use mathlib.Core.Path.{_≡_, refl}
 use mathlib.Core.Logic.{⊎-elim}
 use Prim.Native.Nat.{ℕ, _+_, _*_, _/_, _≤_, _<_}
 use native.Mathlib.Omega.{arith}
@@ -10,7 +10,7 @@ use lib.Dec.{leb, ltb, eqb}
 use borrow.Author.Tests.{leb-true, eqb-true, le-leb, lt-ltb, le-ltb, eq-eqb}
 use Rattle.table.specs.Ranges.{worst-max}
 use Rattle.table.specs.Admission.{grantedOf, shareOf, streamRefusal}
-use Rattle.table.proofs.Tests.{both, le-or-lt}
+use Rattle.table.proofs.Tests.{both, used-or-zero, le-or-lt}
 use Rattle.table.proofs.Folds.{all-at, all-of}
 use Rattle.table.proofs.Judged.{Fits-in, stream-of as fits-of}
 use Rattle.time.specs.Time.{session-end, duration-max}
@@ -19,11 +19,6 @@ use Rattle.stream.specs.Bounds.{Bounded}
 use Rattle.stream.specs.Search.{inOrder}
 use Rattle.time.specs.declared.Clock.{Clock}
 use Rattle.stream.specs.declared.Stream.{Stream}
-
--- a cell that is used or 0
-pub used-or-zero : (a b : Bool) → (a || b) ≡ true → a ≡ false → b ≡ true
-used-or-zero true b h n = absurd (false≢true (sym n))
-used-or-zero false b h n = h
 
 -- a row of a queue: its places, or its tags
 pub record Row (queued : ℕ) (cells : List ℕ) : Type 0 where

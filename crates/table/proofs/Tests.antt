@@ -25,6 +25,10 @@ pub neither : (a b : Bool) → (a || b) ≡ false → (a ≡ false) × (b ≡ fa
 neither true b h = absurd (false≢true (sym h))
 neither false b h = (refl, h)
 
+-- a cell that is used or 0
+pub used-or-zero : (a b : Bool) → (a || b) ≡ true → a ≡ false → b ≡ true
+used-or-zero a b h unused = rw unused at h
+
 -- of two numbers at most one is less; and where none of two is less than the one behind it, the first is not less than the last
 pub less-once : (x y : ℕ) → ltb x y ≡ true → ltb y x ≡ false
 less-once x y h = let l = ltb-true x y h in le-ltb y x (omega arith)

@@ -8,7 +8,7 @@ use borrow.Author.Tests.{eq-eqb, ne-eqb}
 use Rattle.table.specs.Fold.{if}
 use Rattle.table.specs.Reservations.{noRecord}
 use Rattle.table.specs.declared.reservations.Reservation.{Reservation}
-use Rattle.table.proofs.Lists.{Each, each-append, each-left, each-right, total, total-append}
+use Rattle.table.proofs.Elements.{Each, each-append, each-left, each-right, total, total-append}
 use Rattle.booking.specs.Book.{deskOf, withDesk, streamsOf, streamsIn, countIn}
 use Rattle.booking.specs.declared.Desk.{Desk}
 use Rattle.booking.specs.declared.Book.{Book}

@@ -16,7 +16,7 @@ use Rattle.table.specs.Reservations.{noRecord, recordAt, lentTable}
 use Rattle.table.specs.declared.reservations.Reservation.{Reservation}
 use Rattle.table.proofs.Tests.{le-or-lt, given-none, or-next-agree}
 use Rattle.table.proofs.Folds.{smallest-le, smallest-is}
-use Rattle.table.proofs.Lists.{Each, each-left, each-right, total, total-cons, total-append}
+use Rattle.table.proofs.Elements.{Each, each-left, each-right, total, total-cons, total-append}
 use Rattle.booking.specs.Book.{deskOf, withDesk, streamsOf, streamsIn, countIn, tableIn, sharesIn, isSound}
 use Rattle.booking.specs.Bookings.{withStream, withoutStream, added, accepted, refused, deskRefusal, addRefusal, withdrawRefusal, bookingOf}
 use Rattle.booking.specs.Laws.{deskIn, Alike, DesksAreIsolated}

@@ -11,7 +11,7 @@ use Rattle.table.specs.Admission.{periodAt, smallestPeriod, loadOf}
 use Rattle.table.specs.Reservations.{noRecord, recordAt, tableOfRecords, lentTable}
 use Rattle.table.specs.declared.reservations.Reservation.{Reservation}
 use Rattle.table.proofs.Folds.{smallest-is, smallest-agree}
-use Rattle.table.proofs.Lists.{Each}
+use Rattle.table.proofs.Elements.{Each}
 use Rattle.table.proofs.Judged.{stream-of}
 use Rattle.booking.proofs.Streams.{Each-fits, shares, shares-are, period-at}
 

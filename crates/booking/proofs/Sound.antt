@@ -13,7 +13,7 @@ use Rattle.table.specs.Admission.{loadOf, rangesRefusal, numbersRefusal, stream
 use Rattle.table.specs.Reservations.{noRecord, tableOfRecords}
 use Rattle.table.specs.declared.reservations.Reservation.{Reservation}
 use Rattle.table.proofs.Tests.{both, or-next-none, le-or-lt}
-use Rattle.table.proofs.Lists.{Each, each-one, each-append}
+use Rattle.table.proofs.Elements.{Each, each-one, each-append}
 use Rattle.table.proofs.Margins.{load-fits}
 use Rattle.booking.specs.Book.{deskOf, withDesk, streamsOf, streamsIn, countIn, tableWith, tableIn, sharesIn, keepsLimit, soundCells, tableRefusal, isSound}
 use Rattle.booking.specs.Bookings.{withStream, added}
@@ -73,7 +73,7 @@ pub streams-long : (b : Book) → soundCells (b .first) ≡ true → soundCells 
 streams-long b one two =
     omega (arith, length-append (streamsOf (b .first)) (streamsOf (b .second)), cells-of (b .first) one .long, cells-of (b .second) two .long)
 
--- nothing is refused of a table exactly where W, H and k are in their ranges, each stream is in order, and the load is at most the span
+-- nothing is refused of a table where W, H and k are in their ranges, each stream is in order, and the load is at most the span
 pub refuses-none : (b : Book) → length (streamsIn b) ≡ countIn b → countIn b ≤ streams-max → rangesRefusal (b .worst) (b .span) (b .padding) ≡ 0
     → Each-fits (b .worst) (b .span) (b .padding) (streamsIn b) → (1 ≤ countIn b → loadOf (tableIn b) ≤ b .span) → tableRefusal b ≡ 0
 unfolding tableRefusal tableOfRecords if

@@ -14,7 +14,8 @@ use Rattle.table.specs.declared.Table.{Table}
 use Rattle.table.specs.declared.reservations.Reservation.{Reservation}
 use Rattle.table.proofs.Tests.{by-if}
 use Rattle.table.proofs.Folds.{first-none, first-all, sum-agree}
-use Rattle.table.proofs.Lists.{getD-listTo, total, each-append, each-left, each-right}
+use Rattle.table.proofs.Lists.{getD-listTo}
+use Rattle.table.proofs.Elements.{total, each-append, each-left, each-right}
 use Rattle.table.proofs.Judged.{judged-load, judged-shares}
 
 -- each stream is in order

@@ -13,7 +13,7 @@ use Rattle.table.specs.Reservations.{noRecord, recordAt, tableOfRecords}
 use Rattle.table.specs.declared.reservations.Reservation.{Reservation}
 use Rattle.table.proofs.Tests.{given-none, or-next-none, within}
 use Rattle.table.proofs.Folds.{smallest-le}
-use Rattle.table.proofs.Lists.{Each, each-leaving, total, total-leaving}
+use Rattle.table.proofs.Elements.{Each, each-leaving, total, total-leaving}
 use Rattle.table.proofs.Judged.{admits-of}
 use Rattle.booking.specs.Book.{deskOf, withDesk, streamsOf, streamsIn, countIn, tableIn, sharesIn, soundCells}
 use Rattle.booking.specs.Bookings.{withoutStream, withdrawn, deskRefusal, withdrawRefusal}

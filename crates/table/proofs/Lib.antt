@@ -2,6 +2,7 @@ pub mod Tests
 pub mod Folds
 pub mod Grouped
 pub mod Lists
+pub mod Elements
 pub mod Whole
 pub mod Judged
 pub mod Margins

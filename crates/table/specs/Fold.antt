@@ -1,4 +1,4 @@
--- A choice by a test, cells that close up, and folds over the streams of a table or a session, which are counted from 0: each goes up to a count, and each is written once, here.
+-- A choice by a test, cells that close up, a list that leaves one out, and folds over the streams of a table or a session, which are counted from 0: each goes up to a count, and each is written once, here.
 use mathlib.Core.Bool.{Bool, true, false, _&&_, _||_}
 use mathlib.Core.List.{List, [], _∷_, _++_}
 use Prim.Native.Nat.{ℕ, zero, suc, _+_, min, max}

@@ -2,14 +2,15 @@
 use mathlib.Core.Path.{_≡_, sym, _∙_}
 use Prim.Native.Nat.{ℕ, _≤_, _<_}
 use native.Mathlib.Omega.{arith}
-use borrow.Author.Tests.{leb-false, ltb-false, not-false}
+use borrow.Author.Tests.{leb-false, ltb-false}
 use Rattle.table.specs.Ranges.{streams-max}
 use Rattle.table.specs.Admission.{loadOf, streamRefusal}
 use Rattle.table.proofs.Tests.{given-none, or-next-none, within}
-use Rattle.booking.specs.Book.{deskOf, withDesk, countIn, tableIn, sharesIn, isSound}
+use Rattle.booking.specs.Book.{deskOf, withDesk, countIn, tableIn, sharesIn}
 use Rattle.booking.specs.Bookings.{withStream, added, deskRefusal, addRefusal}
 use Rattle.booking.specs.declared.Book.{Book}
-use Rattle.booking.proofs.Sound.{Sound, sound-of, refuses-none, sound-ranges, with-sound, own-sound, added-count, added-long, added-fits}
+use Rattle.booking.proofs.Refusals.{past-desk}
+use Rattle.booking.proofs.Sound.{Sound, refuses-none, sound-ranges, with-sound, own-sound, added-count, added-long, added-fits}
 
 -- what is not refused by 31 or 30
 pub record Booked-at (b : Book) (desk : ℕ) : Type 0 where
@@ -22,7 +23,7 @@ unfolding deskRefusal
 booked-at b desk h =
     let a = or-next-none _ _ h in
     let range = within 1 2 desk (given-none _ 29 (a .1)) in
-    record { sound = sound-of b (not-false (isSound b) (given-none _ 30 (a .0))); low = range .0; high = range .1 }
+    record { sound = past-desk b desk h; low = range .0; high = range .1 }
 
 module _ (b : Book) (desk e p : ℕ) where
   -- and, of a stream more, by 1, 5, 6, 18 or 7

@@ -1,15 +1,13 @@
 -- The refusals of a booking, one after the other: each way out of a function cites what is known there.
-use mathlib.Core.Bool.{Bool, true, false, not}
-use mathlib.Core.Path.{_≡_, refl, sym, _∙_}
+use mathlib.Core.Path.{_≡_, sym}
 use Prim.Native.Nat.{ℕ, _≤_, _<_}
-use lib.Dec.{leb, ltb}
-use borrow.Author.Tests.{not-false, leb-false, le-leb, lt-leb, lt-ltb, le-ltb}
-use Rattle.table.specs.Refusal.{given, _or-next_, outside}
+use borrow.Author.Tests.{not-false, le-leb, lt-leb, lt-ltb, le-ltb}
+use Rattle.table.specs.Refusal.{given, _or-next_}
 use Rattle.table.specs.Ranges.{streams-max}
 use Rattle.table.specs.Admission.{loadOf, streamRefusal}
-use Rattle.table.proofs.Tests.{within, given-none, or-next-none, or-next-first}
+use Rattle.table.proofs.Tests.{given-none, or-next-none, or-next-first}
 use Rattle.booking.specs.Book.{deskOf, countIn, tableIn, sharesIn, isSound}
-use Rattle.booking.specs.Bookings.{withStream, added, deskRefusal, addRefusal, withdrawRefusal}
+use Rattle.booking.specs.Bookings.{withStream, added, deskRefusal, addRefusal}
 use Rattle.booking.specs.declared.Book.{Book}
 use Rattle.booking.proofs.Sound.{Sound, sound-of}
 
@@ -56,19 +54,3 @@ module _ (b : Book) (desk : ℕ) where
             pub add-at-none : load ≤ b .span → 0 ≡ addRefusal b desk e p
             unfolding addRefusal _or-next_ given
             add-at-none within-span = rw (none, lt-leb streams-max (countIn b) space, fits, le-ltb own-limit own-shares kept, le-ltb (b .span) load within-span)
-
-    -- where nothing is refused, there is space
-    pub added-space : addRefusal b desk e p ≡ 0 → (deskRefusal b desk ≡ 0) × (countIn b < streams-max)
-    unfolding addRefusal
-    added-space none =
-        let a = or-next-none _ _ none in
-        (a .0, leb-false streams-max (countIn b) (given-none _ 0 (or-next-none _ _ (a .1) .0)))
-
-  -- and where nothing is withdrawn in vain, the number is one of the desk's
-  pub withdrawn-number : (number : ℕ) → withdrawRefusal b desk number ≡ 0
-      → (deskRefusal b desk ≡ 0) × (1 ≤ number) × (number ≤ deskOf b desk .count)
-  unfolding withdrawRefusal
-  withdrawn-number number none =
-      let a = or-next-none _ _ none in
-      let n = within 1 (deskOf b desk .count) number (given-none _ 18 (a .1)) in
-      (a .0, n .0, n .1)

@@ -1,11 +1,11 @@
 -- `Book::add` gives the refusal, or the table with the stream and the desk's count.
-use mathlib.Core.Path.{_≡_, sym, _∙_, ap}
+use mathlib.Core.Path.{_≡_, sym, _∙_}
 use native.Mathlib.Omega.{arith}
 use borrow.Author.Tests.{ne-eqb}
 use Rattle.table.specs.Fold.{if}
 use Rattle.booking.specs.Bookings.{withStream, addRefusal, addOf}
 use Rattle.booking.proofs.Desks.{desk-count}
-use Rattle.booking.proofs.Refusals.{added-space}
+use Rattle.booking.proofs.Adding.{taken-of}
 use Rattle.booking.proofs.Book.add.Statement.{statement}
 use Rattle.booking.proofs.Book.add.Tie as tie
 
@@ -29,7 +29,7 @@ none c = sym (c .before .add-refusal .ensures) ∙ c .if1 .left
 with-stream-requires : tie.Need-with-stream-requires
 with-stream-requires c κs =
     let a = c .before .before .before .args in
-    rw (c .desk .ensures) (omega (arith, added-space _ _ _ _ (none (c .before)) .1, desk-count (a .self) (a .desk)))
+    rw (c .desk .ensures) (omega (arith, taken-of _ _ _ _ (none (c .before)) .space, desk-count (a .self) (a .desk)))
 
 with-desk-requires : tie.Need-with-desk-requires
 with-desk-requires c κs = tt

@@ -5,7 +5,7 @@ use Rattle.table.specs.Fold.{if}
 use Rattle.booking.specs.Bookings.{withoutStream, withdrawRefusal, withdrawOf}
 use Rattle.booking.proofs.Cells.{cells-of}
 use Rattle.booking.proofs.Sound.{desk-sound}
-use Rattle.booking.proofs.Refusals.{past-desk, withdrawn-number}
+use Rattle.booking.proofs.Withdrawing.{dropped-of}
 use Rattle.booking.proofs.Book.withdraw.Statement.{statement}
 use Rattle.booking.proofs.Book.withdraw.Tie as tie
 
@@ -29,9 +29,8 @@ none c = sym (c .before .withdraw-refusal .ensures) ∙ c .if1 .left
 without-stream-requires : tie.Need-without-stream-requires
 without-stream-requires c κs =
     let a = c .before .before .before .args in
-    let n = withdrawn-number _ _ (a .number) (none (c .before)) in
-    let s = past-desk _ _ (n .0) in
-    rw (c .desk .ensures) (n .1, n .2, cells-of _ (desk-sound _ s (a .desk)) .count-high)
+    let t = dropped-of _ _ (a .number) (none (c .before)) in
+    rw (c .desk .ensures) (t .low, t .high, cells-of _ (desk-sound _ (t .at-desk .sound) (a .desk)) .count-high)
 
 with-desk-requires : tie.Need-with-desk-requires
 with-desk-requires c κs = tt

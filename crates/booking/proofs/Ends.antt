@@ -25,7 +25,7 @@ empty-sound worst span k limit1 limit2 none =
 pub begun-is-sound : BegunIsSound
 unfolding begunOf if isSound soundCells emptyCell allTo tableRefusal keepsLimit given _or-next_ outside
 begun-is-sound worst span k limit1 limit2 = (
-  λ none. rw (eq-eqb (rangesRefusal worst span k) 0 none) (sound-is (emptyBook worst span k limit1 limit2) (empty-sound worst span k limit1 limit2 none)),
+  λ none. rw (eq-eqb (rangesRefusal worst span k) 0 none) (sound-is (emptyBook worst span k limit1 limit2) (empty-sound worst span k limit1 limit2 none), refl),
   λ some. rw (ne-eqb (rangesRefusal worst span k) 0 some),
   refl,
 )

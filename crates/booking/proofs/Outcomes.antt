@@ -1,21 +1,25 @@
 -- What a booking comes to, whichever it is: accepted, it changes its desk; refused, nothing. So a sound table stays sound, limits are kept, and the other desk stays.
-use mathlib.Core.Bool.{true}
-use mathlib.Core.List.{List, [], _∷_}
+use mathlib.Core.Bool.{true, false}
+use mathlib.Core.List.{List, [], _∷_, _++_}
 use mathlib.Core.Path.{_≡_, refl, sym, _∙_, ap, subst}
-use Prim.Native.Nat.{ℕ, _≤_}
+use Prim.Native.Nat.{ℕ, _-_, _≤_}
+use native.Mathlib.Omega.{arith}
 use lib.Dec.{eqb}
 use borrow.Author.Tests.{eqb-true, eqb-false}
+use Rattle.table.specs.Fold.{if, leaving}
+use Rattle.table.specs.Refusal.{given, _or-next_}
 use Rattle.table.proofs.Tests.{by-if}
-use Rattle.booking.specs.Book.{deskOf, withDesk, sharesIn, isSound}
-use Rattle.booking.specs.Bookings.{accepted, refused, booked, withStream, withoutStream, addRefusal, withdrawRefusal, addOf, withdrawOf, bookingOf}
-use Rattle.booking.specs.Laws.{afterAll, deskIn, Kept, BookingKeepsSound, BookingsKeepSound, RefusedChangesNothing, OthersStay, LimitIsKept}
+use Rattle.booking.specs.Book.{deskOf, withDesk, streamsOf, sharesIn, isSound}
+use Rattle.booking.specs.Bookings.{accepted, refused, booked, withStream, withoutStream, deskRefusal, addRefusal, withdrawRefusal, addOf, withdrawOf, bookingOf, finishedOf}
+use Rattle.booking.specs.Laws.{afterAll, deskIn, Kept, BookingKeepsSound, BookingsKeepSound, RefusedChangesNothing, UnsoundIsRefused, OthersStay, StreamsInOrder, LimitIsKept}
 use Rattle.booking.specs.declared.Desk.{Desk}
 use Rattle.booking.specs.declared.Book.{Book}
 use Rattle.booking.specs.declared.Booked.{Booked}
 use Rattle.booking.specs.declared.Booking.{Booking}
 use Rattle.booking.specs.declared.Booking.the-variants.{Add, Withdraw}
-use Rattle.booking.proofs.Desks.{desk-alike, desk-with, with-limits, first-stays, second-stays}
-use Rattle.booking.proofs.Sound.{Sound, sound-of, sound-is, desk-limit}
+use Rattle.booking.proofs.Cells.{more-streams, fewer-streams}
+use Rattle.booking.proofs.Desks.{desk-count, desk-alike, desk-with, with-limits, first-stays, second-stays}
+use Rattle.booking.proofs.Sound.{Sound, sound-of, sound-is, desk-sound, desk-limit}
 use Rattle.booking.proofs.Adding.{taken-of, taken-sound}
 use Rattle.booking.proofs.Withdrawing.{dropped-of, dropped-sound}
 
@@ -58,6 +62,48 @@ bookings-keep-sound b (x ∷ rest) h = bookings-keep-sound (bookingOf b x .book)
 pub refused-changes-nothing : RefusedChangesNothing
 refused-changes-nothing b x =
     outcome (λ r. (r .receipt .number ≡ 0 → ⊥) → (r .book ≡ b) × (r .receipt .value ≡ 0)) b x (λ _ some. absurd (some refl)) (λ _ _. (refl, refl))
+
+-- 31 comes first, whatever is asked
+unsound-refusal : (b : Book) (x : Booking) → isSound b ≡ false → refusalOf b x ≡ 31
+unfolding addRefusal withdrawRefusal deskRefusal given _or-next_
+unsound-refusal b (Add desk e p) h = rw h
+unsound-refusal b (Withdraw desk number) h = rw h
+
+pub unsound-is-refused : UnsoundIsRefused
+unfolding finishedOf if
+unsound-is-refused b x h =
+    let told = unsound-refusal b x h in (
+      outcome (λ r. r ≡ booked b (refused 31)) b x (λ none. absurd (31-is-not (sym told ∙ none))) (λ _. ap (λ (n : ℕ). booked b (refused n)) told),
+      rw h,
+    )
+  where
+    31-is-not : _≡_ {A = ℕ} 31 0 → ⊥
+    31-is-not e = omega (arith, e)
+
+-- what is added comes behind a desk's own, and what is withdrawn is left out
+pub streams-in-order : StreamsInOrder
+streams-in-order b desk = (
+  λ e p.
+      outcome
+      (λ r. r .receipt .number ≡ 0 → streamsOf (deskOf (r .book) desk) ≡ streamsOf (deskOf b desk) ++ (record { reserved = e; period = p } ∷ []))
+      b
+      (Add desk e p)
+      (λ z _.
+      let t = taken-of b desk e p z in
+      ap (λ (d : Desk). streamsOf d) (desk-with b desk (withStream (deskOf b desk) e p))
+      ∙ more-streams (deskOf b desk) (desk-sound b (t .at-desk .sound) desk) e p (omega (arith, t .space, desk-count b desk)))
+      (λ some none. absurd (some none)),
+  λ number.
+      outcome
+      (λ r. r .receipt .number ≡ 0 → streamsOf (deskOf (r .book) desk) ≡ leaving (number - 1) (streamsOf (deskOf b desk)))
+      b
+      (Withdraw desk number)
+      (λ z _.
+      let t = dropped-of b desk number z in
+      ap (λ (d : Desk). streamsOf d) (desk-with b desk (withoutStream (deskOf b desk) number))
+      ∙ fewer-streams (deskOf b desk) (desk-sound b (t .at-desk .sound) desk) number (t .low) (t .high))
+      (λ some none. absurd (some none)),
+)
 
 -- a desk has its limit afterwards
 limit-stays : (b : Book) (x : Booking) → ownAfter b x .limit ≡ deskOf b (deskIn x) .limit

@@ -6,9 +6,17 @@ use Rattle.table.specs.Admission.{paddingOf, grantedOf, shareOf, sharesOf, smal
 use Rattle.table.specs.Reservations.{recordsOf, tableOfRecords}
 use Rattle.booking.specs.Book.{deskOf, withDesk, keepsLimit, emptyCell, soundCells, tableRefusal, isSound}
 use Rattle.booking.specs.Bookings.{begunOf, withStream, withoutStream, deskRefusal, addRefusal, withdrawRefusal, addOf, withdrawOf}
-use Rattle.booking.specs.Cases.{told, cases}
-use Rattle.booking.specs.Laws.{CasesHold}
+use Rattle.booking.specs.Cases.{told, limitCases, numberCases, knownCases}
+use Rattle.booking.specs.Laws.{LimitCasesHold, NumberCasesHold, KnownCasesHold}
 
-pub cases-hold : CasesHold
-unfolding if sumTo smallestTo allTo listTo given _or-next_ outside firstTo paddingOf grantedOf shareOf sharesOf smallestPeriod loadOf numbersRefusal streamRefusal streamsRefusal admissionOf partsRefusal judgedLoad recordsOf tableOfRecords deskOf withDesk keepsLimit emptyCell soundCells tableRefusal isSound begunOf withStream withoutStream deskRefusal addRefusal withdrawRefusal addOf withdrawOf told cases
-cases-hold = refl
+pub limit-cases-hold : LimitCasesHold
+unfolding if sumTo smallestTo allTo listTo given _or-next_ outside firstTo paddingOf grantedOf shareOf sharesOf smallestPeriod loadOf numbersRefusal streamRefusal streamsRefusal admissionOf partsRefusal judgedLoad recordsOf tableOfRecords deskOf withDesk keepsLimit emptyCell soundCells tableRefusal isSound begunOf withStream withoutStream deskRefusal addRefusal withdrawRefusal addOf withdrawOf told limitCases
+limit-cases-hold = refl
+
+pub number-cases-hold : NumberCasesHold
+unfolding if sumTo smallestTo allTo listTo given _or-next_ outside firstTo paddingOf grantedOf shareOf sharesOf smallestPeriod loadOf numbersRefusal streamRefusal streamsRefusal admissionOf partsRefusal judgedLoad recordsOf tableOfRecords deskOf withDesk keepsLimit emptyCell soundCells tableRefusal isSound begunOf withStream withoutStream deskRefusal addRefusal withdrawRefusal addOf withdrawOf told numberCases
+number-cases-hold = refl
+
+pub known-cases-hold : KnownCasesHold
+unfolding if sumTo smallestTo allTo listTo given _or-next_ outside firstTo paddingOf grantedOf shareOf sharesOf smallestPeriod loadOf numbersRefusal streamRefusal streamsRefusal admissionOf partsRefusal judgedLoad recordsOf tableOfRecords deskOf withDesk keepsLimit emptyCell soundCells tableRefusal isSound begunOf withStream withoutStream deskRefusal addRefusal withdrawRefusal addOf withdrawOf told knownCases
+known-cases-hold = refl

@@ -1,4 +1,4 @@
--- Worked cases: what the rules say to some bookings, beside what is expected. The statement that covers the list is `CasesHold`.
+-- Worked cases: what the rules say to some bookings, beside what is expected. A statement of `Laws` covers each list.
 use mathlib.Core.List.{List, [], _∷_, _++_, map}
 use Prim.Native.Nat.{ℕ}
 use Rattle.table.specs.Admission.{smallestPeriod, judgedLoad}
@@ -40,27 +40,33 @@ rental = books (λ b. known b ∷ []) 25_000 1_000_000 1 300_000 500_000
 abbrev pub free : List Booking → List (List ℕ) → Case
 free = books (λ b. known b ∷ []) 100 20_000 1 20_000 20_000
 
-unfoldable pub cases : List Case
-cases =
-    -- each desk has its own count and its own limit, a sum that is as large as the limit is taken, and the second desk does not pass the load of both
+-- each desk has its own count and its own limit, and a sum that is as large as the limit is taken; 18 before 7, and 7 where the limit is kept; a limit of 0 takes nothing
+unfoldable pub limitCases : List Case
+limitCases =
     rental [] ((0 ∷ 0 ∷ 0 ∷ []) ∷ [])
     ∷ rental
     (Add 1 25_000 250_000 ∷ Add 1 25_000 250_000 ∷ Add 2 175_000 500_000 ∷ Add 3 1 1 ∷ Withdraw 2 2 ∷ Withdraw 2 1 ∷ Withdraw 2 1 ∷ [])
     ((0 ∷ 1 ∷ []) ∷ (18 ∷ 0 ∷ []) ∷ (0 ∷ 1 ∷ []) ∷ (30 ∷ 0 ∷ []) ∷ (19 ∷ 0 ∷ []) ∷ (0 ∷ 0 ∷ []) ∷ (19 ∷ 0 ∷ []) ∷ (1 ∷ 300_000 ∷ 250_000 ∷ []) ∷ [])
     ∷ books (λ b. []) 25_000 1_000_000 1 200_000 199_999 (Add 1 25_000 250_000 ∷ Add 2 25_000 250_000 ∷ []) ((0 ∷ 1 ∷ []) ∷ (18 ∷ 0 ∷ []) ∷ [])
-    -- 18 before 7, and 7 where the limit is kept; a limit of 0 takes nothing
     ∷ books (λ b. []) 25_000 1_000_000 1 900_000 1_000_000 (Add 1 875_000 1_000_000 ∷ Add 1 100_000 1_000_000 ∷ Add 2 100_000 1_000_000 ∷ []) ((0 ∷ 1 ∷ []) ∷ (18 ∷ 0 ∷ []) ∷ (7 ∷ 0 ∷ []) ∷ [])
     ∷ books (λ b. []) 25_000 1_000_000 1 0 0 (Add 1 1 1_000_000 ∷ []) ((18 ∷ 0 ∷ []) ∷ [])
-    -- numbers close up after a withdrawal, and in the finished table desk 1's streams come first
-    ∷ books shown 100 20_000 1 20_000 20_000
+    ∷ []
+
+-- numbers close up after a withdrawal, and in the finished table desk 1's streams come first
+unfoldable pub numberCases : List Case
+numberCases =
+    books shown 100 20_000 1 20_000 20_000
     (Add 2 10 20_000 ∷ Add 1 20 20_000 ∷ Add 1 30 20_000 ∷ Add 1 40 20_000 ∷ Withdraw 1 2 ∷ Add 1 50 20_000 ∷ Withdraw 1 2 ∷ [])
     ((0 ∷ 1 ∷ []) ∷ (0 ∷ 1 ∷ []) ∷ (0 ∷ 2 ∷ []) ∷ (0 ∷ 3 ∷ []) ∷ (0 ∷ 2 ∷ []) ∷ (0 ∷ 3 ∷ []) ∷ (0 ∷ 2 ∷ []) ∷ (20 ∷ 20_000 ∷ []) ∷ (50 ∷ 20_000 ∷ []) ∷ (10 ∷ 20_000 ∷ []) ∷ [])
-    -- the load alone is not enough: two tables with one load, and another smallest period, tell desk 1 another reply
-    ∷ free (Add 2 1_900 10_000 ∷ []) ((0 ∷ 1 ∷ []) ∷ (1 ∷ 4_200 ∷ 10_000 ∷ []) ∷ [])
+    ∷ []
+
+-- The load alone is not enough: two tables with one load, and another smallest period, tell desk 1 another reply. And bookings one after the other are not enough either: two tables that are alike to desk 1 are not any more when it has withdrawn its stream of the smallest period, and the next reply tells.
+unfoldable pub knownCases : List Case
+knownCases =
+    free (Add 2 1_900 10_000 ∷ []) ((0 ∷ 1 ∷ []) ∷ (1 ∷ 4_200 ∷ 10_000 ∷ []) ∷ [])
     ∷ free (Add 2 4_000 20_000 ∷ []) ((0 ∷ 1 ∷ []) ∷ (1 ∷ 4_200 ∷ 20_000 ∷ []) ∷ [])
     ∷ free (Add 2 1_900 10_000 ∷ Add 1 7_800 10_000 ∷ []) ((0 ∷ 1 ∷ []) ∷ (0 ∷ 1 ∷ []) ∷ (2 ∷ 20_000 ∷ 10_000 ∷ []) ∷ [])
     ∷ free (Add 2 4_000 20_000 ∷ Add 1 7_800 10_000 ∷ []) ((0 ∷ 1 ∷ []) ∷ (7 ∷ 0 ∷ []) ∷ (1 ∷ 4_200 ∷ 20_000 ∷ []) ∷ [])
-    -- and bookings one after the other are not enough either: two tables that are alike to desk 1 are not any more when it has withdrawn its stream of the smallest period, and the next reply tells
     ∷ free (Add 2 1_900 10_000 ∷ Add 1 900 5_000 ∷ []) ((0 ∷ 1 ∷ []) ∷ (0 ∷ 1 ∷ []) ∷ (2 ∷ 8_400 ∷ 5_000 ∷ []) ∷ [])
     ∷ free (Add 2 3_900 20_000 ∷ Add 1 900 5_000 ∷ []) ((0 ∷ 1 ∷ []) ∷ (0 ∷ 1 ∷ []) ∷ (2 ∷ 8_400 ∷ 5_000 ∷ []) ∷ [])
     ∷ free (Add 2 1_900 10_000 ∷ Add 1 900 5_000 ∷ Withdraw 1 1 ∷ Add 1 15_800 20_000 ∷ []) ((0 ∷ 1 ∷ []) ∷ (0 ∷ 1 ∷ []) ∷ (0 ∷ 0 ∷ []) ∷ (7 ∷ 0 ∷ []) ∷ (1 ∷ 4_200 ∷ 10_000 ∷ []) ∷ [])

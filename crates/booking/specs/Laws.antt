@@ -1,12 +1,13 @@
 -- What is proved of booking tables.
 use mathlib.Core.Bool.{true, false}
-use mathlib.Core.List.{List, [], _∷_, map}
+use mathlib.Core.List.{List, [], _∷_, _++_, map}
 use mathlib.Core.Path.{_≡_}
-use Prim.Native.Nat.{ℕ, _≤_}
+use Prim.Native.Nat.{ℕ, _-_, _≤_}
 use Rattle.table.specs.Admission.{smallestPeriod, judgedLoad, rangesRefusal, admissionOf}
-use Rattle.booking.specs.Book.{deskOf, countIn, tableIn, sharesIn, isSound}
-use Rattle.booking.specs.Bookings.{accepted, booked, zeroBook, begunOf, addOf, withdrawOf, bookingOf, finishedOf, finishedTable}
-use Rattle.booking.specs.Cases.{Case, cases}
+use Rattle.table.specs.Fold.{leaving}
+use Rattle.booking.specs.Book.{deskOf, streamsOf, countIn, tableIn, sharesIn, isSound}
+use Rattle.booking.specs.Bookings.{accepted, refused, booked, zeroBook, begunOf, addOf, withdrawOf, bookingOf, finishedOf, finishedTable}
+use Rattle.booking.specs.Cases.{Case, limitCases, numberCases, knownCases}
 use Rattle.booking.specs.declared.Book.{Book}
 use Rattle.booking.specs.declared.Booking.{Booking}
 use Rattle.booking.specs.declared.Booking.the-variants.{Add, Withdraw}
@@ -21,13 +22,20 @@ abbrev pub deskIn : Booking → ℕ
 deskIn (Add desk e p) = desk
 deskIn (Withdraw desk number) = desk
 
--- A table that is begun is sound; one whose beginning is refused is the all-zero one, which is not.
+-- A table that is begun is sound, and replies 0 and 0; one whose beginning is refused is the all-zero one, which is not.
 abbrev pub BegunIsSound : Type 0
 BegunIsSound =
     (worst span k limit1 limit2 : ℕ)
-    → (rangesRefusal worst span k ≡ 0 → isSound (begunOf worst span k limit1 limit2 .book) ≡ true)
-    × ((rangesRefusal worst span k ≡ 0 → ⊥) → begunOf worst span k limit1 limit2 .book ≡ zeroBook)
+    → let refusal = rangesRefusal worst span k in
+    let begun = begunOf worst span k limit1 limit2 in
+    (refusal ≡ 0 → (isSound (begun .book) ≡ true) × (begun .receipt ≡ accepted 0))
+    × ((refusal ≡ 0 → ⊥) → begun ≡ booked zeroBook (refused refusal))
     × (isSound zeroBook ≡ false)
+
+-- "first of all in a booking 31": a table that is not sound gets it, whatever is asked, and is what it was.
+abbrev pub UnsoundIsRefused : Type 0
+UnsoundIsRefused =
+    (b : Book) (x : Booking) → isSound b ≡ false → (bookingOf b x ≡ booked b (refused 31)) × (finishedOf b .number ≡ 31)
 
 -- Every booking keeps it sound, and so do any bookings: 31 never comes to what was begun.
 abbrev pub BookingKeepsSound : Type 0
@@ -56,6 +64,15 @@ abbrev pub OthersStay : Type 0
 OthersStay =
     (b : Book) (x : Booking) → let r = bookingOf b x in
     Kept (deskIn x) b (r .book) × (r .receipt .number ≡ 0 → r .receipt .value ≡ deskOf (r .book) (deskIn x) .count)
+
+-- "It counts its own streams from 1 in order of booking, closing up after a withdrawal": what is added comes behind a desk's own, what is withdrawn is left out, and the others keep their order.
+abbrev pub StreamsInOrder : Type 0
+StreamsInOrder =
+    (b : Book) (desk : ℕ)
+    → ((e p : ℕ) → let r = addOf b desk e p in
+    r .receipt .number ≡ 0 → streamsOf (deskOf (r .book) desk) ≡ streamsOf (deskOf b desk) ++ (record { reserved = e; period = p } ∷ []))
+    × ((number : ℕ) → let r = withdrawOf b desk number in
+    r .receipt .number ≡ 0 → streamsOf (deskOf (r .book) desk) ≡ leaving (number - 1) (streamsOf (deskOf b desk)))
 
 -- "Each desk has a limit on the sum of g × (H / p) over its own streams": it is never passed, whatever is booked.
 abbrev pub LimitIsKept : Type 0
@@ -88,7 +105,7 @@ pub record Alike (desk : ℕ) (a b : Book) : Type 0 where
   pub load : judgedLoad (tableIn a) ≡ judgedLoad (tableIn b)
   pub smallest : smallestPeriod (tableIn a) ≡ smallestPeriod (tableIn b)
 
--- and where two sound tables are, the same booking has the same reply, and leaves the desk the same. It is of one booking: after a withdrawal two tables need not be alike any more, and the load alone is not enough (`cases`).
+-- and where two sound tables are, the same booking has the same reply, and leaves the desk the same. It is of one booking: after a withdrawal two tables need not be alike any more, and the load alone is not enough (`knownCases`).
 abbrev pub DesksAreIsolated : Type 0
 DesksAreIsolated =
     (a b : Book) (x : Booking) → isSound a ≡ true → isSound b ≡ true → Alike (deskIn x) a b
@@ -97,5 +114,14 @@ DesksAreIsolated =
     (p .receipt ≡ q .receipt) × (deskOf (p .book) (deskIn x) ≡ deskOf (q .book) (deskIn x))
 
 -- The worked cases come out as they stand there.
-abbrev pub CasesHold : Type 0
-CasesHold = map (λ (k : Case). k .rules) cases ≡ map (λ (k : Case). k .expected) cases
+abbrev pub Hold : List Case → Type 0
+Hold cases = map (λ (k : Case). k .rules) cases ≡ map (λ (k : Case). k .expected) cases
+
+abbrev pub LimitCasesHold : Type 0
+LimitCasesHold = Hold limitCases
+
+abbrev pub NumberCasesHold : Type 0
+NumberCasesHold = Hold numberCases
+
+abbrev pub KnownCasesHold : Type 0
+KnownCasesHold = Hold knownCases

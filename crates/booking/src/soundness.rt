@@ -12,7 +12,7 @@ use table::ranges_refusal;
 
 impl Book {
     // Whether the table is sound.
-    pub fn is_sound(self) -> bool
+    fn is_sound(self) -> bool
         ensures { λ r. ⌜ r ≡ isSound self ⌝ }
     {
         let first = self.first;

@@ -1,3 +1,4 @@
 pub mod Entry
+pub mod Phrase
 pub mod Ledger
 pub mod Laws

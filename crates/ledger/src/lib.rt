@@ -1,4 +1,11 @@
 // A file of bookings: its lines, whether each may stand where it stands, and what is printed of them.
+mod line;
+mod phrase;
+
+use booking::Booking;
+pub use line::entry_of;
+
+// What a line says: nothing; that the table is begun, with its numbers and the limit of each desk; a booking; or nothing that can be understood.
 pub enum Entry {
     Blank,
     Begin {
@@ -18,5 +25,3 @@ pub enum Judged {
     Unbegun,
     Amiss { line: u64, begun: bool },
 }
-
-use booking::Booking;

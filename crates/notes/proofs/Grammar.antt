@@ -84,12 +84,12 @@ number-spoilt = spoilt isDigit (speltAfter 0) spelt-onward
 
 -- ---- a byte more: `names` says whether a word is a name or a number
 
-value-more : (names : Bool) (a : List ℕ) (byte : ℕ) → isValue names a ≡ true → isValue names (a ++ (byte ∷ [])) ≡ lengthens names (valueOf names a) byte
+pub value-more : (names : Bool) (a : List ℕ) (byte : ℕ) → isValue names a ≡ true → isValue names (a ++ (byte ∷ [])) ≡ lengthens names (valueOf names a) byte
 unfolding isValue valueOf isName isNumber lengthens heldAfter speltAfter if
 value-more true a byte h = fine-more isLetter (heldAfter 0) held-onward a byte h ∙ rw (held-append a (byte ∷ []) 0)
 value-more false a byte h = fine-more isDigit (speltAfter 0) spelt-onward a byte h ∙ rw (spelt-append 0 a (byte ∷ []))
 
-value-longer : (names : Bool) (a : List ℕ) (byte : ℕ) → valueOf names (a ++ (byte ∷ [])) ≡ longer names (valueOf names a) byte
+pub value-longer : (names : Bool) (a : List ℕ) (byte : ℕ) → valueOf names (a ++ (byte ∷ [])) ≡ longer names (valueOf names a) byte
 unfolding valueOf heldAfter speltAfter if
 value-longer true a byte = held-append a (byte ∷ []) 0
 value-longer false a byte = spelt-append 0 a (byte ∷ [])
@@ -145,11 +145,11 @@ module _ (byte : ℕ) where
     no-comment (next ∷ rest) h = goes-on next rest
 
 module _ (byte : ℕ) (rest : List ℕ) where
-  word-ends : (word : List ℕ) → isGap byte ≡ true → wordsAfter word (byte ∷ rest) ≡ ended-word word (wordsAfter [] rest)
+  pub word-ends : (word : List ℕ) → isGap byte ≡ true → wordsAfter word (byte ∷ rest) ≡ ended-word word (wordsAfter [] rest)
   unfolding wordsAfter if
   word-ends word h = rw h
 
-  word-goes-on : (word : List ℕ) → isGap byte ≡ false → wordsAfter word (byte ∷ rest) ≡ wordsAfter (word ++ (byte ∷ [])) rest
+  pub word-goes-on : (word : List ℕ) → isGap byte ≡ false → wordsAfter word (byte ∷ rest) ≡ wordsAfter (word ++ (byte ∷ [])) rest
   unfolding wordsAfter if
   word-goes-on word h = rw h
 
@@ -370,17 +370,17 @@ module _ (w : List ℕ) where
 
 -- ---- a field behind the word: a name or a number
 
-no-value : (names : Bool) → isValue names [] ≡ true
+pub no-value : (names : Bool) → isValue names [] ≡ true
 unfolding isValue if
 no-value true = no-letters
 no-value false = no-digits
 
-none-held : (names : Bool) → valueOf names [] ≡ 0
+pub none-held : (names : Bool) → valueOf names [] ≡ 0
 unfolding valueOf if heldAfter speltAfter
 none-held true = refl
 none-held false = refl
 
-value-spoilt : (names : Bool) (a b : List ℕ) → isValue names a ≡ false → isValue names (a ++ b) ≡ false
+pub value-spoilt : (names : Bool) (a b : List ℕ) → isValue names a ≡ false → isValue names (a ++ b) ≡ false
 unfolding isValue if
 value-spoilt true = name-spoilt
 value-spoilt false = number-spoilt

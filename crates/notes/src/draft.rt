@@ -183,7 +183,7 @@ impl Draft {
 }
 
 // Whether a byte parts fields.
-pub(crate) fn is_gap(byte: u8) -> bool
+pub fn is_gap(byte: u8) -> bool
     ensures { λ r. ⌜ r ≡ isGap byte ⌝ }
 {
     (byte == b' ') | (byte == b'\t')
@@ -209,7 +209,7 @@ pub(crate) fn is_digit(byte: u8) -> bool
 }
 
 // Whether a byte is a letter of a name, or a digit of a number, for which 64 bits have room behind n.
-fn lengthens(name: bool, n: u64, byte: u8) -> bool
+pub fn lengthens(name: bool, n: u64, byte: u8) -> bool
     ensures { λ r. ⌜ r ≡ lengthens name n byte ⌝ }
 {
     if name {
@@ -221,7 +221,8 @@ fn lengthens(name: bool, n: u64, byte: u8) -> bool
     false
 }
 
-fn longer(name: bool, n: u64, byte: u8) -> u64
+// The longer one.
+pub fn longer(name: bool, n: u64, byte: u8) -> u64
     requires { ⌜ lengthens name n byte ≡ true ⌝ }
     ensures { λ r. ⌜ r ≡ longer name n byte ⌝ }
 {

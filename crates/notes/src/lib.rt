@@ -8,6 +8,9 @@ mod numbers;
 
 pub use draft::Draft;
 pub use draft::Place;
+pub use draft::is_gap;
+pub use draft::lengthens;
+pub use draft::longer;
 pub use fault::Fault;
 use fault::fault_of;
 use file::Event;

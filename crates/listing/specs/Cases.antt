@@ -1,8 +1,8 @@
--- Document 01's printed lines, with the last field of document 02, Req 07, those of a tally, and those on a listing: the fields of each, beside what is shown. The statement that covers the list is `CasesHold`.
+-- Document 01's printed lines, with the last field of document 02, Req 07, those of a tally, those on a listing, and those of bookings: the fields of each, beside what is shown. The statement that covers the list is `CasesHold`.
 use mathlib.Core.List.{List, [], _∷_}
 use Prim.Native.Nat.{ℕ}
 use Prim.Native.String.{String}
-use Rattle.listing.specs.Line.{headerFields, eventFields, refusedFields, tallyHeaderFields, tallyFields, totalFields, acceptedFields, placeFields}
+use Rattle.listing.specs.Line.{headerFields, eventFields, refusedFields, tallyHeaderFields, tallyFields, totalFields, acceptedFields, placeFields, receiptFields}
 
 pub record Case : Type 0 where
   pub fields : List (List ℕ)
@@ -11,7 +11,7 @@ pub record Case : Type 0 where
 abbrev pub prints : List (List ℕ) → String → Case
 prints fields document = record { fields = fields; document = document }
 
--- listing (P), whose requests have tag 0, and a refusal; then numbers at the ends of their range; the lines of a tally; and those on a listing
+-- listing (P), whose requests have tag 0, and a refusal; then numbers at the ends of their range; the lines of a tally; those on a listing; and those of bookings
 unfoldable pub cases : List Case
 cases =
     prints headerFields "event answer stream value clock tag\n"
@@ -36,4 +36,6 @@ cases =
     ∷ prints totalFields "total\n"
     ∷ prints acceptedFields "accepted\n"
     ∷ prints (placeFields 4_001) "4001\n"
+    ∷ prints (receiptFields 0 1) "0 1\n"
+    ∷ prints (receiptFields 18 0) "18 0\n"
     ∷ []

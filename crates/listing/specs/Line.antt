@@ -1,4 +1,4 @@
--- What the programs print, as bytes: "a header, then a line per event, fields parted by one space, numbers in decimal, each line ended by a newline", or one line that says `refused N`, or `refused 7 N`; the lines of a tally; and what is said of a listing.
+-- What the programs print, as bytes: "a header, then a line per event, fields parted by one space, numbers in decimal, each line ended by a newline", or one line that says `refused N`, or `refused 7 N`; the lines of a tally; what is said of a listing; and the replies to bookings.
 use mathlib.Core.List.{List, [], _∷_, _++_, map}
 use mathlib.Core.Path.{_≡_}
 use Prim.Native.Nat.{ℕ, zero, suc, _+_, _-_, _/_, _%_, _≤_}
@@ -84,6 +84,10 @@ acceptedFields = wordedFields (ascii "accepted") []
 
 abbrev pub placeFields : ℕ → List (List ℕ)
 placeFields number = map decimal (number ∷ [])
+
+-- Of a file of bookings (document 02's Req 10) each booking has a line: the reply, and how many streams the desk has then, or 0.
+abbrev pub receiptFields : ℕ → ℕ → List (List ℕ)
+receiptFields number value = map decimal (number ∷ value ∷ [])
 
 -- a line as the code hands it over: at the start of a fixed number of bytes, zeros after it
 abbrev pub text-size : ℕ

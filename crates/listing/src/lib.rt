@@ -4,7 +4,7 @@ ghost use mathlib.Core.List.{_∷_, map};
 ghost use Prim.Native.Nat.{_+_, _≤_, min};
 ghost use lib.ListN.{length};
 ghost use lib.Seq.{sets};
-ghost use Rattle.listing.specs.Line.{decimal, onward, headerFields, eventFields, wordedFields, refusedFields, tallyHeaderFields, tallyFields, totalFields, acceptedFields, placeFields, text-size, textHolding, textOf, Within};
+ghost use Rattle.listing.specs.Line.{decimal, onward, headerFields, eventFields, wordedFields, refusedFields, tallyHeaderFields, tallyFields, totalFields, acceptedFields, placeFields, receiptFields, text-size, textHolding, textOf, Within};
 
 // A printed line: the first `len` bytes. Those after them are 0.
 pub struct Text {
@@ -96,6 +96,15 @@ pub fn place(number: u64) -> Text
 {
     let none = [0u64; 0];
     numbered(number, &none)
+}
+
+// The line of a booking: the reply and the value.
+pub fn receipt(number: u64, value: u64) -> Text
+    ensures { λ r. ⌜ r ≡ textOf (receiptFields number value) ⌝ }
+    ensures { λ r. ⌜ Within r ⌝ }
+{
+    let others = [value];
+    numbered(number, &others)
 }
 
 // The line of a word and numbers behind it; of a word or numbers too long for a text, the first ones.

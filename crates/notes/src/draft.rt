@@ -221,7 +221,7 @@ pub fn lengthens(name: bool, n: u64, byte: u8) -> bool
     false
 }
 
-// The longer one.
+// What it is held as with that byte, for which there is room.
 pub fn longer(name: bool, n: u64, byte: u8) -> u64
     requires { ⌜ lengthens name n byte ≡ true ⌝ }
     ensures { λ r. ⌜ r ≡ longer name n byte ⌝ }

@@ -1,2 +1,4 @@
 pub mod Parts
 pub mod Phrases
+pub mod Judging
+pub mod Ends

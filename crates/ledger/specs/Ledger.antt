@@ -1,12 +1,13 @@
 -- A file of bookings, line by line: whether each line may stand where it stands, and what is printed.
 use mathlib.Core.Bool.{Bool, true, false, not}
-use mathlib.Core.List.{List, [], _∷_, _++_, map}
-use Prim.Native.Nat.{ℕ, suc}
+use mathlib.Core.List.{List, [], _∷_, _++_}
+use Prim.Native.Nat.{ℕ, suc, _+_, min}
 use lib.Dec.{eqb}
+use lib.ListN.{length, drop}
 use Rattle.table.specs.Fold.{if}
 use Rattle.order.specs.declared.Order.the-variants.{Nearest}
 use Rattle.file.specs.declared.form.Form.the-variants.{Two}
-use Rattle.listing.specs.Line.{newline, decimal, rendered}
+use Rattle.listing.specs.Line.{newline, rendered, receiptFields}
 use Rattle.notes.specs.Line.{notesOf}
 use Rattle.booking.specs.Bookings.{accepted, booked, zeroBook, begunOf, bookingOf, finishedOf, finishedTable}
 use Rattle.booking.specs.declared.Book.{Book}
@@ -25,6 +26,14 @@ linesAfter line (byte ∷ rest) = if (eqb byte newline) (line ∷ linesAfter [] 
 
 abbrev pub linesOf : List ℕ → List (List ℕ)
 linesOf file = linesAfter [] file
+
+-- where the line ends that goes on at an index: at the first newline from there on, or at the end of the file; past that there is none
+unfoldable pub lineLength : List ℕ → ℕ
+lineLength [] = 0
+lineLength (byte ∷ rest) = if (eqb byte newline) 0 (suc (lineLength rest))
+
+unfoldable pub lineEnd : List ℕ → ℕ → ℕ
+lineEnd file start = min start (length file) + lineLength (drop start file)
 
 -- `begin` comes first, and once: whether a line may stand where a table is begun or is not, and whether one is begun then. Blank lines stand anywhere.
 abbrev pub stands : Bool → Entry → Bool
@@ -55,14 +64,11 @@ takenBy b (Begin worst span k limit1 limit2) = begunOf worst span k limit1 limit
 takenBy b (Call booking) = bookingOf b booking
 takenBy b Wrong = booked b (accepted 0)
 
--- "prints for each line the reply and the value"
-unfoldable pub receiptFields : Receipt → List (List ℕ)
-receiptFields r = map decimal (r .number ∷ r .value ∷ [])
-
+-- a line that is taken has its reply: "prints for each line the reply and the value"
 abbrev pub repliedTo : Receipt → Entry → List ℕ
 repliedTo r Blank = []
-repliedTo r (Begin worst span k limit1 limit2) = rendered (receiptFields r)
-repliedTo r (Call booking) = rendered (receiptFields r)
+repliedTo r (Begin worst span k limit1 limit2) = rendered (receiptFields (r .number) (r .value))
+repliedTo r (Call booking) = rendered (receiptFields (r .number) (r .value))
 repliedTo r Wrong = []
 
 -- "and after the last line the finished table as notes that `compose` takes, unless the beginning was refused", which leaves a table that cannot be finished

@@ -1,9 +1,14 @@
 // A file of bookings: its lines, whether each may stand where it stands, and what is printed of them.
 mod line;
+mod lines;
 mod phrase;
+mod taking;
 
 use booking::Booking;
 pub use line::entry_of;
+pub use lines::judge;
+pub use lines::line_end;
+pub use taking::taken;
 
 // What a line says: nothing; that the table is begun, with its numbers and the limit of each desk; a booking; or nothing that can be understood.
 pub enum Entry {

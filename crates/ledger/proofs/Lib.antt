@@ -2,3 +2,5 @@ pub mod Parts
 pub mod Phrases
 pub mod Judging
 pub mod Ends
+pub mod Refused
+pub mod Worked

@@ -133,7 +133,7 @@ pub struct Reservation {
 /// Why a table is refused.
 #[derive(Clone, Copy, Debug, PartialEq, Eq)]
 pub struct Refusal {
-    /// 1 to 7.
+    /// 1 to 7; of a booking table that is not sound 31.
     pub number: u64,
     /// H less the load: with 7 it is below 0, so that the load is −margin above H; with 1 to 6 it is 0.
     pub margin: i64,

@@ -12,7 +12,7 @@ use table::ranges_refusal;
 
 impl Book {
     // Whether the table is sound.
-    fn is_sound(self) -> bool
+    pub(crate) fn is_sound(self) -> bool
         ensures { λ r. ⌜ r ≡ isSound self ⌝ }
     {
         let first = self.first;

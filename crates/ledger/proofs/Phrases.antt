@@ -15,58 +15,14 @@ use Rattle.file.specs.Reading.{part}
 use Rattle.listing.specs.Laws.{speltAfter}
 use Rattle.notes.specs.Draft.{heldAfter, isGap, longer, lengthens}
 use Rattle.notes.specs.Line.{inWord}
-use Rattle.notes.specs.Words.{ended-word, wordsAfter, allOf, isName, isNumber, isValue, valueOf}
+use Rattle.notes.specs.Words.{ended-word, wordsAfter, allOf, isName, isNumber, isValue, valueOf, readAs}
 use Rattle.notes.proofs.Grammar.{test, word-ends, word-goes-on, value-more, value-longer, value-spoilt, no-value, none-held}
 use Rattle.ledger.specs.declared.Entry.{Entry}
 use Rattle.ledger.specs.declared.Entry.the-variants.{Wrong}
-use Rattle.ledger.specs.declared.phrase.Value.{Value}
 use Rattle.ledger.specs.declared.phrase.Phrase.{Phrase}
 use Rattle.ledger.specs.Entry.{numbersEntry, entryOfWords}
-use Rattle.ledger.specs.Phrase.{readAs, words-most, noWords, wrongWords, withWord, withPart, withWords, fieldsEntry, phraseEntry}
+use Rattle.ledger.specs.Phrase.{words-most, noWords, wrongWords, withWord, withPart, withWords, fieldsEntry, phraseEntry}
 use Rattle.ledger.proofs.Parts.{next, part-longer, part-none}
-
--- ---- a word that is read byte by byte
-
--- what has come of it by byte i: it is right so far, and held as n
-pub record Held (names : Bool) (word : List ℕ) (n i : ℕ) : Type 0 where
-  pub within : i ≤ length word
-  pub right : isValue names (take i word) ≡ true
-  pub is : n ≡ valueOf names (take i word)
-
-pub held-none : (names : Bool) (word : List ℕ) → Held names word 0 0
-held-none names word = record { within = omega arith; right = no-value names; is = sym (none-held names) }
-
-module _ (names : Bool) (word : List ℕ) (n i : ℕ) (h : Held names word n i) (more : i < length word) where
-  byte-longer : take (i + 1) word ≡ take i word ++ (getD word i 0 ∷ [])
-  byte-longer = rw add-one (take-suc word i 0 more)
-
-  -- whether it is right with the next byte
-  right-longer : isValue names (take (i + 1) word) ≡ lengthens names n (getD word i 0)
-  right-longer = ap (isValue names) byte-longer ∙ value-more names (take i word) (getD word i 0) (h .right) ∙ ap (λ (k : ℕ). lengthens names k (getD word i 0)) (sym (h .is))
-
-  pub held-more : lengthens names n (getD word i 0) ≡ true → Held names word (longer names n (getD word i 0)) (i + 1)
-  held-more fine =
-      record {
-        within = omega arith;
-        right = right-longer ∙ fine;
-        is = sym (ap (valueOf names) byte-longer ∙ value-longer names (take i word) (getD word i 0) ∙ ap (λ (k : ℕ). longer names k (getD word i 0)) (sym (h .is)));
-      }
-
-  -- one that starts wrong is wrong
-  pub held-wrong : lengthens names n (getD word i 0) ≡ false → Value.Wrong ≡ readAs names word
-  unfolding readAs if
-  held-wrong bad =
-      let whole = value-spoilt names (take (i + 1) word) (drop (i + 1) word) (right-longer ∙ bad) in
-      let off : isValue names word ≡ false = ap (isValue names) (sym (take-append-drop (i + 1) word)) ∙ whole in
-      rw off
-
-pub held-all : (names : Bool) (word : List ℕ) (n i : ℕ) → Held names word n i → length word ≤ i → Value.Right n ≡ readAs names word
-unfolding readAs if
-held-all names word n i h past =
-    let whole : i ≡ length word = omega (arith, h .within) in
-    let all : take i word ≡ word = ap (λ (k : ℕ). take k word) whole ∙ take-length word in
-    let right : isValue names word ≡ true = ap (isValue names) (sym all) ∙ h .right in
-    rw right (ap Value.Right (h .is ∙ ap (valueOf names) all))
 
 -- ---- words that are parted byte by byte
 

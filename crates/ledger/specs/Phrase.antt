@@ -5,17 +5,13 @@ use Prim.Native.Nat.{ℕ, _+_}
 use lib.Dec.{ltb, eqb}
 use lib.ListN.{getD, set, replicate}
 use Rattle.table.specs.Fold.{if}
-use Rattle.notes.specs.Words.{isValue, valueOf}
+use Rattle.notes.specs.declared.word.Value.{Value}
+use Rattle.notes.specs.declared.word.Value.the-variants.{Right, Wrong}
+use Rattle.notes.specs.Words.{readAs}
 use Rattle.ledger.specs.Entry.{numbersEntry}
 use Rattle.ledger.specs.declared.Entry.{Entry}
 use Rattle.ledger.specs.declared.Entry.the-variants.{Blank}
-use Rattle.ledger.specs.declared.phrase.Value.{Value}
-use Rattle.ledger.specs.declared.phrase.Value.the-variants.{Right, Wrong}
 use Rattle.ledger.specs.declared.phrase.Phrase.{Phrase}
-
--- what a word is held as, where it is a name or a number as it should be
-unfoldable pub readAs : Bool → List ℕ → Value
-readAs names word = if (isValue names word) (Right (valueOf names word)) Wrong
 
 -- a name, and at most the five numbers of a beginning
 abbrev pub words-most : ℕ

@@ -1,19 +1,13 @@
 // A line that is read word by word.
 use crate::Entry;
 use booking::Booking;
-use notes::lengthens;
-use notes::longer;
+use notes::Value;
+use notes::read_as;
 ghost use mathlib.Core.Path.{_≡_};
 ghost use mathlib.Core.List.{[], _∷_};
 ghost use Prim.Native.Nat.{_<_};
 ghost use Rattle.ledger.specs.Entry.{numbersEntry};
-ghost use Rattle.ledger.specs.Phrase.{readAs, words-most, noWords, wrongWords, heldBy, withValue, withWord, withPart, fieldsEntry, phraseEntry};
-
-// What a word is held as, or that it is no name or number of 64 bits.
-pub(crate) enum Value {
-    Right(u64),
-    Wrong,
-}
+ghost use Rattle.ledger.specs.Phrase.{words-most, noWords, wrongWords, heldBy, withValue, withWord, withPart, fieldsEntry, phraseEntry};
 
 // The words so far: whether each of them may stand there, how many there are, and what they are held as; the first is the name, and the others are numbers.
 pub(crate) struct Phrase {
@@ -168,21 +162,4 @@ fn beginning(word: u64, worst: u64, span: u64, padding: u64, limit1: u64, limit2
         };
     }
     Entry::Wrong
-}
-
-// Reads a word byte by byte: a name, which is letters, or a number, which is digits. What is held of it has to have room in 64 bits.
-fn read_as(name: bool, word: &[u8]) -> Value
-    ensures { λ r. ⌜ r ≡ readAs name (now (word .entry)) ⌝ }
-{
-    let mut n: u64 = 0;
-    let mut i: usize = 0;
-    while i < word.len() {
-        let byte = word[i];
-        if !lengthens(name, n, byte) {
-            return Value::Wrong;
-        }
-        n = longer(name, n, byte);
-        i += 1;
-    }
-    Value::Right(n)
 }

@@ -3,6 +3,7 @@ pub mod Choices
 pub mod Digits
 pub mod Grammar
 pub mod Faults
+pub mod Held
 pub mod Gaps
 pub mod Orders
 pub mod ReadBack

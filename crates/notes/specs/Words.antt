@@ -5,6 +5,7 @@ use Prim.Native.Nat.{ℕ, _^_}
 use lib.Dec.{ltb, eqb}
 use Rattle.table.specs.Fold.{if}
 use Rattle.listing.specs.Laws.{speltAfter}
+use Rattle.notes.specs.declared.word.Value.{Value}
 use Rattle.notes.specs.declared.line.Line.{Line}
 use Rattle.notes.specs.declared.line.Line.the-variants.{Blank, Wrong}
 use Rattle.notes.specs.Draft.{heldAfter, takesName, isGap, hash, carriage-return, isLetter, isDigit}
@@ -51,6 +52,10 @@ isValue names word = if names (isName word) (isNumber word)
 
 unfoldable pub valueOf : Bool → List ℕ → ℕ
 valueOf names word = if names (heldAfter 0 word) (speltAfter 0 word)
+
+-- what a word is held as, where it is as it should be
+unfoldable pub readAs : Bool → List ℕ → Value
+readAs names word = if (isValue names word) (Value.Right (valueOf names word)) Value.Wrong
 
 -- the line of some words: a name, and up to three numbers, or names as they are held
 abbrev pub numbersLine : ℕ → List ℕ → Line

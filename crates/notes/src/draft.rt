@@ -209,7 +209,7 @@ pub(crate) fn is_digit(byte: u8) -> bool
 }
 
 // Whether a byte is a letter of a name, or a digit of a number, for which 64 bits have room behind n.
-pub fn lengthens(name: bool, n: u64, byte: u8) -> bool
+pub(crate) fn lengthens(name: bool, n: u64, byte: u8) -> bool
     ensures { λ r. ⌜ r ≡ lengthens name n byte ⌝ }
 {
     if name {
@@ -222,7 +222,7 @@ pub fn lengthens(name: bool, n: u64, byte: u8) -> bool
 }
 
 // What it is held as with that byte, for which there is room.
-pub fn longer(name: bool, n: u64, byte: u8) -> u64
+pub(crate) fn longer(name: bool, n: u64, byte: u8) -> u64
     requires { ⌜ lengthens name n byte ≡ true ⌝ }
     ensures { λ r. ⌜ r ≡ longer name n byte ⌝ }
 {

@@ -4,7 +4,8 @@ use lib.Dec.{ltb, eqb}
 use borrow.Author.Tests.{ltb-true}
 use Rattle.table.specs.Fold.{if}
 use Rattle.table.proofs.Tests.{both}
-use Rattle.ledger.specs.Phrase.{readAs, words-most, wrongWords, withValue, withWord}
+use Rattle.notes.specs.Words.{readAs}
+use Rattle.ledger.specs.Phrase.{words-most, wrongWords, withValue, withWord}
 use mathlib.Core.Path.{sym, ap, _∙_}
 use borrow.Author.Needs.{needs}
 use Rattle.ledger.proofs.phrase.Phrase.with_word.Statement.{statement}

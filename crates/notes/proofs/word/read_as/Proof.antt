@@ -1,12 +1,12 @@
 -- `read_as` reads a word byte by byte: it is right so far, and held as n (`Held`).
 use lib.ListN.{length}
 use borrow.Author.Tests.{not-true, not-false}
-use Rattle.ledger.proofs.Phrases.{Held, held-none, held-more, held-wrong, held-all}
+use Rattle.notes.proofs.Held.{Held, held-none, held-more, held-wrong, held-all}
 use native.Mathlib.Omega.{arith}
 use mathlib.Core.Path.{sym, _∙_}
 use Prim.Native.Nat.{_-_}
-use Rattle.ledger.proofs.phrase.read_as.Statement.{statement}
-use Rattle.ledger.proofs.phrase.read_as.Tie as tie
+use Rattle.notes.proofs.word.read_as.Statement.{statement}
+use Rattle.notes.proofs.word.read_as.Tie as tie
 
 abbrev Inv-loop : tie.InvT-loop
 Inv-loop name word n₀ i₀ n i = Held name word n i

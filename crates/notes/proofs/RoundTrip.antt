@@ -7,8 +7,9 @@ use native.Mathlib.Omega.{arith}
 use lib.Dec.{eqb}
 use lib.ListN.{length, take, drop, set, length-append, length-take}
 use lib.Seq.{sets, sets-eq, length-sets, length-take-le, take-at, take-add, take-all, getD-drop}
-use borrow.Author.Tests.{ne-eqb, lt-ltb, le-ltb}
-use Rattle.table.specs.Fold.{if, listTo}
+use borrow.Author.Tests.{ne-eqb, lt-ltb, le-ltb, le-leb}
+use Rattle.table.specs.Fold.{if, listTo, allTo}
+use Rattle.table.specs.Refusal.{given, _or-next_}
 use Rattle.table.specs.Ranges.{streams-max}
 use Rattle.table.specs.Admission.{reservedAt, periodAt}
 use Rattle.table.specs.declared.Table.{Table}
@@ -17,23 +18,25 @@ use Rattle.order.specs.declared.Order.{Order}
 use Rattle.order.specs.declared.Order.the-variants.{Nearest}
 use Rattle.file.specs.declared.form.Form.{Form}
 use Rattle.file.specs.declared.form.Form.the-variants.{Two, Three}
-use Rattle.file.specs.File.{event-size, events-max, bytesOf}
-use Rattle.file.specs.Reading.{eventsIn, eventAt, formed, column, countAt, startIn, traceStart, traceEnd, formIn, orderIn, traceIn, tableAt, tableIn, isLaidOut}
-use Rattle.file.specs.Writing.{putRefusal, withEvent, writeOf, writtenOn}
+use Rattle.file.specs.File.{event-size, events-max, bytesOf, streamCells, tableBody, fileOf}
+use Rattle.file.specs.Reading.{eventsIn, eventAt, formed, isTrace, column, countAt, startIn, traceStart, traceEnd, formIn, orderIn, traceIn, tableAt, tableIn, isLaidOut}
+use Rattle.file.specs.Writing.{putRefusal, withEvent, isWritable, writeRefusal, writeOf, writtenOn}
 use Rattle.file.specs.Laws.{Words, trimmed}
 use Rattle.file.proofs.Accepted.{read-accepted}
 use Rattle.file.specs.declared.Reading.the-variants.{LaidOut}
+use Rattle.file.proofs.Columns.{column-at}
 use Rattle.file.proofs.Events.{event-writes-back}
 use Rattle.file.proofs.Round.{table-read-is-trimmed, accepted-is-within, accepted-writes-back, two-means-nearest}
 use Rattle.file.proofs.Stores.{stored-there}
 use Rattle.file.proofs.Traces.{length-event, coded-storable}
+use Rattle.file.proofs.Writes.{write-done}
 use Rattle.listing.specs.Line.{rendered}
 use Rattle.notes.specs.declared.Notes.{Notes}
 use Rattle.notes.specs.declared.line.Line.{Line}
 use Rattle.notes.specs.declared.line.Line.the-variants.{Worst, Span, Padding, Ordered, Stream, Call}
 use Rattle.notes.specs.Line.{fieldsLine, lineShown, streamAt, afterHead, headLines, lineAt, shownTo}
 use Rattle.notes.specs.Notes.{noted, started, no-table, withWorst, withSpan, nextLine, afterNumber, takesOrder, afterOrder, afterStream, beganBy, afterEvent, after, Read, read, lineRefusal, refusedBy, traceAfter, lineEnded, byteRead, bytesRead, Filed, filed, told, filedBy, ended}
-use Rattle.notes.specs.Laws.{Fits, ShownComposes}
+use Rattle.notes.specs.Laws.{Fits, ShownComposes, TableComposes}
 use Rattle.notes.proofs.Bytes.{pieces-join}
 use Rattle.notes.proofs.Choices.{filed-whole}
 use Rattle.notes.proofs.ReadBack.{line-reads-back}
@@ -302,3 +305,31 @@ shown-composes file buffer out b h room space =
     ∙ ap (written-of out) (events-read form order (two-nearest file h) t (table .0) (inside .count-high) trace bytes (inside .all-formed) (inside .events-high) buffer room e (omega arith))
     ∙ at-end (e + (first + 1)) form order e (began-of first e) (trimmed t) (stored buffer trace e) out (omega (arith, stores .1, room))
     ∙ rw (began-is first e, table .1, stores .0, take-all (event-size * e) trace size, back .0, back .1)
+
+-- ---- a table without events
+
+-- what stands past the count is not in the file
+cells-trimmed : (t : Table) (n : ℕ) → n ≤ t .count → t .count ≤ streams-max → streamCells (trimmed t) n ≡ streamCells t n
+unfolding streamCells trimmed
+cells-trimmed t zero within few = refl
+cells-trimmed t (suc n) within few =
+    rw (cells-trimmed t n (omega arith) few, column-at (reservedAt t) (t .count) n (omega arith) few, column-at (periodAt t) (t .count) n (omega arith) few)
+
+file-trimmed : (t : Table) → t .count ≤ streams-max → fileOf Two Nearest (trimmed t) [] ≡ fileOf Two Nearest t []
+unfolding fileOf tableBody trimmed
+file-trimmed t few = rw (cells-trimmed t (t .count) (omega arith) few)
+
+file-taken : (t : Table) (room : ℕ) → t .count ≤ streams-max → length (fileOf Two Nearest t []) ≤ room → writeRefusal Two Nearest t [] room ≡ 0
+unfolding writeRefusal isWritable isTrace allTo given _or-next_
+file-taken t room few fits = rw (le-leb (t .count) streams-max few, le-ltb room (length (fileOf Two Nearest t [])) fits)
+
+pub table-composes : TableComposes
+unfolding trimmed
+table-composes t buffer out w few fits =
+    let none : headLines Two + t .count + 0 ≡ t .count + headLines Two = omega arith in
+    let same = file-trimmed t few in
+    let done = write-done Two Nearest (trimmed t) [] out (file-taken (trimmed t) (length out) few (rw same fits)) in
+    ap (λ (m : ℕ). written-of out (bytesRead (read started buffer) (shownTo Two Nearest t [] m))) none
+    ∙ ap (written-of out) (streams-read Two Nearest (λ _. refl) t w few [] (λ i. omega arith) (λ i l. absurd (omega arith)) (omega arith) buffer (omega arith) (t .count) (omega arith))
+    ∙ at-end (t .count + (headLines Two + 1)) Two Nearest 0 0 (trimmed t) buffer out (omega arith)
+    ∙ rw (done .0, done .1, same)

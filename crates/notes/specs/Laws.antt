@@ -7,14 +7,16 @@ use Prim.Native.Char.{code}
 use lib.Dec.{eqb}
 use lib.ListN.{length, drop, replicate}
 use Rattle.table.specs.Fold.{if}
+use Rattle.table.specs.Ranges.{streams-max}
 use Rattle.table.specs.declared.Table.{Table}
 use Rattle.cells.specs.Cells.{Bytes}
 use Rattle.order.specs.declared.Order.{Order}
+use Rattle.order.specs.declared.Order.the-variants.{Nearest}
 use Rattle.file.specs.declared.form.Form.{Form}
-use Rattle.file.specs.declared.form.Form.the-variants.{Three}
+use Rattle.file.specs.declared.form.Form.the-variants.{Two, Three}
 use Rattle.file.specs.Reading.{eventsIn, formIn, orderIn, tableIn, traceIn, isLaidOut}
-use Rattle.file.specs.Laws.{Coded}
-use Rattle.file.specs.File.{event-size}
+use Rattle.file.specs.Laws.{Coded, Words}
+use Rattle.file.specs.File.{event-size, fileOf}
 use Rattle.file.specs.Listing.{listing-file, sweep-file}
 use Rattle.listing.specs.Line.{space, newline, ascii, rendered}
 use Rattle.listing.specs.Laws.{Each}
@@ -115,6 +117,14 @@ ShownComposes =
     (file buffer out : List ℕ) → Bytes file → isLaidOut file ≡ true → eventsIn (traceIn file) ≤ eventsIn buffer → length file ≤ length out
     → composedOf (bytesRead (read started buffer) (notesOf (formIn file) (orderIn file) (tableIn file) (traceIn file))) out
     ≡ filed (saidOf (formIn file) (tableIn file) (traceIn file) (length file)) (file ++ drop (length file) out)
+
+-- So are the notes of any table without events, to a file of two entries; what stands past the table's count is not shown, and not in the file.
+abbrev pub TableComposes : Type 0
+TableComposes =
+    (t : Table) (buffer out : List ℕ) → Words t → t .count ≤ streams-max
+    → let file = fileOf Two Nearest t [] in
+    length file ≤ length out
+    → composedOf (bytesRead (read started buffer) (notesOf Two Nearest t [])) out ≡ filed (writtenBy (t .count) 0 (length file)) (file ++ drop (length file) out)
 
 -- What a message quotes is of the wrong line, whether it ended with a newline or with the notes.
 abbrev pub HeardStays : Type 0

@@ -7,14 +7,21 @@ use lib.Dec.{ltb}
 use lib.ListN.{length, drop}
 use Rattle.table.specs.Fold.{if}
 use Rattle.table.specs.Admission.{rangesRefusal}
+use Rattle.order.specs.declared.Order.the-variants.{Nearest}
+use Rattle.file.specs.File.{fileOf}
 use Rattle.file.specs.Reading.{part}
+use Rattle.file.specs.Laws.{Words}
+use Rattle.file.specs.declared.form.Form.the-variants.{Two}
 use Rattle.listing.specs.Line.{ascii, rendered, receiptFields}
 use Rattle.notes.specs.Words.{allOf}
-use Rattle.booking.specs.Bookings.{refused}
+use Rattle.notes.specs.Notes.{started, read, bytesRead, filed, writtenBy}
+use Rattle.notes.specs.Laws.{composedOf}
+use Rattle.booking.specs.Book.{countIn, isSound}
+use Rattle.booking.specs.Bookings.{refused, finishedTable}
 use Rattle.booking.specs.declared.Book.{Book}
 use Rattle.ledger.specs.declared.Entry.the-variants.{Begin}
 use Rattle.ledger.specs.Entry.{entryOf}
-use Rattle.ledger.specs.Ledger.{linesOf, lineEnd, stands, judgedOf, repliedTo, printedFrom, printedOf}
+use Rattle.ledger.specs.Ledger.{linesOf, lineEnd, stands, judgedOf, repliedTo, finishedNotes, printedFrom, printedOf}
 use Rattle.ledger.specs.Cases.{LineCase, lineCases, FileCase, fileCases, PrintCase, printCases}
 
 -- Who goes on behind the end of each line has all lines of a file: the next one ends there, and behind the last there is none.
@@ -23,6 +30,15 @@ LinesByEnds =
     (file : List ℕ) (start : ℕ) → start ≤ length file
     → let end = lineEnd file start in
     linesOf (drop start file) ≡ part start end file ∷ if (ltb end (length file)) (linesOf (drop (suc end) file)) []
+
+-- "the finished table as notes that `compose` takes": they are composed to the session file of the finished table, in two entries and without events. Its numbers have 32 bits, as those of every table of the code.
+abbrev pub FinishedIsComposed : Type 0
+FinishedIsComposed =
+    (b : Book) (buffer out : List ℕ) → isSound b ≡ true → Words (finishedTable b)
+    → let file = fileOf Two Nearest (finishedTable b) [] in
+    length file ≤ length out
+    → composedOf (bytesRead (read started buffer) (finishedNotes b)) out
+    ≡ filed (writtenBy (countIn b) 0 (length file)) (file ++ drop (length file) out)
 
 -- what is printed of some lines where every booking is refused by 31
 unfoldable pub allRefused : List (List ℕ) → List ℕ

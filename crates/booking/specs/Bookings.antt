@@ -1,6 +1,6 @@
 -- What is done to a booking table: it is begun, streams are added and withdrawn, and it is finished. Document 02, Req 10.
 use mathlib.Core.Bool.{not}
-use mathlib.Core.List.{List, []}
+use mathlib.Core.List.{[]}
 use Prim.Native.Nat.{ℕ, suc, _-_}
 use lib.ListN.{set, replicate}
 use lib.Dec.{leb, ltb, eqb}
@@ -10,7 +10,6 @@ use Rattle.table.specs.Ranges.{streams-max}
 use Rattle.table.specs.Admission.{loadOf, rangesRefusal, streamRefusal}
 use Rattle.table.specs.Reservations.{noRecord, recordsOf, tableOfRecords}
 use Rattle.table.specs.declared.Table.{Table}
-use Rattle.table.specs.declared.reservations.Reservation.{Reservation}
 use Rattle.booking.specs.Book.{deskOf, withDesk, streamsIn, countIn, tableIn, sharesIn, isSound}
 use Rattle.booking.specs.declared.Desk.{Desk}
 use Rattle.booking.specs.declared.Book.{Book}

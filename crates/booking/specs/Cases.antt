@@ -1,5 +1,5 @@
 -- Worked cases: what the rules say to some bookings, beside what is expected. A statement of `Laws` covers each list.
-use mathlib.Core.List.{List, [], _∷_, _++_, map}
+use mathlib.Core.List.{List, [], _∷_, map}
 use Prim.Native.Nat.{ℕ}
 use Rattle.table.specs.Admission.{smallestPeriod, judgedLoad}
 use Rattle.table.specs.declared.reservations.Reservation.{Reservation}

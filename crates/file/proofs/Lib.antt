@@ -14,3 +14,4 @@ pub mod Traces
 pub mod Round
 pub mod Listing
 pub mod Determined
+pub mod Parts

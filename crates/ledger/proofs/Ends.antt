@@ -15,7 +15,7 @@ use Rattle.notes.proofs.Grammar.{test}
 use Rattle.listing.specs.Line.{newline}
 use Rattle.ledger.specs.Ledger.{linesAfter, linesOf, lineLength, lineEnd}
 use Rattle.ledger.specs.Laws.{LinesByEnds}
-use Rattle.ledger.proofs.Parts.{next}
+use Rattle.file.proofs.Parts.{next}
 
 -- a line goes on to the end at most
 length-least : (l : List ℕ) → lineLength l ≤ length l

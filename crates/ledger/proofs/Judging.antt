@@ -17,7 +17,8 @@ use Rattle.notes.specs.Words.{unreturned, uncommented, wordsAfter}
 use Rattle.ledger.specs.declared.Judged.the-variants.{Right, Unbegun, Amiss}
 use Rattle.ledger.specs.Entry.{entryOf}
 use Rattle.ledger.specs.Ledger.{linesAfter, stands, begins, judgedFrom, judgedOf}
-use Rattle.ledger.proofs.Parts.{next, part-longer, part-none, empty-is}
+use Rattle.file.proofs.Parts.{next, part-longer, part-none}
+use Rattle.ledger.proofs.Parts.{empty-is}
 
 -- what has come of a file by byte i, where the line that is not ended began at `start`: the lines before it may stand where they stand
 pub record Passed (file : List ℕ) (newlines : ℕ) (begun : Bool) (start i : ℕ) : Type 0 where

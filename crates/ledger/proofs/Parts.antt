@@ -1,39 +1,19 @@
--- A list that is passed byte by byte; and what counts of a line, which is its start.
+-- What counts of a line, which is its start.
 use mathlib.Core.Bool.{true, false}
 use mathlib.Core.List.{List, [], _∷_, _++_}
 use mathlib.Core.Logic.{_⊎_, inl, inr}
 use mathlib.Core.Path.{_≡_, refl, sym, ap, _∙_}
-use Prim.Native.Nat.{ℕ, suc, _+_, _-_, _≤_, _<_}
-use native.Mathlib.Numerals.{add-one}
+use Prim.Native.Nat.{ℕ, suc, _+_, _-_, _<_}
 use native.Mathlib.Omega.{arith}
 use lib.Dec.{eqb}
-use lib.ListN.{length, take, drop, getD, length-take, length-drop}
-use lib.Seq.{take-suc, take-length, drop-cons, getD-drop}
+use lib.ListN.{length, take, drop, getD, length-take}
+use lib.Seq.{take-suc, take-length}
 use borrow.Author.Tests.{eq-eqb, ne-eqb}
 use Rattle.table.specs.Fold.{if}
-use Rattle.file.specs.Reading.{part}
+use Rattle.file.proofs.Parts.{next}
 use Rattle.notes.specs.Draft.{hash, carriage-return}
 use Rattle.notes.specs.Words.{unreturned, uncommented}
 use Rattle.notes.proofs.Grammar.{test}
-
--- ---- the next byte, and the part before it with that byte
-
-module _ (bytes : List ℕ) (i : ℕ) (more : i < length bytes) where
-  pub next : drop i bytes ≡ getD bytes i 0 ∷ drop (i + 1) bytes
-  next = rw add-one (drop-cons bytes i 0 more)
-
-  pub part-longer : (start : ℕ) → start ≤ i → part start i bytes ++ (getD bytes i 0 ∷ []) ≡ part start (i + 1) bytes
-  part-longer start begun =
-      let step : i + 1 - start ≡ suc (i - start) = omega arith in
-      let place : start + (i - start) ≡ i = omega arith in
-      let short : i - start < length (drop start bytes) = rw length-drop (omega arith) in
-      sym
-      (rw step
-      (take-suc (drop start bytes) (i - start) 0 short
-      ∙ ap (λ (b : ℕ). part start i bytes ++ (b ∷ [])) (getD-drop start bytes (i - start) 0 ∙ ap (λ (k : ℕ). getD bytes k 0) place)))
-
-pub part-none : (bytes : List ℕ) (i : ℕ) → part i i bytes ≡ []
-part-none bytes i = let none : i - i ≡ 0 = omega arith in rw none
 
 -- ---- a carriage return at the end
 

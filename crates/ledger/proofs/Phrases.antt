@@ -1,28 +1,28 @@
 -- The words of a line, held one by one, make the line that all of them make.
 use mathlib.Core.Bool.{Bool, true, false, _&&_}
-use mathlib.Core.List.{List, [], _∷_, _++_, map}
+use mathlib.Core.List.{List, [], _∷_, map}
 use mathlib.Core.Logic.{_⊎_, inl, inr, ⊎-elim}
 use mathlib.Core.Path.{_≡_, refl, sym, ap, _∙_}
 use Prim.Native.Nat.{ℕ, suc, _+_, _^_, _≤_, _<_}
 use native.Mathlib.Numerals.{add-one}
 use native.Mathlib.Omega.{arith}
-use lib.ListN.{length, take, drop, getD, set, replicate, length-map, take-append-drop}
-use lib.Seq.{sets, take-suc, take-length, drop-length}
+use lib.ListN.{length, drop, getD, set, replicate, length-map}
+use lib.Seq.{sets, drop-length}
 use borrow.Author.Tests.{ltb-true, lt-ltb, le-ltb, ne-eqb}
 use Rattle.table.specs.Fold.{if}
 use Rattle.table.proofs.Tests.{both, le-or-lt}
 use Rattle.file.specs.Reading.{part}
 use Rattle.listing.specs.Laws.{speltAfter}
-use Rattle.notes.specs.Draft.{heldAfter, isGap, longer, lengthens}
+use Rattle.notes.specs.Draft.{heldAfter, isGap}
 use Rattle.notes.specs.Line.{inWord}
 use Rattle.notes.specs.Words.{ended-word, wordsAfter, allOf, isName, isNumber, isValue, valueOf, readAs}
-use Rattle.notes.proofs.Grammar.{test, word-ends, word-goes-on, value-more, value-longer, value-spoilt, no-value, none-held}
+use Rattle.notes.proofs.Grammar.{test, word-ends, word-goes-on}
 use Rattle.ledger.specs.declared.Entry.{Entry}
 use Rattle.ledger.specs.declared.Entry.the-variants.{Wrong}
 use Rattle.ledger.specs.declared.phrase.Phrase.{Phrase}
 use Rattle.ledger.specs.Entry.{numbersEntry, entryOfWords}
 use Rattle.ledger.specs.Phrase.{words-most, noWords, wrongWords, withWord, withPart, withWords, fieldsEntry, phraseEntry}
-use Rattle.ledger.proofs.Parts.{next, part-longer, part-none}
+use Rattle.file.proofs.Parts.{next, part-longer, part-none}
 
 -- ---- words that are parted byte by byte
 

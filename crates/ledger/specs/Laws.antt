@@ -31,7 +31,7 @@ LinesByEnds =
     → let end = lineEnd file start in
     linesOf (drop start file) ≡ part start end file ∷ if (ltb end (length file)) (linesOf (drop (suc end) file)) []
 
--- "the finished table as notes that `compose` takes": they are composed to the session file of the finished table, in two entries and without events. Its numbers have 32 bits, as those of every table of the code.
+-- The notes of a finished table are composed to its session file, in two entries and without events. Its numbers have 32 bits, as those of every table of the code.
 abbrev pub FinishedIsComposed : Type 0
 FinishedIsComposed =
     (b : Book) (buffer out : List ℕ) → isSound b ≡ true → Words (finishedTable b)

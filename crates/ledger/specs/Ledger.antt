@@ -64,14 +64,14 @@ takenBy b (Begin worst span k limit1 limit2) = begunOf worst span k limit1 limit
 takenBy b (Call booking) = bookingOf b booking
 takenBy b Wrong = booked b (accepted 0)
 
--- a line that is taken has its reply: "prints for each line the reply and the value"
+-- a line that is taken has its reply: the number and the value
 abbrev pub repliedTo : Receipt → Entry → List ℕ
 repliedTo r Blank = []
 repliedTo r (Begin worst span k limit1 limit2) = rendered (receiptFields (r .number) (r .value))
 repliedTo r (Call booking) = rendered (receiptFields (r .number) (r .value))
 repliedTo r Wrong = []
 
--- "and after the last line the finished table as notes that `compose` takes, unless the beginning was refused", which leaves a table that cannot be finished
+-- and after the last line comes the finished table, as notes that are composed to its file, unless the beginning was refused, which leaves a table that cannot be finished
 unfoldable pub finishedNotes : Book → List ℕ
 finishedNotes b = if (eqb (finishedOf b .number) 0) (notesOf Two Nearest (finishedTable b) []) []
 

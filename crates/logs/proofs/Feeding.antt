@@ -1,14 +1,14 @@
 -- A piece of a listing is taken byte by byte: a newline ends a line, and any other byte goes on with it.
 use mathlib.Core.List.{List, [], _∷_, _++_}
-use mathlib.Core.Path.{_≡_, refl, sym, ap, _∙_}
-use Prim.Native.Nat.{ℕ, suc, _+_, _-_, _≤_, _<_}
-use native.Mathlib.Numerals.{add-one}
+use mathlib.Core.Path.{_≡_, refl, ap, _∙_}
+use Prim.Native.Nat.{ℕ, _+_, _-_, _≤_, _<_}
 use native.Mathlib.Omega.{arith}
 use lib.ListN.{length, drop, getD, length-take, length-drop}
-use lib.Seq.{take-suc, drop-cons, getD-drop, drop-length}
+use lib.Seq.{drop-length}
 use borrow.Author.Tests.{eq-eqb, ne-eqb}
 use Rattle.table.specs.Fold.{if}
 use Rattle.file.specs.Reading.{part}
+use Rattle.file.proofs.Parts.{next, part-longer}
 use Rattle.listing.specs.Line.{newline}
 use Rattle.logs.specs.Lines.{linesAfter, linesOf, leftAfter, leftOf}
 use Rattle.logs.specs.Following.{withLine, withLines, fedBy}
@@ -28,20 +28,9 @@ module _ {f : Follower} {trace piece : List ℕ} {now : Follower} {start i : ℕ
   byte : ℕ
   byte = getD piece i 0
 
-  -- the next byte, and those after it
-  next : drop i piece ≡ getD piece i 0 ∷ drop (i + 1) piece
-  next = rw add-one (drop-cons piece i 0 more)
-
   -- the line so far, and with that byte
   longer : part start i piece ++ (getD piece i 0 ∷ []) ≡ part start (i + 1) piece
-  longer =
-      let step : i + 1 - start ≡ suc (i - start) = omega (arith, t .begun) in
-      let place : start + (i - start) ≡ i = omega (arith, t .begun) in
-      let short : i - start < length (drop start piece) = rw length-drop (omega (arith, t .begun)) in
-      sym
-      (rw step
-      (take-suc (drop start piece) (i - start) 0 short
-      ∙ ap (λ (b : ℕ). part start i piece ++ (b ∷ [])) (getD-drop start piece (i - start) 0 ∙ ap (λ (k : ℕ). getD piece k 0) place)))
+  longer = part-longer piece i more start (t .begun)
 
   pub taken-line : getD piece i 0 ≡ newline → Taken f trace piece (withLine now trace (part start (i + 1) piece)) (i + 1) (i + 1)
   unfolding linesAfter leftAfter withLines if
@@ -50,8 +39,8 @@ module _ {f : Follower} {trace piece : List ℕ} {now : Follower} {start i : ℕ
       record {
         begun = omega arith;
         within = omega arith;
-        lines = t .lines ∙ rw (next, eq-eqb _ newline e, longer, none);
-        left = t .left ∙ rw (next, eq-eqb _ newline e, none);
+        lines = t .lines ∙ rw (next piece i more, eq-eqb _ newline e, longer, none);
+        left = t .left ∙ rw (next piece i more, eq-eqb _ newline e, none);
       }
 
   pub taken-byte : (getD piece i 0 ≡ newline → ⊥) → Taken f trace piece now start (i + 1)
@@ -60,8 +49,8 @@ module _ {f : Follower} {trace piece : List ℕ} {now : Follower} {start i : ℕ
       record {
         begun = omega (arith, t .begun);
         within = omega arith;
-        lines = t .lines ∙ rw (next, ne-eqb _ newline e, longer);
-        left = t .left ∙ rw (next, ne-eqb _ newline e, longer);
+        lines = t .lines ∙ rw (next piece i more, ne-eqb _ newline e, longer);
+        left = t .left ∙ rw (next piece i more, ne-eqb _ newline e, longer);
       }
 
 -- at the end of a piece all its lines were taken, and what is left began there

@@ -1,9 +1,9 @@
 -- One stream: slots and micro-deadlines, and how a call changes it.
 -- Document 01's letters for a stream x: e is x .reserved, p is x .period, g is x .granted, r is x .release, d is x .deadline, c is x .charge. The number in a clock or a charge is read by .0.
 use mathlib.Core.Bool.{Bool, _&&_, _||_}
-use mathlib.Core.List.{List, [], _∷_, _++_}
-use Prim.Native.Nat.{ℕ, suc, _+_, _-_, _*_, _/_, min}
-use lib.ListN.{length, getD, set, take, drop, replicate}
+use mathlib.Core.List.{List}
+use Prim.Native.Nat.{ℕ, _+_, _-_, _*_, _/_, min}
+use lib.ListN.{length, getD, set, replicate}
 use lib.Dec.{leb, ltb, eqb}
 use Rattle.table.specs.Fold.{if, closedUp, allTo}
 use Rattle.table.specs.Admission.{grantedOf}

@@ -1,6 +1,6 @@
 -- `Book::begin` gives the refusal of W, H or k beside the all-zero table, or a table of two desks that have booked nothing.
 use mathlib.Core.Path.{sym, _∙_}
-use borrow.Author.Tests.{eq-eqb, ne-eqb}
+use borrow.Author.Tests.{ne-eqb}
 use Rattle.table.specs.Fold.{if}
 use Rattle.booking.specs.Bookings.{begunOf}
 use Rattle.booking.proofs.Book.begin.Statement.{statement}

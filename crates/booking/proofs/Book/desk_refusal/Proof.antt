@@ -1,5 +1,4 @@
 -- `Book::desk_refusal` gives 31 and 30 in their order.
-use mathlib.Core.Path.{sym, _∙_}
 use Rattle.table.specs.Refusal.{given, _or-next_, outside}
 use Rattle.booking.specs.Bookings.{deskRefusal}
 use Rattle.booking.proofs.Book.desk_refusal.Statement.{statement}

@@ -1,7 +1,4 @@
 -- `Book::finish` answers what is finished beside the table.
-use mathlib.Core.Path.{ap}
-use Rattle.booking.specs.declared.Finished.{Finished}
-use Rattle.booking.specs.declared.Closed.{Closed}
 use Rattle.booking.proofs.Book.finish.Statement.{statement}
 use Rattle.booking.proofs.Book.finish.Tie as tie
 

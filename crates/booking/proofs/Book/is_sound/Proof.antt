@@ -1,9 +1,9 @@
 -- `Book::is_sound` tests the cells, the number of streams, 2 to 7, and both limits: the shares are judged where these are passed.
 use mathlib.Core.Bool.{true, false, _&&_}
 use mathlib.Core.Path.{_≡_, sym, _∙_, ap₂}
-use Prim.Native.Nat.{ℕ, _≤_, _<_}
-use lib.Dec.{leb, eqb}
-use borrow.Author.Tests.{not-true, not-false, le-leb, lt-leb, eq-eqb, ne-eqb}
+use Prim.Native.Nat.{_≤_, _<_}
+use lib.Dec.{eqb}
+use borrow.Author.Tests.{not-true, not-false, le-leb, lt-leb, ne-eqb}
 use Rattle.table.specs.Ranges.{streams-max}
 use Rattle.table.proofs.Tests.{both}
 use Rattle.booking.specs.Book.{countIn, soundCells, tableRefusal, keepsLimit, isSound}

@@ -1,8 +1,8 @@
 -- `Book::withdraw_refusal` gives 31, 30 and 19 in their order.
-use mathlib.Core.Path.{_≡_, sym, _∙_}
+use mathlib.Core.Path.{sym, _∙_}
 use Rattle.table.specs.Refusal.{given, _or-next_, outside}
 use Rattle.table.proofs.Tests.{or-next-first}
-use Rattle.booking.specs.Bookings.{deskRefusal, withdrawRefusal}
+use Rattle.booking.specs.Bookings.{withdrawRefusal}
 use Rattle.booking.proofs.Book.withdraw_refusal.Statement.{statement}
 use Rattle.booking.proofs.Book.withdraw_refusal.Tie as tie
 

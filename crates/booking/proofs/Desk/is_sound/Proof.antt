@@ -1,6 +1,6 @@
 -- `Desk::is_sound` tests the count and each cell: the invariant is that the cells passed are used or empty.
-use mathlib.Core.Bool.{_&&_, _||_}
-use mathlib.Core.Path.{_≡_, refl, sym, ap, _∙_}
+use mathlib.Core.Bool.{_||_}
+use mathlib.Core.Path.{_≡_, refl, ap, _∙_}
 use Prim.Native.Nat.{_-_, _≤_}
 use native.Mathlib.Numerals.{add-one}
 use native.Mathlib.Omega.{arith}

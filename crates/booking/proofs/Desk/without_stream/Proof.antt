@@ -1,11 +1,10 @@
 -- `Desk::without_stream` closes up over the stream of a number: the invariant is that the cells passed are those of the row closed up.
 use mathlib.Core.List.{List}
 use mathlib.Core.Path.{_≡_, subst, ap}
-use Prim.Native.Nat.{ℕ, _-_, _≤_, _<_}
+use Prim.Native.Nat.{ℕ, _-_, _≤_}
 use native.Mathlib.Omega.{arith}
 use lib.ListN.{length, length-map}
 use Rattle.table.specs.Fold.{closedUp}
-use Rattle.table.specs.Ranges.{streams-max}
 use Rattle.table.specs.Reservations.{noRecord, recordAt}
 use Rattle.table.specs.declared.reservations.Reservation.{Reservation}
 use Rattle.table.proofs.Lists.{Filled, closing-starts, closing-goes-on, closing-ends}

@@ -3,14 +3,13 @@ use mathlib.Core.List.{List}
 use mathlib.Core.Logic.{⊎-elim}
 use mathlib.Core.Path.{_≡_, sym, _∙_, ap, subst}
 use Prim.Native.Nat.{ℕ, suc, _+_, _-_, _*_, _/_, min, max, _≤_, _<_}
-use native.Mathlib.Nat.{mul-le-mul, div-le-self, le-trans}
+use native.Mathlib.Nat.{div-le-self}
 use native.Mathlib.Omega.{arith}
-use borrow.Author.Needs.{needs}
 use lib.ListN.{getD}
 use Rattle.table.specs.Fold.{sumTo, listTo}
-use Rattle.table.specs.Ranges.{streams-max, worst-max, span-max}
+use Rattle.table.specs.Ranges.{streams-max, span-max}
 use Rattle.table.specs.Admission.{periodAt, smallestPeriod, numbersRefusal, streamsRefusal}
-use Rattle.table.specs.Groups.{quotientAt, groupAt, groupedShares, groupedLoad}
+use Rattle.table.specs.Groups.{quotientAt, groupAt, groupedShares}
 use Rattle.table.specs.declared.Table.{Table}
 use Rattle.table.proofs.Lists.{getD-listTo}
 use Rattle.table.proofs.Judged.{numbers-of, streams-of}

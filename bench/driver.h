@@ -9,6 +9,8 @@
 #include <stdio.h>
 #include <string.h>
 
+#include "repeat.h"
+
 #define TIMES_BYTES 8
 #define ENTRIES_BYTES 2
 #define ENTRY_BYTES 12
@@ -16,17 +18,6 @@
 #define ORDER_BYTES 4
 #define EVENT_BYTES 16
 #define ROOM 65536
-
-/* No store before this is left out by the compiler, and none of it is known after. */
-#define KEEP(thing) __asm__ volatile("" : : "r"(thing) : "memory")
-
-#define REPEAT(call)                                  \
-    for (uint64_t i = 0; i < times; i++) {            \
-        memcpy(&work, &prepared, sizeof work);        \
-        KEEP(&work);                                  \
-        number = (call);                              \
-        KEEP(&work);                                  \
-    }
 
 static uint8_t input[ROOM];
 static image prepared, work;
@@ -64,28 +55,27 @@ static uint64_t repeat(size_t event, uint64_t times)
     uint32_t tag = (uint32_t)number_at(event + 2, 4);
     switch (input[event]) {
     case 1:
-        REPEAT(arrival(&work, stream, value, tag));
+        REPEAT(number = arrival(&work, stream, value, tag));
         break;
     case 2:
-        REPEAT(turn(&work));
+        REPEAT(number = turn(&work));
         break;
     case 3:
-        REPEAT(own_turn(&work, stream, value));
+        REPEAT(number = own_turn(&work, stream, value));
         break;
     case 4:
-        REPEAT(done(&work, value));
+        REPEAT(number = done(&work, value));
         break;
     default:
-        REPEAT(clock(&work, value));
+        REPEAT(number = clock(&work, value));
     }
     return number;
 }
 
 static uint64_t restore_only(uint64_t times)
 {
-    uint64_t number = 0;
-    REPEAT(number);
-    return number;
+    REPEAT();
+    return 0;
 }
 
 static uint64_t ask_only(uint64_t times)

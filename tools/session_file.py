@@ -40,10 +40,14 @@ def table_start(entries):
     return 2 + 12 * entries
 
 
+def table_bytes(worst, span, padding, streams):
+    """The bytes of a table, whose streams are pairs of e and p: the first body of a file."""
+    return struct.pack("<IIII", worst, span, padding, len(streams)) + b"".join(struct.pack("<II", *stream) for stream in streams)
+
+
 def session_file(worst, span, padding, streams, events, order=None):
-    """The bytes of a table, whose streams are pairs of e and p, and a trace; and, if it is given, of an order, which takes a third entry."""
-    table = struct.pack("<IIII", worst, span, padding, len(streams))
-    table += b"".join(struct.pack("<II", reserved, period) for reserved, period in streams)
+    """The bytes of a table and a trace; and, if it is given, of an order, which takes a third entry."""
+    table = table_bytes(worst, span, padding, streams)
     trace = b"".join(struct.pack(EVENT, *event) for event in events)
     bodies = [table, trace] + ([] if order is None else [struct.pack("<I", order)])
     contents, at = struct.pack("<H", len(bodies)), table_start(len(bodies))

@@ -80,6 +80,19 @@ static uint64_t worked(struct yerbagunt_session *session, uint64_t seed)
     return sum;
 }
 
+/* Books on a table, and answers a number that every reply goes into. */
+static uint64_t booked(struct yerbagunt_book *book)
+{
+    uint64_t sum = yerbagunt_begin(book, 25000, 1000000, 1, 300000, 500000).number;
+    for (uint64_t n = 0; n < 100; n++) {
+        uint64_t pick = picked(n);
+        struct yerbagunt_receipt r = pick % 3 == 0 ? yerbagunt_withdraw(book, pick % 4, pick % 5) : yerbagunt_add(book, 1 + pick % 2, (uint32_t)(1 + pick % 9000), 1000000);
+        sum = sum * 31 + r.number * 7 + r.value;
+    }
+    struct yerbagunt_finished f = yerbagunt_finish(*book);
+    return sum * 31 + f.number * 7 + f.count;
+}
+
 /* Pointers: with length 0 a null pointer will do, and one to where nothing is. */
 static void nothing_lent(void)
 {
@@ -116,7 +129,7 @@ static void side_by_side(void)
     }
 }
 
-/* Alignment: a session at a multiple of 8 and no more, records at one of 4, bytes anywhere. */
+/* Alignment: a session and a booking table at a multiple of 8 and no more, records at one of 4, bytes anywhere. */
 static void alignment(void)
 {
     static _Alignas(64) struct {
@@ -133,6 +146,13 @@ static void alignment(void)
     eight.session = yerbagunt_open(25000, 1000000, 1, (struct yerbagunt_reservations){four.records, 2}, YERBAGUNT_NEAREST).session;
     hold(memcmp(&eight.session, &usual, sizeof usual) == 0, "records at a multiple of 4 are taken", 0);
     hold(worked(&eight.session, 1) == worked(&usual, 1), "a session at a multiple of 8 is called", 0);
+
+    static _Alignas(64) struct {
+        uint64_t before;
+        struct yerbagunt_book book;
+    } booking;
+    static _Alignas(64) struct yerbagunt_book usual_book;
+    hold(booked(&booking.book) == booked(&usual_book) && memcmp(&booking.book, &usual_book, sizeof usual_book) == 0, "a booking table at a multiple of 8 is booked", 0);
 
     static _Alignas(64) uint8_t from[64 + sizeof trace], file[64 + FILE_LENGTH], even[FILE_LENGTH];
     written(trace, sizeof trace, even, FILE_LENGTH);
@@ -233,7 +253,9 @@ static long taken;    /* the most that a call took below it */
 static void *every_call(void *file)
 {
     struct yerbagunt_session s = opened(YERBAGUNT_NEAREST);
+    struct yerbagunt_book book;
     edge = __builtin_alloca(16);
+    hold(booked(&book) != 0, "streams are booked", 0);
     worked(&s, 7);
     s = opened(YERBAGUNT_SWEEP);
     worked(&s, 7);

@@ -1,6 +1,6 @@
 -- Booking tables and replies as the law of a thin call takes them: what a booking comes to, and what finishing does.
 use denote.Struct.Laws as LL
-use Rattle.table.proofs.Lending.{Answering}
+use Rattle.table.proofs.Lending.{Answering, kind-of}
 use Rattle.booking.specs.declared.Booked.{Booked}
 use Rattle.booking.specs.declared.Closed.{Closed}
 use Rattle.booking.proofs.Book as S
@@ -19,7 +19,7 @@ by-booking =
       session-laws = S′.the-laws;
       session-plain = S′.the-plain;
       session-lowered = S′.lowers;
-      reply-kind = record { ty = Y′.mir; held = Y.the-field .row; Value = Y.the-field .Value; into = Y.the-field .into; into-one = Y.the-field .into-one };
+      reply-kind = kind-of Y′.mir Y.the-field;
       reply-laws = Y′.the-field-laws;
       reply-makes = λ M 𝓤 H A. LL.makes Y.the-type Y′.the-plain 𝓤 H A;
       name = A.the-type .name;
@@ -36,7 +36,7 @@ by-finishing =
       session-laws = S′.the-laws;
       session-plain = S′.the-plain;
       session-lowered = S′.lowers;
-      reply-kind = record { ty = F′.mir; held = F.the-field .row; Value = F.the-field .Value; into = F.the-field .into; into-one = F.the-field .into-one };
+      reply-kind = kind-of F′.mir F.the-field;
       reply-laws = F′.the-field-laws;
       reply-makes = λ M 𝓤 H A. LL.makes F.the-type F′.the-plain 𝓤 H A;
       name = C.the-type .name;

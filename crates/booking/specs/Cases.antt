@@ -1,6 +1,8 @@
 -- Worked cases: what the rules say to some bookings, beside what is expected. A statement of `Laws` covers each list.
-use mathlib.Core.List.{List, [], _∷_, map}
-use Prim.Native.Nat.{ℕ}
+use mathlib.Core.List.{List, [], _∷_, _++_, map}
+use Prim.Native.Nat.{ℕ, suc}
+use lib.ListN.{replicate}
+use Rattle.table.specs.Fold.{listTo}
 use Rattle.table.specs.Admission.{smallestPeriod, judgedLoad}
 use Rattle.table.specs.declared.reservations.Reservation.{Reservation}
 use Rattle.booking.specs.Book.{countIn, streamsIn, tableIn}
@@ -58,6 +60,17 @@ numberCases =
     books shown 100 20_000 1 20_000 20_000
     (Add 2 10 20_000 ∷ Add 1 20 20_000 ∷ Add 1 30 20_000 ∷ Add 1 40 20_000 ∷ Withdraw 1 2 ∷ Add 1 50 20_000 ∷ Withdraw 1 2 ∷ [])
     ((0 ∷ 1 ∷ []) ∷ (0 ∷ 1 ∷ []) ∷ (0 ∷ 2 ∷ []) ∷ (0 ∷ 3 ∷ []) ∷ (0 ∷ 2 ∷ []) ∷ (0 ∷ 3 ∷ []) ∷ (0 ∷ 2 ∷ []) ∷ (20 ∷ 20_000 ∷ []) ∷ (50 ∷ 20_000 ∷ []) ∷ (10 ∷ 20_000 ∷ []) ∷ [])
+    ∷ []
+
+-- "31 [..], next 30 [..]; then for adding 1, 5, 6, 18, 7; for withdrawing 19": of two that hold the first is told, 30 before 5, 5 before 6, and 6 before 18; then, with eight streams, 30 before 1, 1 before 5, 1 before 18, and 30 before 19 (18 before 7 is among `limitCases`, and 31 is the law `UnsoundIsRefused`)
+unfoldable pub orderCases : List Case
+orderCases =
+    books (λ b. []) 100 20_000 1 20_000 0
+    (Add 3 0 0 ∷ Add 1 0 999 ∷ Add 2 0 20_000 ∷ [])
+    ((30 ∷ 0 ∷ []) ∷ (5 ∷ 0 ∷ []) ∷ (6 ∷ 0 ∷ []) ∷ [])
+    ∷ books (λ b. []) 100 20_000 1 20_000 0
+    (replicate 8 (Add 1 10 20_000) ++ (Add 0 10 20_000 ∷ Add 1 0 0 ∷ Add 2 10 20_000 ∷ Withdraw 0 0 ∷ []))
+    (listTo (λ i. 0 ∷ suc i ∷ []) 8 ++ ((30 ∷ 0 ∷ []) ∷ (1 ∷ 0 ∷ []) ∷ (1 ∷ 0 ∷ []) ∷ (30 ∷ 0 ∷ []) ∷ []))
     ∷ []
 
 -- The load alone is not enough: two tables with one load, and another smallest period, tell desk 1 another reply. And bookings one after the other are not enough either: two tables that are alike to desk 1 are not any more when it has withdrawn its stream of the smallest period, and the next reply tells.

@@ -7,7 +7,7 @@ use Rattle.table.specs.Admission.{smallestPeriod, judgedLoad, rangesRefusal, ad
 use Rattle.table.specs.Fold.{leaving}
 use Rattle.booking.specs.Book.{deskOf, streamsOf, countIn, tableIn, sharesIn, isSound}
 use Rattle.booking.specs.Bookings.{accepted, refused, booked, zeroBook, begunOf, addOf, withdrawOf, bookingOf, finishedOf, finishedTable}
-use Rattle.booking.specs.Cases.{Case, limitCases, numberCases, knownCases}
+use Rattle.booking.specs.Cases.{Case, limitCases, numberCases, orderCases, knownCases}
 use Rattle.booking.specs.declared.Book.{Book}
 use Rattle.booking.specs.declared.Booking.{Booking}
 use Rattle.booking.specs.declared.Booking.the-variants.{Add, Withdraw}
@@ -122,6 +122,9 @@ LimitCasesHold = Hold limitCases
 
 abbrev pub NumberCasesHold : Type 0
 NumberCasesHold = Hold numberCases
+
+abbrev pub OrderCasesHold : Type 0
+OrderCasesHold = Hold orderCases
 
 abbrev pub KnownCasesHold : Type 0
 KnownCasesHold = Hold knownCases

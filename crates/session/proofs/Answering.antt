@@ -6,7 +6,7 @@ use Rattle.session.proofs.Session.Laws as S′
 use Rattle.calls.proofs.Reply as Y
 use Rattle.calls.proofs.Reply.Laws as Y′
 use Rattle.session.proofs.Answer as A
-use Rattle.table.proofs.Lending.{Answering}
+use Rattle.table.proofs.Lending.{Answering, kind-of}
 
 abbrev pub by-session : Answering
 by-session =
@@ -15,7 +15,7 @@ by-session =
       session-laws = S′.the-laws;
       session-plain = S′.the-plain;
       session-lowered = S′.lowers;
-      reply-kind = record { ty = Y′.mir; held = Y.the-field .row; Value = Y.the-field .Value; into = Y.the-field .into; into-one = Y.the-field .into-one };
+      reply-kind = kind-of Y′.mir Y.the-field;
       reply-laws = Y′.the-field-laws;
       reply-makes = λ M 𝓤 H A. EL.makes Y.the-type Y′.the-plain 𝓤 H A;
       name = A.the-type .name;

@@ -1,6 +1,6 @@
 -- Images and what is told of them as the law of a thin call takes them.
 use denote.Struct.Laws as LL
-use Rattle.table.proofs.Lending.{Answering}
+use Rattle.table.proofs.Lending.{Answering, kind-of}
 use Rattle.shelf.specs.declared.images.Answered.{Answered}
 use Rattle.shelf.proofs.images.Image as S
 use Rattle.shelf.proofs.images.Image.Laws as S′
@@ -15,7 +15,7 @@ by-image =
       session-laws = S′.the-laws;
       session-plain = S′.the-plain;
       session-lowered = S′.lowers;
-      reply-kind = record { ty = Y′.mir; held = Y.the-field .row; Value = Y.the-field .Value; into = Y.the-field .into; into-one = Y.the-field .into-one };
+      reply-kind = kind-of Y′.mir Y.the-field;
       reply-laws = Y′.the-field-laws;
       reply-makes = λ M 𝓤 H A. LL.makes Y.the-type Y′.the-plain 𝓤 H A;
       name = A.the-type .name;

@@ -1,4 +1,4 @@
--- The law of a thin call over what is lent: `let a = step(*s, ..); *s = a.session; a.reply`. Where the by-value step returns the answer φ of the session and its other arguments, the call leaves φ's session behind the reference and returns φ's reply.
+-- The law of a thin call over what is lent, a session or a booking table, here called a session: `let a = step(*s, ..); *s = a.session; a.reply`. Where the by-value step returns the answer φ of the session and its other arguments, the call leaves φ's session behind the reference and returns φ's reply.
 -- It is a walk of the call's MIR, by hand, for any types (`Answering`), any list of other parameters (`Parameters`), any step and any φ.
 --     sig, clauses, by-sig, by-clauses, code       the call's signature and contract, the step's, and the call's MIR. A function's own are these by computation
 use mathlib.Core.Path.{_≡_, refl, ap}
@@ -48,6 +48,10 @@ pub record Kind : Type 2 where
   pub Value : Type 0
   pub into : Value → held .Denot
   pub into-one : (x y : Value) → into x ≡ into y → x ≡ y
+
+-- a declared type as a reply's, with its MIR type
+abbrev pub kind-of : Ty → Field → Kind
+kind-of ty f = record { ty = ty; held = f .row; Value = f .Value; into = f .into; into-one = f .into-one }
 
 abbrev pub kind-field : Kind → Field
 kind-field Y = record {

@@ -10,7 +10,6 @@ use Rattle.table.specs.Admission.{rangesRefusal}
 use Rattle.order.specs.declared.Order.the-variants.{Nearest}
 use Rattle.file.specs.File.{fileOf}
 use Rattle.file.specs.Reading.{part}
-use Rattle.file.specs.Laws.{Words}
 use Rattle.file.specs.declared.form.Form.the-variants.{Two}
 use Rattle.listing.specs.Line.{ascii, rendered, receiptFields}
 use Rattle.notes.specs.Words.{allOf}
@@ -31,10 +30,10 @@ LinesByEnds =
     → let end = lineEnd file start in
     linesOf (drop start file) ≡ part start end file ∷ if (ltb end (length file)) (linesOf (drop (suc end) file)) []
 
--- The notes of a finished table are composed to its session file, in two entries and without events. Its numbers have 32 bits, as those of every table of the code.
+-- The notes of a finished table are composed to its session file, in two entries and without events.
 abbrev pub FinishedIsComposed : Type 0
 FinishedIsComposed =
-    (b : Book) (buffer out : List ℕ) → isSound b ≡ true → Words (finishedTable b)
+    (b : Book) (buffer out : List ℕ) → isSound b ≡ true
     → let file = fileOf Two Nearest (finishedTable b) [] in
     length file ≤ length out
     → composedOf (bytesRead (read started buffer) (finishedNotes b)) out

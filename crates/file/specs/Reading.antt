@@ -13,6 +13,8 @@ use Rattle.order.specs.declared.Order.{Order}
 use Rattle.file.specs.File.{entriesOf, tableStart, thirdLength, events-max, event-size}
 use Rattle.file.specs.declared.form.Form.{Form}
 use Rattle.file.specs.declared.form.Form.the-variants.{Two, Three}
+use Rattle.file.specs.declared.outline.Outline.{Outline}
+use Rattle.file.specs.declared.outline.Outline.the-variants.{Outlined, Refused as Unfit}
 use Rattle.file.specs.declared.Reading.{Reading}
 use Rattle.file.specs.declared.Reading.the-variants.{LaidOut, Refused}
 use Rattle.file.specs.declared.event.Event.{Event}
@@ -142,11 +144,25 @@ isContents form file start end =
     && isEntry file 14 2 start (end - start)
     && isThirdEntry form file end
 
--- "count (0 to 8)"; the table body is not cut short; of the order "another value [..] is 16"; and "Reading does not judge the table"
+-- whether it is that of a file of so many streams and events: there is none of more than eight, or of more than 4,000
+unfoldable pub hasContents : Form → List ℕ → ℕ → ℕ → Bool
+hasContents form file count events =
+    let start = tableStart form + tableLength count in
+    leb count streams-max && leb events events-max && isContents form file start (start + event-size * events)
+
+-- "count (0 to 8)"; and the table body is not cut short, nor the third body
+abbrev pub isOutlined : List ℕ → Bool
+isOutlined file = leb (countAt file (startIn file)) streams-max && leb (traceStart file + thirdLength (formIn file)) (length file)
+
+-- where the parts of any bytes are, before anything in them is judged but the count
+unfoldable pub outlineOf : List ℕ → Outline
+outlineOf file =
+    if (isOutlined file) (Outlined (formIn file) (countAt file (startIn file)) (traceStart file) (traceEnd file)) (Unfit 16)
+
+-- of the order "another value [..] is 16"; and "Reading does not judge the table"
 unfoldable pub isLaidOut : List ℕ → Bool
 isLaidOut file =
-    leb (countAt file (startIn file)) streams-max
-    && leb (traceStart file + thirdLength (formIn file)) (length file)
+    isOutlined file
     && isContents (formIn file) file (traceStart file) (traceEnd file)
     && isOrder (thirdIn file)
     && isTrace (traceIn file)

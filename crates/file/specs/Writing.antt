@@ -11,7 +11,7 @@ use Rattle.table.specs.Ranges.{streams-max}
 use Rattle.table.specs.declared.Table.{Table}
 use Rattle.order.specs.Order.{orderNumber}
 use Rattle.order.specs.declared.Order.{Order}
-use Rattle.file.specs.File.{fileOf, event-size, bytesOf}
+use Rattle.file.specs.File.{contents, tableBody, fileOf, events-max, event-size, bytesOf}
 use Rattle.file.specs.Reading.{eventsIn, isTrace}
 use Rattle.file.specs.declared.Writing.{Writing}
 use Rattle.file.specs.declared.Writing.the-variants.{Written, Refused}
@@ -45,6 +45,13 @@ unfoldable pub writtenOn : Form → Order → Table → List ℕ → List ℕ �
 writtenOn form order t trace out =
     let file = fileOf form order t trace in
     if (eqb (writeRefusal form order t trace (length out)) 0) (file ++ drop (length file) out) out
+
+-- what stands before the trace of a file of so many events, stored at the start of a buffer: there is no file of more than eight streams, or of more than 4,000 events
+unfoldable pub headedOn : Form → Table → ℕ → List ℕ → List ℕ
+headedOn form t events out =
+    if (leb (t .count) streams-max && leb events events-max)
+    (sets out 0 (contents form (length (tableBody t)) (event-size * events) ++ tableBody t))
+    out
 
 -- "Event: kind, stream, six zero bytes, eight bytes of value": a stream has one byte
 abbrev pub stream-byte-max : ℕ

@@ -135,7 +135,8 @@ fn put_cells(trace: &mut [u8], at: usize, kind: u64, stream: u64, tag: u32, valu
     put_number(trace, at + 8, 8, value);
 }
 
-fn is_formed(event: Event) -> bool
+// Whether an event is as laid out.
+pub fn is_formed(event: Event) -> bool
     ensures { λ r. ⌜ r ≡ formed event ⌝ }
 {
     if let Event::Malformed = event {

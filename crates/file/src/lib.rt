@@ -3,30 +3,36 @@ mod body;
 mod contents;
 mod event;
 mod form;
+mod head;
+mod outline;
 mod word;
 
-use body::put_table;
 use body::table_at;
 use body::table_length;
 use cells::number_at;
 use cells::put_bytes;
 use cells::put_number;
 use contents::is_contents;
-use contents::put_contents;
 pub use event::Event;
 pub use event::event_at;
+pub use event::is_formed;
 use event::is_trace;
 pub use event::put_event;
 pub use form::Form;
 use form::form_in;
+pub use head::has_contents;
+pub use head::put_head;
 use order::Order;
+pub use outline::Outline;
+pub use outline::outline_of;
 use table::Table;
 ghost use mathlib.Core.Path.{_≡_};
 ghost use Prim.Native.Nat.{_+_, _*_, _≤_};
 ghost use Rattle.table.specs.Ranges.{streams-max};
 ghost use Rattle.file.specs.File.{tableStart, thirdLength, events-max, event-size};
-ghost use Rattle.file.specs.Reading.{tableLength, tableIn, readOf};
+ghost use Rattle.file.specs.Reading.{tableLength, tableIn, outlineOf, readOf};
 ghost use Rattle.file.specs.Writing.{writeRefusal, writeOf, writtenOn};
+ghost use Rattle.file.specs.declared.outline.Outline.the-variants.{Outlined};
 
 // What reading says: the form, the order, how many streams there are, where the trace is and how many events it has; or the refusal.
 pub enum Reading {
@@ -51,19 +57,23 @@ pub enum Writing {
 pub fn read(file: &[u8]) -> Reading
     ensures { λ r. ⌜ r ≡ readOf (now (file .entry)) ⌝ }
 {
-    let form = form_in(file);
-    let at = form.table_start();
-    let count = number_at(file, at + 12, 4) as usize;
-    if Table::STREAMS_MAX < count {
-        return Reading::Refused(16);
+    match outline_of(file) {
+        Outline::Outlined {
+            form,
+            count,
+            start,
+            end,
+        } => judge(file, form, count, start, end),
+        Outline::Refused(number) => Reading::Refused(number),
     }
-    let start = at + table_length(count);
-    let third = form.third() as usize;
-    if file.len() < start + third {
-        return Reading::Refused(16);
-    }
-    let end = file.len() - third;
-    let number = number_at(file, end, third);
+}
+
+// Judges what an outline leaves: the contents table, the order and the trace.
+fn judge(file: &[u8], form: Form, count: usize, start: usize, end: usize) -> Reading
+    requires { ⌜ outlineOf (now file) ≡ Outlined form count start end ⌝ }
+    ensures { λ r. ⌜ r ≡ readOf (now (file .entry)) ⌝ }
+{
+    let number = number_at(file, end, form.third() as usize);
     if is_contents(file, form, start, end) & Order::is_number(number) {
         let trace = &file[start..end];
         if is_trace(trace) {
@@ -99,13 +109,10 @@ pub fn write(table: Table, form: Form, order: Order, trace: &[u8], out: &mut [u8
     if refusal != 0 {
         return Writing::Refused(refusal);
     }
-    let at = form.table_start();
-    let body = table_length(table.count);
     let third = form.third() as usize;
-    let start = at + body;
+    let start = form.table_start() + table_length(table.count);
     let end = start + trace.len();
-    put_contents(out, form, body, trace.len());
-    put_table(out, at, table);
+    put_head(out, form, table, trace.len() / Event::SIZE);
     put_bytes(out, start, trace);
     put_number(out, end, third, order.number());
     Writing::Written(end + third)

@@ -44,11 +44,16 @@ unfoldable pub someTo : (ℕ → Bool) → ℕ → Bool
 someTo f zero = false
 someTo f (suc n) = someTo f n || f n
 
--- the list of f 0, .., f (n - 1)
 module _ {A : Type 0} where
+  -- the list of f 0, .., f (n - 1)
   unfoldable pub listTo : (ℕ → A) → ℕ → List A
   listTo f zero = []
   listTo f (suc n) = listTo f n ++ (f n ∷ [])
+
+  -- the lists f 0, .., f (n - 1), one behind the other
+  unfoldable pub joinTo : (ℕ → List A) → ℕ → List A
+  joinTo f zero = []
+  joinTo f (suc n) = joinTo f n ++ f n
 
 -- how many of 0, .., n - 1 pass the test
 unfoldable pub countTo : (ℕ → Bool) → ℕ → ℕ

@@ -3,9 +3,11 @@ pub mod Forms
 pub mod Columns
 pub mod Lengths
 pub mod Stores
+pub mod Heads
 pub mod EventKinds
 pub mod Trace
 pub mod Accepted
+pub mod Outlines
 pub mod Writes
 pub mod WriteBack
 pub mod ReadBack

@@ -16,11 +16,11 @@ use Rattle.cells.specs.Cells.{cell}
 use Rattle.cells.proofs.Numbers.{length-cell}
 use Rattle.cells.proofs.Runs.{sets-next, sets-start, Wrote, wrote-more}
 use Rattle.file.specs.File.{entriesOf, tableStart, thirdBody, entry, thirdEntry, contents, streamCells, tableBody, event-size, eventCells, bytesOf, fileOf}
-use Rattle.file.specs.Reading.{eventsIn}
+use Rattle.file.specs.Reading.{eventsIn, tableLength}
 use Rattle.file.specs.Writing.{isStorable, putRefusal, withEvent}
 use Rattle.file.specs.declared.form.Form.{Form}
 use Rattle.file.specs.declared.event.Event.{Event}
-use Rattle.file.proofs.Lengths.{length-contents, length-streams, length-four}
+use Rattle.file.proofs.Lengths.{length-contents, length-table, length-streams, length-four}
 
 -- three cells of four bytes, and four
 three : (out : List ℕ) (at a b c : ℕ)
@@ -109,35 +109,29 @@ pub file-parts : (form : Form) (order : Order) (t : Table) (trace : List ℕ)
 unfolding fileOf
 file-parts form order t trace = refl
 
--- the contents table, the table body, the trace and the third body, each where the one before it ends, are the file
-module _ (form : Form) (order : Order) (t : Table) (trace out : List ℕ) (table : ℕ) (e : table ≡ length (tableBody t)) where
-  -- the buffer after each of the four
-  abbrev pub stored-contents : List ℕ
-  stored-contents = sets out 0 (contents form table (length trace))
+-- what stands before the trace, the trace and the third body, each where the one before it ends, are the file
+module _ (form : Form) (order : Order) (t : Table) (trace out : List ℕ) where
+  abbrev head : List ℕ
+  head = contents form (length (tableBody t)) (length trace) ++ tableBody t
 
-  abbrev pub stored-table : List ℕ
-  stored-table = sets stored-contents (tableStart form) (tableBody t)
+  -- the buffer after each of the three
+  abbrev pub stored-head : List ℕ
+  stored-head = sets out 0 head
 
   abbrev pub stored-trace : List ℕ
-  stored-trace = sets stored-table (tableStart form + table) trace
+  stored-trace = sets stored-head (tableStart form + tableLength (t .count)) trace
 
   abbrev pub stored-third : List ℕ
-  stored-third = sets stored-trace (tableStart form + table + length trace) (thirdBody form order)
+  stored-third = sets stored-trace (tableStart form + tableLength (t .count) + length trace) (thirdBody form order)
 
-  first : Wrote out (contents form table (length trace)) (tableStart form) stored-contents
-  first = record { next = sym (length-contents form table (length trace)); holds = refl }
-
-  second : Wrote out (contents form table (length trace) ++ tableBody t) (tableStart form + table) stored-table
-  second = wrote-more (tableBody t) first (ap (λ (n : ℕ). tableStart form + n) e) refl
-
-  third : Wrote out (contents form table (length trace) ++ tableBody t ++ trace) (tableStart form + table + length trace) stored-trace
-  third = wrote-more trace second refl refl
-
-  parts : contents form table (length trace) ++ tableBody t ++ trace ++ thirdBody form order ≡ fileOf form order t trace
-  parts = rw e (sym (file-parts form order t trace))
+  first : Wrote out head (tableStart form + tableLength (t .count)) stored-head
+  first =
+      let size = length-append (contents form (length (tableBody t)) (length trace)) (tableBody t) in
+      record { next = omega (arith, size, length-contents form (length (tableBody t)) (length trace), length-table t); holds = refl }
 
   pub file-stored : length (fileOf form order t trace) ≤ length out
       → stored-third ≡ fileOf form order t trace ++ drop (length (fileOf form order t trace)) out
   file-stored h =
-      let all = wrote-more (thirdBody form order) third refl refl in
-      all .holds ∙ ap (sets out 0) parts ∙ sets-start (fileOf form order t trace) out h
+      let second = wrote-more trace first refl refl in
+      let all = wrote-more (thirdBody form order) second refl refl in
+      all .holds ∙ ap (sets out 0) (sym (file-parts form order t trace)) ∙ sets-start (fileOf form order t trace) out h

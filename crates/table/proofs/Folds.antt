@@ -2,12 +2,14 @@
 use mathlib.Core.Bool.{Bool, true, false, not, _&&_, _||_}
 use mathlib.Core.Path.{_≡_, refl, sym, _∙_, ap}
 use mathlib.Core.Logic.{⊎-elim}
-use Prim.Native.Nat.{ℕ, zero, suc, _+_, _*_, min, max, _≤_, _<_}
-use native.Mathlib.Nat.{not-suc-le-zero, mul-add}
+use mathlib.Core.List.{List, [], _++_, append-assoc, append-nil}
+use Prim.Native.Nat.{ℕ, zero, suc, _+_, _-_, _*_, min, max, _≤_, _<_}
+use native.Mathlib.Nat.{not-suc-le-zero, mul-add, add-zero, add-suc}
 use native.Mathlib.Omega.{arith}
-use lib.Dec.{leb, eqb}
-use borrow.Author.Tests.{le-leb, ne-eqb}
-use Rattle.table.specs.Fold.{if, sumTo, smallestTo, largestTo, allTo, someTo, countTo}
+use lib.Dec.{leb, ltb, eqb}
+use lib.ListN.{length, length-append}
+use borrow.Author.Tests.{le-leb, ne-eqb, lt-ltb, le-ltb}
+use Rattle.table.specs.Fold.{if, sumTo, smallestTo, largestTo, allTo, someTo, joinTo, countTo}
 use Rattle.table.specs.Refusal.{_or-next_, firstTo}
 use Rattle.table.proofs.Tests.{le-or-lt, both, neither, or-next-none, or-next-is, or-next-first}
 
@@ -203,3 +205,97 @@ sum-other f g (suc n) i l h =
     rw (before, e) (omega arith))
     (λ (u : i < n). omega (arith, sum-other f g n i u (λ j v. h j (omega arith)), h n (omega arith) (λ (w : n ≡ i). omega arith)))
     (le-or-lt n i)
+
+-- ---- how many pass
+
+-- one more, where the next passes, and else as many
+pub count-more : (f : ℕ → Bool) (n : ℕ) → f n ≡ true → countTo f (suc n) ≡ suc (countTo f n)
+unfolding countTo if
+count-more f n h = rw h
+
+pub count-stays : (f : ℕ → Bool) (n : ℕ) → f n ≡ false → countTo f (suc n) ≡ countTo f n
+unfolding countTo if
+count-stays f n h = rw h
+
+pub count-le : (f : ℕ → Bool) (n : ℕ) → countTo f n ≤ n
+unfolding countTo if
+count-le f zero = omega arith
+count-le f (suc n) = go (f n) (count-le f n)
+  where
+    go : (b : Bool) → countTo f n ≤ n → if b (suc (countTo f n)) (countTo f n) ≤ suc n
+    go true h = omega arith
+    go false h = omega arith
+
+-- where each passes, all do
+pub count-all : (f : ℕ → Bool) (n : ℕ) → ((i : ℕ) → i < n → f i ≡ true) → countTo f n ≡ n
+unfolding countTo if
+count-all f zero h = refl
+count-all f (suc n) h = rw (h n (omega arith), count-all f n (λ i l. h i (omega arith)))
+
+pub count-agree : (f g : ℕ → Bool) (n : ℕ) → ((i : ℕ) → i < n → f i ≡ g i) → countTo f n ≡ countTo g n
+unfolding countTo
+count-agree f g zero h = refl
+count-agree f g (suc n) h = rw (h n (omega arith), count-agree f g n (λ i l. h i (omega arith)))
+
+-- of the first n, and of the next m
+pub count-split : (f : ℕ → Bool) (n m : ℕ) → countTo f (n + m) ≡ countTo f n + countTo (λ i. f (n + i)) m
+unfolding countTo if
+count-split f n zero = rw (add-zero n) (omega arith)
+count-split f n (suc m) = rw (add-suc n m, count-split f n m) (go (f (n + m)))
+  where
+    go : (b : Bool) → let a = countTo f n in let c = countTo (λ i. f (n + i)) m in if b (suc (a + c)) (a + c) ≡ a + if b (suc c) c
+    go true = omega arith
+    go false = refl
+
+-- Of those that pass only the first k: they are as many as pass, but no more than k.
+pub count-first : (f : ℕ → Bool) (k n : ℕ) → countTo (λ i. f i && ltb (countTo f i) k) n ≡ min k (countTo f n)
+unfolding countTo if
+count-first f k zero = omega arith
+count-first f k (suc n) = rw (count-first f k n) (go (f n))
+  where
+    go : (b : Bool) → let c = countTo f n in if (b && ltb c k) (suc (min k c)) (min k c) ≡ min k (if b (suc c) c)
+    go true =
+        ⊎-elim
+        (λ (u : k ≤ countTo f n). rw (le-ltb (countTo f n) k u) (omega arith))
+        (λ (u : countTo f n < k). rw (lt-ltb (countTo f n) k u) (omega arith))
+        (le-or-lt k (countTo f n))
+    go false = refl
+
+-- ---- lists, one behind the other
+
+module _ {A : Type 0} where
+  pub join-agree : (f g : ℕ → List A) (n : ℕ) → ((i : ℕ) → i < n → f i ≡ g i) → joinTo f n ≡ joinTo g n
+  unfolding joinTo
+  join-agree f g zero h = refl
+  join-agree f g (suc n) h = rw (h n (omega arith), join-agree f g n (λ i l. h i (omega arith)))
+
+  -- the first n, and the next m
+  pub join-split : (f : ℕ → List A) (n m : ℕ) → joinTo f (n + m) ≡ joinTo f n ++ joinTo (λ i. f (n + i)) m
+  unfolding joinTo
+  join-split f n zero = rw (add-zero n) (sym (append-nil (joinTo f n)))
+  join-split f n (suc m) = rw (add-suc n m, join-split f n m) (append-assoc (joinTo f n) (joinTo (λ i. f (n + i)) m) (f (n + m)))
+
+  -- where each is empty
+  pub join-none : (f : ℕ → List A) (n : ℕ) → ((i : ℕ) → i < n → f i ≡ []) → joinTo f n ≡ []
+  unfolding joinTo
+  join-none f zero h = refl
+  join-none f (suc n) h = rw (h n (omega arith), join-none f n (λ i l. h i (omega arith)))
+
+  -- where each that passes has k elements, and each other m
+  pub join-length : (test : ℕ → Bool) (f g : ℕ → List A) (k m n : ℕ) → ((i : ℕ) → i < n → length (f i) ≡ k)
+      → ((i : ℕ) → i < n → length (g i) ≡ m)
+      → length (joinTo (λ i. if (test i) (f i) (g i)) n) ≡ k * countTo test n + m * (n - countTo test n)
+  unfolding joinTo countTo if
+  join-length test f g k m zero hf hg = omega arith
+  join-length test f g k m (suc n) hf hg =
+      length-append (joinTo (λ i. if (test i) (f i) (g i)) n) (if (test n) (f n) (g n))
+      ∙ rw (join-length test f g k m n (λ i l. hf i (omega arith)) (λ i l. hg i (omega arith))) (go (test n))
+    where
+      go : (b : Bool) → let c = countTo test n in let d = if b (suc c) c in
+          k * c + m * (n - c) + length (if b (f n) (g n)) ≡ k * d + m * (suc n - d)
+      go true =
+          let e : suc n - suc (countTo test n) ≡ n - countTo test n = omega arith in
+          rw (e, hf n (omega arith)) (omega arith)
+      go false =
+          let e : suc n - countTo test n ≡ suc (n - countTo test n) = omega (arith, count-le test n) in
+          rw (e, hg n (omega arith)) (omega arith)

@@ -1,0 +1,122 @@
+-- What is refused: which files, in which order, and where there is room.
+use mathlib.Core.Bool.{Bool, true, false}
+use mathlib.Core.Path.{_≡_, refl, sym, ap, _∙_}
+use mathlib.Core.Logic.{⊎-elim}
+use mathlib.Core.List.{List, [], _∷_, _++_}
+use Prim.Native.Nat.{ℕ, suc, _+_, _-_, _*_, _%_, _≤_}
+use native.Mathlib.Omega.{arith}
+use borrow.Author.Tests.{le-leb, leb-true, eqb-false, ne-eqb, le-ltb}
+use lib.Dec.{leb, eqb}
+use lib.ListN.{length, length-drop}
+use Rattle.table.specs.Fold.{if}
+use Rattle.table.specs.Refusal.{given, _or-next_}
+use Rattle.table.proofs.Tests.{both, by-if}
+use Rattle.cells.specs.Cells.{numberAt}
+use Rattle.file.specs.File.{tableStart, thirdLength, events-max, event-size}
+use Rattle.file.specs.Reading.{formIn, startIn, countAt, tableLength, traceStart, traceIn, eventsIn, isOutlined}
+use Rattle.file.specs.declared.form.Form.{Form}
+use Rattle.file.specs.declared.form.Form.the-variants.{Two, Three}
+use Rattle.file.proofs.Forms.{form-is}
+use Rattle.repair.specs.Salvage.{isTwo, isSalvageable, countIn, salvagedFile, contentsStay, contentsChange, cutAt, cutsOf, traceChanges, changesOf, salvageRefusal, salvageOf, salvagedOn, listedOn}
+use Rattle.repair.specs.Laws.{RefusedAsSaid, SixteenComesFirst, RefusedChangesNothing, EnoughRoom, NeverSeventeen}
+use Rattle.repair.specs.declared.change.Change.{Change}
+use Rattle.repair.specs.declared.Salvaged.{Salvaged}
+use Rattle.repair.proofs.Kept.{form-two, trace-rest, changes-length, kept-few, salvaged-length}
+
+-- ---- which files
+
+-- the parts of a file of two entries are there
+pub record Outlined (old : List ℕ) : Type 0 where
+  pub two : formIn old ≡ Two
+  pub count-high : countIn old ≤ 8
+  pub long : traceStart old ≤ length old
+
+pub outlined : (old : List ℕ) → isSalvageable old ≡ true → Outlined old
+unfolding isSalvageable
+outlined old fine =
+    let fits = both (isTwo (formIn old)) (isOutlined old) fine .1 in
+    let a = both (leb (countIn old) 8) (leb (traceStart old + thirdLength (formIn old)) (length old)) fits in
+    record {
+      two = form-two old fine;
+      count-high = leb-true _ _ (a .0);
+      long = omega (arith, leb-true (traceStart old + thirdLength (formIn old)) (length old) (a .1));
+    }
+
+-- a file is read as one of two entries exactly where its first two bytes do not say 3
+not-three-is-two : (old : List ℕ) → (numberAt 2 old 0 ≡ 3 → ⊥) → formIn old ≡ Two
+unfolding formIn if
+not-three-is-two old h = rw (ne-eqb (numberAt 2 old 0) 3 h)
+
+two-is-not-three : (old : List ℕ) → formIn old ≡ Two → numberAt 2 old 0 ≡ 3 → ⊥
+two-is-not-three old two h = let never : _≡_ {A = ℕ} 0 4 = sym (ap thirdLength two) ∙ ap thirdLength (form-is old Three h) in omega arith
+
+pub refused-as-said : RefusedAsSaid
+unfolding isSalvageable
+refused-as-said old = (
+  λ fine.
+      let q = outlined old fine in
+      let long : 26 + tableLength (numberAt 4 old 38) ≤ length old = rw (q .two) at (q .long) in
+      record { not-three = two-is-not-three old (q .two); count-high = rw (q .two) at (q .count-high); table-whole = omega arith },
+  λ q.
+      let long : 26 + tableLength (numberAt 4 old 38) + 0 ≤ length old = omega (arith, q .table-whole) in
+      rw (not-three-is-two old (q .not-three), le-leb _ _ (q .count-high), le-leb _ _ long),
+)
+
+-- ---- the refusal
+
+pub sixteen-comes-first : SixteenComesFirst
+unfolding salvageRefusal given _or-next_
+sixteen-comes-first old bytes places h = rw h
+
+pub refused-changes-nothing : RefusedChangesNothing
+unfolding salvageOf salvagedOn listedOn if
+refused-changes-nothing old out changes n h =
+    let refused = go (eqb (salvageRefusal old (length out) (length changes)) 0) _ _ h refl in
+    (rw refused, rw refused)
+  where
+    go : (b : Bool) (done refused : Salvaged) → if b done refused .number ≡ suc n → done .number ≡ 0 → b ≡ false
+    go true done refused h none = absurd (let never : 0 ≡ suc n = sym none ∙ h in omega arith)
+    go false done refused h none = refl
+
+-- ---- room
+
+-- a rest of a trace is listed only where there are bytes behind its last event
+cut-behind : (trace : List ℕ) → event-size * (eventsIn trace + length (cutsOf 0 trace)) ≤ length trace + 15
+cut-behind trace =
+    let rest = length trace % event-size in
+    by-if (λ (l : List Change). event-size * (eventsIn trace + length l) ≤ length trace + 15)
+    (eqb rest 0) [] (cutAt (0 + event-size * eventsIn trace) ∷ [])
+    (λ h. omega arith)
+    (λ h. let some : rest ≡ 0 → ⊥ = eqb-false rest 0 h in omega arith)
+
+-- of contents there is at most one change
+contents-once : (old : List ℕ) → length (changesOf old) ≤ suc (length (traceChanges events-max (traceStart old) (traceIn old)))
+unfolding changesOf if
+contents-once old = go (contentsStay old)
+  where
+    go : (stay : Bool) → let rest = traceChanges events-max (traceStart old) (traceIn old) in
+        length ((if stay [] (contentsChange ∷ [])) ++ rest) ≤ suc (length rest)
+    go true = omega arith
+    go false = omega arith
+
+pub enough-room : EnoughRoom
+enough-room old fine =
+    let q = outlined old fine in
+    let trace = traceIn old in
+    let few = kept-few events-max trace in
+    let rest : length trace ≡ length old - traceStart old = ap length (trace-rest old fine) ∙ length-drop (traceStart old) old in
+    let size = salvaged-length old fine in
+    let start : traceStart old ≡ 42 + 8 * countIn old = ap (λ (f : Form). tableStart f + tableLength (countAt old (startIn old))) (q .two) ∙ omega arith in (
+      omega (arith, size, few .1, rest, q .long),
+      omega (arith, size, few .0, start, q .count-high),
+      omega (arith, contents-once old, changes-length events-max (traceStart old) trace, cut-behind trace, rest, few .1, start, q .long),
+    )
+
+pub never-seventeen : NeverSeventeen
+unfolding salvageRefusal given _or-next_
+never-seventeen old bytes places fine long wide =
+    let q = enough-room old fine in
+    let file : length (salvagedFile old) ≤ bytes
+    = ⊎-elim (λ (l : length old ≤ bytes). omega (arith, q .0)) (λ (l : 64_106 ≤ bytes). omega (arith, q .1)) long in
+    let list : length (changesOf old) ≤ places = omega (arith, q .2) in
+    rw (fine, le-ltb bytes _ file, le-ltb places _ list)

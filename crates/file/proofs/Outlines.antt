@@ -76,3 +76,12 @@ unfolding outlineOf
 unfit-is-refused file n h =
     let q = unchosen (isOutlined file) _ _ _ _ h in
     rw (q .1, read-refused file (not-laid file (q .0)))
+
+-- whether there is an outline
+pub is-outline : (file : List ℕ) (form : Form) (count start end : ℕ) → outlineOf file ≡ Outlined form count start end → isOutlined file ≡ true
+unfolding outlineOf
+is-outline file form count start end h = chosen (isOutlined file) h .0
+
+pub no-outline : (file : List ℕ) (n : ℕ) → outlineOf file ≡ Unfit n → isOutlined file ≡ false
+unfolding outlineOf
+no-outline file n h = unchosen (isOutlined file) _ _ _ _ h .0

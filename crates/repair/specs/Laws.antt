@@ -40,7 +40,7 @@ SixteenComesFirst = (old : List ℕ) (bytes places : ℕ) → isSalvageable old 
 -- "A refused call returns its number and changes no byte of session or buffer."
 abbrev pub RefusedChangesNothing : Type 0
 RefusedChangesNothing =
-    (old out : List ℕ) (changes : List Change) (n : ℕ) → salvageOf old out changes .number ≡ suc n
+    (old out : List ℕ) (changes : List (List ℕ)) (n : ℕ) → salvageOf old out changes .number ≡ suc n
     → (salvagedOn old out changes ≡ out) × (listedOn old out changes ≡ changes)
 
 -- A file that is salvaged is no longer than the old one, nor than 64,106 bytes, and each change that is listed stands for 16 bytes of it.

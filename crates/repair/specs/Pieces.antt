@@ -1,12 +1,12 @@
 -- An old file that is longer than any buffer, piece by piece: its first bytes tell where the trace starts, and the trace is taken in pieces, each of whole events but the last.
 use mathlib.Core.Bool.{Bool, _||_}
-use mathlib.Core.List.{List, _++_}
+use mathlib.Core.List.{List, _++_, map}
 use Prim.Native.Nat.{ℕ, _+_, _-_, _^_}
 use lib.Dec.{leb, ltb}
 use lib.ListN.{length, drop}
 use Rattle.table.specs.Fold.{if}
 use Rattle.file.specs.Reading.{traceStart}
-use Rattle.repair.specs.Salvage.{isSalvageable, countIn, keptCount, traceChanges}
+use Rattle.repair.specs.Salvage.{isSalvageable, countIn, keptCount, pairOf, traceChanges}
 use Rattle.repair.specs.declared.Taken.{Taken}
 use Rattle.repair.specs.declared.pieces.Rest.{Rest}
 use Rattle.repair.specs.declared.pieces.Listed.{Listed}
@@ -37,7 +37,7 @@ listOf rest piece places =
     (record { number = 17; changes = 0; rest = rest })
     (record { number = 0; changes = length (changesIn rest piece); rest = restAfter rest piece })
 
-unfoldable pub listOn : Rest → List ℕ → List Change → List Change
+unfoldable pub listOn : Rest → List ℕ → List (List ℕ) → List (List ℕ)
 listOn rest piece changes =
-    let list = changesIn rest piece in
+    let list = map pairOf (changesIn rest piece) in
     if (isRefused rest piece (length changes)) changes (list ++ drop (length list) changes)

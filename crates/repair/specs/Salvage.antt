@@ -1,6 +1,6 @@
 -- Salvage of a broken session file: the page to hold beside Req 11 of document 02.
 use mathlib.Core.Bool.{Bool, true, false, not, _&&_, _||_}
-use mathlib.Core.List.{List, [], _∷_, _++_}
+use mathlib.Core.List.{List, [], _∷_, _++_, map}
 use Prim.Native.Nat.{ℕ, _+_, _*_, _%_}
 use lib.Dec.{ltb, eqb}
 use lib.ListN.{length, take, drop}
@@ -69,6 +69,10 @@ droppedAt position = record { kind = 2; position = position }
 abbrev pub cutAt : ℕ → Change
 cutAt position = record { kind = 3; position = position }
 
+-- a change as two numbers: its kind, and its position
+abbrev pub pairOf : Change → List ℕ
+pairOf change = change .kind ∷ change .position ∷ []
+
 -- "(once, at 0, if any of the 26 bytes changes)": they stay where they are the contents table of the file that is written
 unfoldable pub contentsStay : List ℕ → Bool
 contentsStay old = hasContents Two old (countIn old) (keptCount events-max (traceIn old))
@@ -101,7 +105,7 @@ salvageRefusal old bytes places =
     or-next given (ltb bytes (length (salvagedFile old)) || ltb places (length (changesOf old))) 17
 
 -- how long the file is and how many changes are listed, and 0; or the refusal, and zeros
-unfoldable pub salvageOf : List ℕ → List ℕ → List Change → Salvaged
+unfoldable pub salvageOf : List ℕ → List ℕ → List (List ℕ) → Salvaged
 salvageOf old out changes =
     let refusal = salvageRefusal old (length out) (length changes) in
     if (eqb refusal 0)
@@ -109,12 +113,12 @@ salvageOf old out changes =
     (record { number = refusal; length = 0; changes = 0 })
 
 -- the file stands at the start of its buffer and the list at the start of its own; "A refused call returns its number and changes no byte"
-unfoldable pub salvagedOn : List ℕ → List ℕ → List Change → List ℕ
+unfoldable pub salvagedOn : List ℕ → List ℕ → List (List ℕ) → List ℕ
 salvagedOn old out changes =
     let file = salvagedFile old in
     if (eqb (salvageRefusal old (length out) (length changes)) 0) (file ++ drop (length file) out) out
 
-unfoldable pub listedOn : List ℕ → List ℕ → List Change → List Change
+unfoldable pub listedOn : List ℕ → List ℕ → List (List ℕ) → List (List ℕ)
 listedOn old out changes =
-    let list = changesOf old in
+    let list = map pairOf (changesOf old) in
     if (eqb (salvageRefusal old (length out) (length changes)) 0) (list ++ drop (length list) changes) changes

@@ -2,7 +2,7 @@
 use listing::Text;
 ghost use mathlib.Core.Path.{_≡_};
 ghost use Rattle.listing.specs.Line.{textOf, Within};
-ghost use Rattle.repair.specs.Salvage.{contentsChange, droppedAt, cutAt};
+ghost use Rattle.repair.specs.Salvage.{contentsChange, droppedAt, cutAt, pairOf};
 ghost use Rattle.repair.specs.Line.{changeFields};
 
 // The contents table rewritten, an event dropped or the tail cut, and the position in the old file.
@@ -44,6 +44,13 @@ impl Change {
             kind: Change::CUT,
             position,
         }
+    }
+
+    // A change as two numbers.
+    pub fn pair(self) -> [u64; 2]
+        ensures { λ r. ⌜ r ≡ pairOf self ⌝ }
+    {
+        [self.kind, self.position]
     }
 
     // The line of a change: its word, and the position. A kind that there is not has the word of a cut.

@@ -5,13 +5,13 @@ use file::event_at;
 use file::is_formed;
 ghost use mathlib.Core.Bool.{_&&_};
 ghost use mathlib.Core.Path.{_≡_};
-ghost use mathlib.Core.List.{_++_};
+ghost use mathlib.Core.List.{_++_, map};
 ghost use Prim.Native.Nat.{_+_, _≤_, _^_};
 ghost use lib.Dec.{ltb};
 ghost use lib.ListN.{length, drop};
 ghost use lib.Seq.{sets};
 ghost use Rattle.file.specs.Reading.{eventsIn, eventAt, formed};
-ghost use Rattle.repair.specs.Salvage.{keptOf, keptCount, dropsTo, traceChanges};
+ghost use Rattle.repair.specs.Salvage.{keptOf, keptCount, pairOf, dropsTo, traceChanges};
 
 // Whether the event at i of a trace is kept, where so many were before it.
 fn is_kept(trace: &[u8], i: usize, kept: usize, room: usize) -> bool
@@ -56,24 +56,25 @@ pub fn keep(trace: &[u8], room: usize, out: &mut [u8]) -> usize
 }
 
 // Puts the changes of a trace that starts at a position at the start of a list that has room for them: the events that are not kept, and a torn rest.
-pub(crate) fn put_changes(trace: &[u8], at: u64, room: usize, changes: &mut [Change])
+pub(crate) fn put_changes(trace: &[u8], at: u64, room: usize, changes: &mut [[u64; 2]])
     requires { ⌜ at + length (now trace) ≤ 2 ^ 64 ⌝ }
     requires { ⌜ length (traceChanges room at (now trace)) ≤ length (now changes) ⌝ }
-    ensures { λ _. ⌜ now (changes .exit) ≡ traceChanges room at (now (trace .entry)) ++ drop (length (traceChanges room at (now (trace .entry)))) (now (changes .entry)) ⌝ }
+    ensures { λ _. ⌜ now (changes .exit) ≡ map pairOf (traceChanges room at (now (trace .entry))) ++ drop (length (traceChanges room at (now (trace .entry)))) (now (changes .entry)) ⌝ }
 {
     let events = trace.len() / Event::SIZE;
     let dropped = put_drops(trace, at, room, changes);
     if trace.len() % Event::SIZE != 0 {
-        changes[dropped] = Change::cut(at + (Event::SIZE * events) as u64);
+        let cut = Change::cut(at + (Event::SIZE * events) as u64);
+        changes[dropped] = cut.pair();
     }
 }
 
 // Puts the events that are not kept at the start of a list, and answers how many they are.
-fn put_drops(trace: &[u8], at: u64, room: usize, changes: &mut [Change]) -> usize
+fn put_drops(trace: &[u8], at: u64, room: usize, changes: &mut [[u64; 2]]) -> usize
     requires { ⌜ at + length (now trace) ≤ 2 ^ 64 ⌝ }
     requires { ⌜ length (dropsTo room at (now trace) (eventsIn (now trace))) ≤ length (now changes) ⌝ }
     ensures { λ r. ⌜ r ≡ length (dropsTo room at (now (trace .entry)) (eventsIn (now (trace .entry)))) ⌝ }
-    ensures { λ r. ⌜ now (changes .exit) ≡ dropsTo room at (now (trace .entry)) (eventsIn (now (trace .entry))) ++ drop r (now (changes .entry)) ⌝ }
+    ensures { λ r. ⌜ now (changes .exit) ≡ map pairOf (dropsTo room at (now (trace .entry)) (eventsIn (now (trace .entry)))) ++ drop r (now (changes .entry)) ⌝ }
 {
     let events = trace.len() / Event::SIZE;
     let mut kept: usize = 0;
@@ -82,7 +83,8 @@ fn put_drops(trace: &[u8], at: u64, room: usize, changes: &mut [Change]) -> usiz
         if is_kept(trace, i, kept, room) {
             kept += 1;
         } else {
-            changes[i - kept] = Change::dropped(at + (Event::SIZE * i) as u64);
+            let dropped = Change::dropped(at + (Event::SIZE * i) as u64);
+            changes[i - kept] = dropped.pair();
         }
         i += 1;
     }

@@ -1,5 +1,4 @@
 // The changes of an old file that is read in pieces.
-use crate::change::Change;
 use crate::events::kept_in;
 use crate::events::put_changes;
 use crate::listed_in;
@@ -25,7 +24,7 @@ impl Rest {
     const END_MAX: u64 = 0x7fff_ffff_ffff_ffff;
 
     // Lists the changes of a piece of the trace, which has whole events unless it is the last, or refuses and leaves the list as it was.
-    pub fn list(self, piece: &[u8], changes: &mut [Change]) -> Listed
+    pub fn list(self, piece: &[u8], changes: &mut [[u64; 2]]) -> Listed
         ensures { λ r. ⌜ r ≡ listOf self (now (piece .entry)) (length (now (changes .entry))) ⌝ }
         ensures { λ _. ⌜ now (changes .exit) ≡ listOn self (now (piece .entry)) (now (changes .entry)) ⌝ }
     {

@@ -1,13 +1,13 @@
 -- Cells and the numbers in them: one law each over the width.
 use mathlib.Core.Path.{_≡_, refl, ap, _∙_}
-use mathlib.Core.List.{List, _∷_, _++_}
+use mathlib.Core.List.{List, [], _∷_, _++_}
 use Prim.Native.Nat.{ℕ, zero, suc, _+_, _-_, _*_, _/_, _%_, _^_, min, _≤_, _<_}
 use native.Mathlib.Omega.{arith}
 use native.Mathlib.Numerals.{add-one}
 use native.Mathlib.Nat.{pow-suc, pow-le-pow-right, div-lt-iff-lt-mul, zero-lt-suc, lt-of-lt-of-le, add-zero, mod-lt}
 use lib.Arith.{digits-lt, digits-div, digits-mod}
 use lib.ListN.{length, getD, take, drop, List·getD-eq-default}
-use lib.Seq.{drop-cons, getD-append-add}
+use lib.Seq.{drop-cons, getD-drop, getD-append-add}
 use Rattle.cells.specs.Cells.{cell, numberAt, Bytes}
 use Rattle.cells.specs.Laws.{CellReadsBack, NumberWritesBack, NumberFits, CellIsBytes}
 
@@ -70,6 +70,16 @@ pub number-lt : (w : ℕ) (l : List ℕ) (at : ℕ) → Bytes l → numberAt w l
 unfolding numberAt
 number-lt zero l at b = omega arith
 number-lt (suc w) l at b = rw pow-suc (digits-lt (number-lt w l (suc at) b) (b at))
+
+bytes-take : (n : ℕ) (l : List ℕ) → Bytes l → Bytes (take n l)
+bytes-take zero l b i = omega arith
+bytes-take (suc n) [] b i = omega arith
+bytes-take (suc n) (x ∷ l) b zero = b 0
+bytes-take (suc n) (x ∷ l) b (suc i) = bytes-take n l (λ j. b (suc j)) i
+
+-- a part of some bytes is bytes
+pub bytes-part : (n k : ℕ) (l : List ℕ) → Bytes l → Bytes (take n (drop k l))
+bytes-part n k l b = bytes-take n (drop k l) (λ i. rw (getD-drop k l i 0) (b (k + i)))
 
 bytes-cell : (w n : ℕ) → Bytes (cell w n)
 unfolding cell

@@ -42,7 +42,7 @@ pub record Contents (form : Form) (file : List ℕ) (start end : ℕ) : Type 0 w
   pub trace-entry : Entry file 14 2 start (end - start)
   pub third-entry : isThirdEntry form file end ≡ true
 
-contents-of : (form : Form) (file : List ℕ) (start end : ℕ) → isContents form file start end ≡ true → Contents form file start end
+pub contents-of : (form : Form) (file : List ℕ) (start end : ℕ) → isContents form file start end ≡ true → Contents form file start end
 unfolding isContents
 contents-of form file start end h =
     let a = both _ _ h in

@@ -123,7 +123,7 @@ module _ (table trace : ℕ) (after : List ℕ) (h : table ≤ tableLength 8) (k
   third-there Three =
       is-entry _ _ _ _ _ (record { kind-is = refl; offset-is = number-cell 4 (tableStart Three + table + trace) [] (omega arith); length-is = refl })
 
-  entries-there : (form : Form)
+  pub entries-there : (form : Form)
       → let file = contents form table trace ++ after in
       let start = tableStart form in
       (numberAt 2 file 0 ≡ entriesOf form) × Entry file 2 1 start table × Entry file 14 2 (start + table) trace

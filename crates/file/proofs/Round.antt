@@ -69,7 +69,7 @@ pub accepted-are-the-written : AcceptedAreTheWritten
 accepted-are-the-written = (laid-back, λ file b h. (writable-back file h, sym (write-back file b h)))
 
 -- what reading says of the file that can be written
-reads-back : (form : Form) (order : Order) (t : Table) (trace : List ℕ) → Words t → isWritable form order t trace ≡ true
+pub reads-back : (form : Form) (order : Order) (t : Table) (trace : List ℕ) → Words t → isWritable form order t trace ≡ true
     → let start = tableStart form + tableLength (t .count) in
     readOf (fileOf form order t trace) ≡ LaidOut form order (t .count) start (start + length trace) (eventsIn trace)
 reads-back form order t trace q right =

@@ -95,12 +95,12 @@ trace-reads-back es c h =
 
 -- ---- from a trace to events and back
 
-trace-append : (a b : List Event) → traceOf (a ++ b) ≡ traceOf a ++ traceOf b
+pub trace-append : (a b : List Event) → traceOf (a ++ b) ≡ traceOf a ++ traceOf b
 unfolding traceOf
 trace-append [] b = refl
 trace-append (e ∷ a) b = rw (trace-append a b) (sym (append-assoc (bytesOf e) (traceOf a) (traceOf b)))
 
-coded-append : (a : List Event) (e : Event) → AllCoded a → Coded e → AllCoded (a ++ (e ∷ []))
+pub coded-append : (a : List Event) (e : Event) → AllCoded a → Coded e → AllCoded (a ++ (e ∷ []))
 coded-append [] e c d = (d, tt)
 coded-append (x ∷ a) e c d = (c .0, coded-append a e (c .1) d)
 

@@ -46,7 +46,7 @@ module _ (file : List ℕ) (b : Bytes file) where
   third-entry-there Two offset q h = refl
   third-entry-there Three offset q h = entry-there 26 3 offset 4 (entry-of file 26 3 offset 4 q) h
 
-  contents-there : (form : Form) (table trace : ℕ) → let start = tableStart form in
+  pub contents-there : (form : Form) (table trace : ℕ) → let start = tableStart form in
       numberAt 2 file 0 ≡ entriesOf form → Entry file 2 1 start table → Entry file 14 2 (start + table) trace
       → isThirdEntry form file (start + table + trace) ≡ true → start ≤ length file → contents form table trace ≡ take start file
   unfolding contents
@@ -84,7 +84,7 @@ module _ (file : List ℕ) (b : Bytes file) where
         m,
       )
 
-  table-there : (at : ℕ) → countAt file at ≤ 8 → at + tableLength (countAt file at) ≤ length file
+  pub table-there : (at : ℕ) → countAt file at ≤ 8 → at + tableLength (countAt file at) ≤ length file
       → tableBody (tableAt file at) ≡ take (tableLength (countAt file at)) (drop at file)
   unfolding tableBody tableAt
   table-there at c h =

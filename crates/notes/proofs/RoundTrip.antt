@@ -1,12 +1,12 @@
 -- What is shown of a file is composed to that file: line by line, first the numbers of the table, then the order if it has a third entry, then the streams, then the events.
 use mathlib.Core.Bool.{true, false}
 use mathlib.Core.Path.{_≡_, refl, sym, ap, _∙_}
-use mathlib.Core.List.{List, [], _∷_, _++_}
+use mathlib.Core.List.{List, [], _++_}
 use Prim.Native.Nat.{ℕ, zero, suc, _+_, _-_, _*_, _^_, _≤_, _<_}
 use native.Mathlib.Omega.{arith}
 use lib.Dec.{eqb}
 use lib.ListN.{length, take, drop, set, length-append, length-take}
-use lib.Seq.{sets, sets-eq, length-sets, length-take-le, take-at, take-add, take-all, getD-drop}
+use lib.Seq.{sets, sets-eq, length-sets, length-take-le, take-at, take-add, take-all}
 use borrow.Author.Tests.{ne-eqb, lt-ltb, le-ltb, le-leb}
 use Rattle.table.specs.Fold.{if, listTo, allTo}
 use Rattle.table.specs.Refusal.{given, _or-next_}
@@ -14,6 +14,7 @@ use Rattle.table.specs.Ranges.{streams-max}
 use Rattle.table.specs.Admission.{reservedAt, periodAt}
 use Rattle.table.specs.declared.Table.{Table}
 use Rattle.cells.specs.Cells.{Bytes}
+use Rattle.cells.proofs.Numbers.{bytes-part}
 use Rattle.order.specs.declared.Order.{Order}
 use Rattle.order.specs.declared.Order.the-variants.{Nearest}
 use Rattle.file.specs.declared.form.Form.{Form}
@@ -42,16 +43,6 @@ use Rattle.notes.proofs.Choices.{filed-whole}
 use Rattle.notes.proofs.ReadBack.{line-reads-back}
 
 -- ---- lists
-
-bytes-take : (n : ℕ) (l : List ℕ) → Bytes l → Bytes (take n l)
-bytes-take zero l b i = omega arith
-bytes-take (suc n) [] b i = omega arith
-bytes-take (suc n) (x ∷ l) b zero = b 0
-bytes-take (suc n) (x ∷ l) b (suc i) = bytes-take n l (λ j. b (suc j)) i
-
--- a part of some bytes is bytes
-pub bytes-part : (n k : ℕ) (l : List ℕ) → Bytes l → Bytes (take n (drop k l))
-bytes-part n k l b = bytes-take n (drop k l) (λ i. rw (getD-drop k l i 0) (b (k + i)))
 
 -- a column with a number more
 column-more : (f : ℕ → ℕ) (j : ℕ) → j < streams-max → set (column f j) j (f j) ≡ column f (suc j)

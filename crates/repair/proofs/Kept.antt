@@ -13,11 +13,11 @@ use Rattle.table.proofs.Tests.{both, same-test}
 use Rattle.table.proofs.Folds.{count-le, count-first, join-length}
 use Rattle.order.specs.declared.Order.the-variants.{Nearest}
 use Rattle.file.specs.File.{tableStart, thirdLength, events-max, event-size}
-use Rattle.file.specs.Reading.{eventsIn, eventAt, formed, formIn, traceStart, traceEnd, traceIn, tableAt, tableIn, isOutlined}
+use Rattle.file.specs.Reading.{eventsIn, eventAt, formed, formIn, tableLength, traceStart, traceEnd, traceIn, tableAt, tableIn, isOutlined}
 use Rattle.file.specs.declared.form.Form.{Form}
 use Rattle.file.specs.declared.form.Form.the-variants.{Two, Three}
 use Rattle.file.proofs.Lengths.{length-file}
-use Rattle.repair.specs.Salvage.{isTwo, isSalvageable, soundTo, isKept, eventBytes, keptTo, keptOf, keptCount, salvagedFile, droppedAt, cutAt, dropsTo, cutsOf, traceChanges}
+use Rattle.repair.specs.Salvage.{isTwo, isSalvageable, countIn, soundTo, isKept, eventBytes, keptTo, keptOf, keptCount, salvagedFile, droppedAt, cutAt, dropsTo, cutsOf, traceChanges}
 
 -- ---- which events are kept
 
@@ -103,6 +103,9 @@ module _ (old : List ℕ) (fine : isSalvageable old ≡ true) where
       go : (form : Form) → isTwo form ≡ true → form ≡ Two
       go Two h = refl
       go Three h = absurd (false≢true h)
+
+  pub start-two : traceStart old ≡ tableStart Two + tableLength (countIn old)
+  start-two = ap (λ (f : Form). tableStart f + tableLength (countIn old)) form-two
 
   pub trace-rest : traceIn old ≡ drop (traceStart old) old
   trace-rest =

@@ -5,4 +5,6 @@ pub mod Listings
 pub mod Taking
 pub mod Salvaging
 pub mod Refused
+pub mod First
+pub mod Accepted
 pub mod Worked

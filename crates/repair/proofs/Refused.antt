@@ -12,16 +12,15 @@ use Rattle.table.specs.Fold.{if}
 use Rattle.table.specs.Refusal.{given, _or-next_}
 use Rattle.table.proofs.Tests.{both, by-if}
 use Rattle.cells.specs.Cells.{numberAt}
-use Rattle.file.specs.File.{tableStart, thirdLength, events-max, event-size}
-use Rattle.file.specs.Reading.{formIn, startIn, countAt, tableLength, traceStart, traceIn, eventsIn, isOutlined}
-use Rattle.file.specs.declared.form.Form.{Form}
+use Rattle.file.specs.File.{thirdLength, events-max, event-size}
+use Rattle.file.specs.Reading.{formIn, tableLength, traceStart, traceIn, eventsIn, isOutlined}
 use Rattle.file.specs.declared.form.Form.the-variants.{Two, Three}
 use Rattle.file.proofs.Forms.{form-is}
 use Rattle.repair.specs.Salvage.{isTwo, isSalvageable, countIn, salvagedFile, contentsStay, contentsChange, cutAt, cutsOf, traceChanges, changesOf, salvageRefusal, salvageOf, salvagedOn, listedOn}
 use Rattle.repair.specs.Laws.{RefusedAsSaid, SixteenComesFirst, RefusedChangesNothing, EnoughRoom, NeverSeventeen}
 use Rattle.repair.specs.declared.change.Change.{Change}
 use Rattle.repair.specs.declared.Salvaged.{Salvaged}
-use Rattle.repair.proofs.Kept.{form-two, trace-rest, changes-length, kept-few, salvaged-length}
+use Rattle.repair.proofs.Kept.{form-two, start-two, trace-rest, changes-length, kept-few, salvaged-length}
 
 -- ---- which files
 
@@ -106,7 +105,7 @@ enough-room old fine =
     let few = kept-few events-max trace in
     let rest : length trace ≡ length old - traceStart old = ap length (trace-rest old fine) ∙ length-drop (traceStart old) old in
     let size = salvaged-length old fine in
-    let start : traceStart old ≡ 42 + 8 * countIn old = ap (λ (f : Form). tableStart f + tableLength (countAt old (startIn old))) (q .two) ∙ omega arith in (
+    let start = start-two old fine in (
       omega (arith, size, few .1, rest, q .long),
       omega (arith, size, few .0, start, q .count-high),
       omega (arith, contents-once old, changes-length events-max (traceStart old) trace, cut-behind trace, rest, few .1, start, q .long),

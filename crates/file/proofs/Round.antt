@@ -188,7 +188,7 @@ longest-file file form order count start end events h =
 
 -- ---- the forms
 
-third-none : (order : Order) → thirdBody Two order ≡ []
+pub third-none : (order : Order) → thirdBody Two order ≡ []
 unfolding thirdBody cell
 third-none order = refl
 

@@ -7,4 +7,7 @@ pub mod Salvaging
 pub mod Refused
 pub mod First
 pub mod Accepted
+pub mod Contents
+pub mod Exact
+pub mod Rising
 pub mod Worked

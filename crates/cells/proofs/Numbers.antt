@@ -6,7 +6,7 @@ use native.Mathlib.Omega.{arith}
 use native.Mathlib.Numerals.{add-one}
 use native.Mathlib.Nat.{pow-suc, pow-le-pow-right, div-lt-iff-lt-mul, zero-lt-suc, lt-of-lt-of-le, add-zero, mod-lt}
 use lib.Arith.{digits-lt, digits-div, digits-mod}
-use lib.ListN.{length, getD, take, drop, List·getD-eq-default}
+use lib.ListN.{length, getD, take, drop, List·getD-eq-default, List·getD-append}
 use lib.Seq.{drop-cons, getD-drop, getD-append-add}
 use Rattle.cells.specs.Cells.{cell, numberAt, Bytes}
 use Rattle.cells.specs.Laws.{CellReadsBack, NumberWritesBack, NumberFits, CellIsBytes}
@@ -17,6 +17,12 @@ length-cell zero n = refl
 length-cell (suc w) n = ap suc (length-cell w (n / 256))
 
 -- ---- where a number is read
+
+-- in the first of two runs of bytes
+pub number-before : (w : ℕ) (a b : List ℕ) (at : ℕ) → at + w ≤ length a → numberAt w (a ++ b) at ≡ numberAt w a at
+unfolding numberAt
+number-before zero a b at h = refl
+number-before (suc w) a b at h = rw (List·getD-append a b 0 at (omega arith), number-before w a b (suc at) (omega arith))
 
 -- past a run of bytes
 pub number-past : (w : ℕ) (a b : List ℕ) (at : ℕ) → numberAt w (a ++ b) (length a + at) ≡ numberAt w b at

@@ -10,4 +10,6 @@ pub mod Accepted
 pub mod Contents
 pub mod Exact
 pub mod Rising
+pub mod Joined
+pub mod Head
 pub mod Worked

@@ -247,6 +247,12 @@ count-split f n (suc m) = rw (add-suc n m, count-split f n m) (go (f (n + m)))
     go true = omega arith
     go false = refl
 
+-- a test that agrees with one on the first n, and with another behind them
+pub count-parts : (h f g : ℕ → Bool) (n m : ℕ) → ((i : ℕ) → i < n → h i ≡ f i) → ((i : ℕ) → i < m → h (n + i) ≡ g i)
+    → countTo h (n + m) ≡ countTo f n + countTo g m
+count-parts h f g n m front behind =
+    count-split h n m ∙ omega (arith, count-agree h f n front, count-agree (λ i. h (n + i)) g m behind)
+
 -- Of those that pass only the first k: they are as many as pass, but no more than k.
 pub count-first : (f : ℕ → Bool) (k n : ℕ) → countTo (λ i. f i && ltb (countTo f i) k) n ≡ min k (countTo f n)
 unfolding countTo if
@@ -274,6 +280,12 @@ module _ {A : Type 0} where
   unfolding joinTo
   join-split f n zero = rw (add-zero n) (sym (append-nil (joinTo f n)))
   join-split f n (suc m) = rw (add-suc n m, join-split f n m) (append-assoc (joinTo f n) (joinTo (λ i. f (n + i)) m) (f (n + m)))
+
+  -- lists that agree with some on the first n, and with others behind them
+  pub join-parts : (h f g : ℕ → List A) (n m : ℕ) → ((i : ℕ) → i < n → h i ≡ f i) → ((i : ℕ) → i < m → h (n + i) ≡ g i)
+      → joinTo h (n + m) ≡ joinTo f n ++ joinTo g m
+  join-parts h f g n m front behind =
+      join-split h n m ∙ rw (join-agree h f n front, join-agree (λ i. h (n + i)) g m behind)
 
   -- where each is empty
   pub join-none : (f : ℕ → List A) (n : ℕ) → ((i : ℕ) → i < n → f i ≡ []) → joinTo f n ≡ []

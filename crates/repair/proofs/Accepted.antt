@@ -44,15 +44,14 @@ kept-events room trace = omega (arith, kept-length room trace (eventsIn trace) (
 
 -- ---- a file that is salvaged
 
-module _ (old : List ℕ) (bytes : Bytes old) (fine : isSalvageable old ≡ true) where
-  pub bytes-trace : Bytes (traceIn old)
-  bytes-trace = bytes-part (traceEnd old - traceStart old) (traceStart old) old bytes
+pub bytes-trace : (old : List ℕ) → Bytes old → Bytes (traceIn old)
+bytes-trace old = bytes-part (traceEnd old - traceStart old) (traceStart old) old
 
-  writable : isWritable Two Nearest (tableIn old) (keptOf events-max (traceIn old)) ≡ true
-  unfolding tableAt
-  writable =
-      is-writable Two Nearest (tableIn old) (keptOf events-max (traceIn old))
-      (record { count-high = outlined old fine .count-high; placed = refl; trace-right = kept-is-trace (traceIn old) bytes-trace })
+writable : (old : List ℕ) → Bytes old → isSalvageable old ≡ true → isWritable Two Nearest (tableIn old) (keptOf events-max (traceIn old)) ≡ true
+unfolding tableAt
+writable old bytes fine =
+    is-writable Two Nearest (tableIn old) (keptOf events-max (traceIn old))
+    (record { count-high = outlined old fine .count-high; placed = refl; trace-right = kept-is-trace (traceIn old) (bytes-trace old bytes) })
 
 pub salvaged-is-accepted : SalvagedIsAccepted
 unfolding salvagedFile tableAt
@@ -128,7 +127,7 @@ module _ (file : List ℕ) (two : formIn file ≡ Two) (h : isLaidOut file ≡ t
 
   nothing-changed : (isSalvageable file ≡ true) × (keptOf events-max (traceIn file) ≡ traceIn file) × (changesOf file ≡ [])
   unfolding changesOf if
-  nothing-changed = (salvageable, kept-whole (traceIn file) trace-right, rw (contents-stay) (none-listed (traceIn file) trace-right (traceStart file)))
+  nothing-changed = (salvageable, kept-whole (traceIn file) trace-right, rw contents-stay (none-listed (traceIn file) trace-right (traceStart file)))
 
 pub sound-comes-out-equal : SoundComesOutEqual
 unfolding salvagedFile

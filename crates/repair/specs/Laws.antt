@@ -3,22 +3,21 @@ use mathlib.Core.Bool.{true, false}
 use mathlib.Core.Path.{_≡_}
 use mathlib.Core.Logic.{_⊎_}
 use mathlib.Core.List.{List, [], _∷_, _++_, map}
-use Prim.Native.Nat.{ℕ, suc, _+_, _-_, _*_, _%_, _/_, _≤_, _<_}
+use Prim.Native.Nat.{ℕ, suc, _+_, _-_, _*_, _%_, _/_, _^_, _≤_, _<_}
 use lib.Dec.{eqb}
 use lib.ListN.{length, take, drop}
 use Rattle.table.specs.Fold.{if, listTo}
 use Rattle.order.specs.declared.Order.{Order}
 use Rattle.order.specs.declared.Order.the-variants.{Nearest}
 use Rattle.cells.specs.Cells.{numberAt, Bytes}
-use Rattle.file.specs.File.{events-max, event-size, traceOf, fileOf}
-use Rattle.file.specs.Reading.{eventsIn, eventAt, formed, traceStart, traceIn, tableIn, hasContents, isLaidOut, readOf}
+use Rattle.file.specs.File.{events-max, event-size, traceOf}
+use Rattle.file.specs.Reading.{eventsIn, eventAt, formed, traceStart, traceIn, tableIn, hasContents, readOf}
 use Rattle.file.specs.declared.form.Form.the-variants.{Two}
 use Rattle.file.specs.declared.event.Event.{Event}
 use Rattle.file.specs.declared.Reading.the-variants.{LaidOut}
-use Rattle.repair.specs.Salvage.{isSalvageable, countIn, keptOf, keptCount, salvagedFile, contentsStay, changesOf, salvageRefusal, salvageOf, salvagedOn, listedOn}
-use Rattle.repair.specs.Pieces.{takenOf, changesIn, restAfter}
-use Rattle.repair.specs.Cases.{Case, cases, answerOf, expected}
-use Rattle.repair.specs.declared.Salvaged.{Salvaged}
+use Rattle.repair.specs.Salvage.{isSalvageable, countIn, keptOf, keptCount, salvagedFile, contentsChange, pairOf, traceChanges, changesOf, salvageRefusal, salvageOf, salvagedOn, listedOn}
+use Rattle.repair.specs.Pieces.{takenOf, changesIn, restAfter, listOf}
+use Rattle.repair.specs.Cases.{cases, answerOf, expected}
 use Rattle.repair.specs.declared.pieces.Rest.{Rest}
 use Rattle.repair.specs.declared.change.Change.{Change}
 
@@ -56,6 +55,16 @@ NeverSeventeen =
     → salvageRefusal old bytes places ≡ 0
 
 -- ---- what comes out
+
+-- What is answered is there: the file stands at the start of its buffer and the list at the start of its own, and what stood behind them stays.
+abbrev pub AnsweredIsThere : Type 0
+AnsweredIsThere =
+    (old out : List ℕ) (changes : List (List ℕ)) → salvageOf old out changes .number ≡ 0
+    → let n = salvageOf old out changes .length in
+    let k = salvageOf old out changes .changes in
+    let file = salvagedOn old out changes in
+    let list = listedOn old out changes in
+    (take n file ≡ salvagedFile old) × (drop n file ≡ drop n out) × (take k list ≡ map pairOf (changesOf old)) × (drop k list ≡ drop k changes)
 
 -- "Sound" is what the reader accepts. The table is the one that stood there, and the trace what is kept.
 abbrev pub SalvagedIsAccepted : Type 0
@@ -122,12 +131,29 @@ abbrev pub ListGoesUp : Type 0
 ListGoesUp =
     (old : List ℕ) → isSalvageable old ≡ true → AboveEach 0 (map (λ (c : Change). suc (c .position)) (changesOf old))
 
--- "(once, at 0, if any of the 26 bytes changes)"
+-- "(once, at 0, if any of the 26 bytes changes)": it is the first of the list exactly where one does, and the rest is what the trace has
 abbrev pub ContentsListedIfChanged : Type 0
 ContentsListedIfChanged =
     (old : List ℕ) → Bytes old → isSalvageable old ≡ true
-    → (contentsStay old ≡ true → take 26 (salvagedFile old) ≡ take 26 old)
-    × (take 26 (salvagedFile old) ≡ take 26 old → contentsStay old ≡ true)
+    → let same = take 26 (salvagedFile old) ≡ take 26 old in
+    let rest = traceChanges events-max (traceStart old) (traceIn old) in
+    (same → changesOf old ≡ rest) × ((same → ⊥) → changesOf old ≡ contentsChange ∷ rest)
+
+-- what a change says of the old file: contents are at 0, an event that is dropped is a whole one of its trace, and what is cut is a part of one, up to the end
+unfoldable pub InPlace : List ℕ → Change → Type 0
+InPlace old change =
+    let at = change .position in
+    let start = traceStart old in
+    ((change .kind ≡ 1) × (at ≡ 0))
+    ⊎ ((change .kind ≡ 2) × (start ≤ at) × ((at - start) % event-size ≡ 0) × (at + event-size ≤ length old))
+    ⊎ ((change .kind ≡ 3) × (start ≤ at) × ((at - start) % event-size ≡ 0) × (at < length old) × (length old < at + event-size))
+
+unfoldable pub AllInPlace : List ℕ → List Change → Type 0
+AllInPlace old [] = Unit
+AllInPlace old (change ∷ rest) = InPlace old change × AllInPlace old rest
+
+abbrev pub ChangesAreInPlace : Type 0
+ChangesAreInPlace = (old : List ℕ) → isSalvageable old ≡ true → AllInPlace old (changesOf old)
 
 -- ---- pieces
 
@@ -171,6 +197,12 @@ PiecesAreWhole =
     → ((room : ℕ) → keptBy room pieces last ≡ keptOf room (joined pieces last))
     × ((room : ℕ) → countBy room pieces last ≡ keptCount room (joined pieces last))
     × ((rest : Rest) → listedBy rest pieces last ≡ changesIn rest (joined pieces last))
+
+-- A piece is listed whole where there is a place for each of its events and for a torn rest, as long as it ends within 63 bits.
+abbrev pub PieceIsListed : Type 0
+PieceIsListed =
+    (rest : Rest) (piece : List ℕ) (places : ℕ) → (length piece + 15) / 16 ≤ places → rest .at + length piece < 2 ^ 63
+    → listOf rest piece places .number ≡ 0
 
 -- ---- worked cases
 

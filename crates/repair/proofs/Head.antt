@@ -1,10 +1,11 @@
 -- The first 106 bytes of a file say as much as the whole: they hold the contents, and the table body of eight streams.
-use mathlib.Core.Bool.{true}
-use mathlib.Core.Path.{_≡_, sym, ap, _∙_}
+use mathlib.Core.Bool.{Bool, true, false}
+use mathlib.Core.Path.{_≡_, refl, sym, ap, _∙_}
 use mathlib.Core.List.{List, _++_}
 use Prim.Native.Nat.{ℕ, _+_, _*_, _≤_}
 use native.Mathlib.Omega.{arith}
 use lib.ListN.{length, length-append}
+use Rattle.table.specs.Fold.{if}
 use Rattle.table.proofs.Tests.{same-test}
 use Rattle.cells.specs.Cells.{numberAt}
 use Rattle.cells.proofs.Numbers.{number-before}
@@ -16,7 +17,8 @@ use Rattle.file.proofs.Forms.{start-low}
 use Rattle.file.proofs.Columns.{column-agree}
 use Rattle.repair.specs.Salvage.{isSalvageable, countIn}
 use Rattle.repair.specs.Pieces.{takenOf}
-use Rattle.repair.specs.Laws.{HeadIsEnough}
+use Rattle.repair.specs.Laws.{TraceStartsEarly, HeadIsEnough}
+use Rattle.repair.proofs.Kept.{start-two}
 use Rattle.repair.proofs.Refused.{outlined, refused-as-said}
 
 module _ (head more : List ℕ) (long : 106 ≤ length head) where
@@ -104,3 +106,11 @@ module _ (head more : List ℕ) (long : 106 ≤ length head) where
 
 pub head-is-enough : HeadIsEnough
 head-is-enough head more long = (same-taken head more long, same-table head more long, same-contents head more long)
+
+pub trace-starts-early : TraceStartsEarly
+unfolding takenOf if
+trace-starts-early old = go (isSalvageable old) refl
+  where
+    go : (b : Bool) → isSalvageable old ≡ b → takenOf old .start ≤ 106
+    go true h = let q = outlined old h in rw h (omega (arith, start-two old h, q .count-high))
+    go false h = rw h (omega arith)

@@ -16,7 +16,7 @@ use Rattle.file.specs.declared.form.Form.the-variants.{Two}
 use Rattle.file.specs.declared.event.Event.{Event}
 use Rattle.file.specs.declared.Reading.the-variants.{LaidOut}
 use Rattle.repair.specs.Salvage.{isSalvageable, countIn, keptOf, keptCount, salvagedFile, contentsChange, pairOf, traceChanges, changesOf, salvageRefusal, salvageOf, salvagedOn, listedOn}
-use Rattle.repair.specs.Pieces.{takenOf, changesIn, restAfter, listOf}
+use Rattle.repair.specs.Pieces.{table-end-max, takenOf, changesIn, restAfter, listOf}
 use Rattle.repair.specs.Cases.{cases, answerOf, expected}
 use Rattle.repair.specs.declared.pieces.Rest.{Rest}
 use Rattle.repair.specs.declared.change.Change.{Change}
@@ -157,10 +157,14 @@ ChangesAreInPlace = (old : List ℕ) → isSalvageable old ≡ true → AllInPla
 
 -- ---- pieces
 
--- The first 106 bytes of a file say as much as the whole: what is taken, which table, and whether the contents stay.
+-- A trace that is taken starts no further than at 106,
+abbrev pub TraceStartsEarly : Type 0
+TraceStartsEarly = (old : List ℕ) → takenOf old .start ≤ table-end-max
+
+-- so that the first 106 bytes of a file say as much as the whole: what is taken, which table, and whether the contents stay.
 abbrev pub HeadIsEnough : Type 0
 HeadIsEnough =
-    (head more : List ℕ) → 106 ≤ length head
+    (head more : List ℕ) → table-end-max ≤ length head
     → (takenOf (head ++ more) ≡ takenOf head)
     × (isSalvageable head ≡ true → tableIn (head ++ more) ≡ tableIn head)
     × ((count events : ℕ) → hasContents Two (head ++ more) count events ≡ hasContents Two head count events)

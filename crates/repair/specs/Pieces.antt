@@ -5,12 +5,19 @@ use Prim.Native.Nat.{ℕ, _+_, _-_, _^_}
 use lib.Dec.{leb, ltb}
 use lib.ListN.{length, drop}
 use Rattle.table.specs.Fold.{if}
-use Rattle.file.specs.Reading.{traceStart}
+use Rattle.table.specs.Ranges.{streams-max}
+use Rattle.file.specs.File.{tableStart}
+use Rattle.file.specs.Reading.{tableLength, traceStart}
+use Rattle.file.specs.declared.form.Form.the-variants.{Two}
 use Rattle.repair.specs.Salvage.{isSalvageable, countIn, keptCount, pairOf, traceChanges}
 use Rattle.repair.specs.declared.Taken.{Taken}
 use Rattle.repair.specs.declared.pieces.Rest.{Rest}
 use Rattle.repair.specs.declared.pieces.Listed.{Listed}
 use Rattle.repair.specs.declared.change.Change.{Change}
+
+-- the furthest place where a table of two entries ends: so many bytes of a file tell what is taken of it
+abbrev pub table-end-max : ℕ
+table-end-max = tableStart Two + tableLength streams-max
 
 -- how many streams there are and where the trace starts, or the refusal
 unfoldable pub takenOf : List ℕ → Taken

@@ -3,7 +3,7 @@ use mathlib.Core.Bool.{Bool, true, false, not, _&&_, _||_}
 use mathlib.Core.List.{List, [], _∷_, _++_, map}
 use Prim.Native.Nat.{ℕ, _+_, _*_, _%_}
 use lib.Dec.{ltb, eqb}
-use lib.ListN.{length, take, drop}
+use lib.ListN.{length, take, drop, getD}
 use Rattle.table.specs.Fold.{if, joinTo, countTo}
 use Rattle.table.specs.Refusal.{given, _or-next_}
 use Rattle.order.specs.declared.Order.the-variants.{Nearest}
@@ -72,6 +72,9 @@ cutAt position = record { kind = 3; position = position }
 -- a change as two numbers: its kind, and its position
 abbrev pub pairOf : Change → List ℕ
 pairOf change = change .kind ∷ change .position ∷ []
+
+abbrev pub changeOf : List ℕ → Change
+changeOf pair = record { kind = getD pair 0 0; position = getD pair 1 0 }
 
 -- "(once, at 0, if any of the 26 bytes changes)": they stay where they are the contents table of the file that is written
 unfoldable pub contentsStay : List ℕ → Bool

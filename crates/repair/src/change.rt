@@ -2,7 +2,7 @@
 use listing::Text;
 ghost use mathlib.Core.Path.{_≡_};
 ghost use Rattle.listing.specs.Line.{textOf, Within};
-ghost use Rattle.repair.specs.Salvage.{contentsChange, droppedAt, cutAt, pairOf};
+ghost use Rattle.repair.specs.Salvage.{contentsChange, droppedAt, cutAt, pairOf, changeOf};
 ghost use Rattle.repair.specs.Line.{changeFields};
 
 // The contents table rewritten, an event dropped or the tail cut, and the position in the old file.
@@ -43,6 +43,16 @@ impl Change {
         Change {
             kind: Change::CUT,
             position,
+        }
+    }
+
+    // The change that two numbers are.
+    pub fn of(pair: [u64; 2]) -> Change
+        ensures { λ r. ⌜ r ≡ changeOf pair ⌝ }
+    {
+        Change {
+            kind: pair[0],
+            position: pair[1],
         }
     }
 

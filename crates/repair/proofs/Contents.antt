@@ -1,5 +1,5 @@
 -- What a file that is salvaged is made of; and its contents are listed exactly where they are not what they were.
-use mathlib.Core.Bool.{true, _&&_}
+use mathlib.Core.Bool.{Bool, true, false, _&&_}
 use mathlib.Core.Path.{_≡_, refl, sym, ap, _∙_}
 use mathlib.Core.List.{List, _++_, append-assoc, append-nil}
 use Prim.Native.Nat.{ℕ, _+_, _-_, _*_}
@@ -21,9 +21,10 @@ use Rattle.file.proofs.Accepted.{Contents, contents-of, is-contents}
 use Rattle.file.proofs.WriteBack.{contents-there, table-there}
 use Rattle.file.proofs.ReadBack.{entries-there}
 use Rattle.file.proofs.Round.{third-none}
-use Rattle.repair.specs.Salvage.{isSalvageable, countIn, keptOf, keptCount, salvagedFile, contentsStay}
+use Rattle.repair.specs.Salvage.{isSalvageable, countIn, keptOf, keptCount, salvagedFile, contentsStay, changesOf}
 use Rattle.repair.specs.Laws.{ContentsListedIfChanged}
 use Rattle.repair.proofs.Kept.{start-two, kept-length, kept-few}
+use Rattle.repair.proofs.Lists.{list-stays, list-changed}
 use Rattle.repair.proofs.Refused.{outlined}
 
 module _ (old : List ℕ) (fine : isSalvageable old ≡ true) where
@@ -82,9 +83,11 @@ module _ (old : List ℕ) (fine : isSalvageable old ≡ true) where
       let trace : start + keptSize - start ≡ keptSize = omega arith in
       record { entries = e .0; table-entry = rw table (e .1); trace-entry = rw trace (e .2); third-entry = refl }
 
-pub contents-listed-if-changed : ContentsListedIfChanged
+-- the contents stay exactly where the 26 bytes do
+pub contents-stay-if-same : (old : List ℕ) → Bytes old → isSalvageable old ≡ true
+    → let same = take 26 (salvagedFile old) ≡ take 26 old in (contentsStay old ≡ true → same) × (same → contentsStay old ≡ true)
 unfolding contentsStay hasContents
-contents-listed-if-changed old bytes fine =
+contents-stay-if-same old bytes fine =
     let front = contents-front old fine in
     let start = tableStart Two + tableLength (countIn old) in
     let kept = keptCount events-max (traceIn old) in (
@@ -95,4 +98,17 @@ contents-listed-if-changed old bytes fine =
             le-leb _ _ (kept-few events-max (traceIn old) .0),
           )
           (is-contents Two old start (start + event-size * kept) (same-stay old fine (sym front ∙ same))),
+    )
+
+-- a test that does not hold fails
+not-so : (b : Bool) → (b ≡ true → ⊥) → b ≡ false
+not-so true h = absurd (h refl)
+not-so false h = refl
+
+pub contents-listed-if-changed : ContentsListedIfChanged
+unfolding changesOf
+contents-listed-if-changed old bytes fine =
+    let stay = contents-stay-if-same old bytes fine in (
+      λ same. list-stays _ _ _ (stay .1 same),
+      λ changed. list-changed _ _ _ (not-so (contentsStay old) (λ h. changed (stay .0 h))),
     )

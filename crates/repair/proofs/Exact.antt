@@ -18,7 +18,7 @@ use Rattle.repair.specs.Laws.{putBack, restored, ListIsExact, EmptyListI
 use Rattle.repair.specs.declared.change.Change.{Change}
 use Rattle.repair.proofs.Kept.{start-two, trace-rest}
 use Rattle.repair.proofs.Refused.{outlined}
-use Rattle.repair.proofs.Contents.{behind-contents, contents-listed-if-changed}
+use Rattle.repair.proofs.Contents.{behind-contents, contents-stay-if-same}
 
 restored-append : (old : List ℕ) (a b : List Change) (file : List ℕ) → restored old (a ++ b) file ≡ restored old b (restored old a file)
 unfolding restored
@@ -98,7 +98,7 @@ contents-back old bytes fine =
     ∙ sym (ap (λ (l : List ℕ). l ++ kept) front ∙ append-assoc (take 26 old) (take size (drop 26 old)) kept) in
     by-if (λ (l : List Change). restored old l new ≡ take (traceStart old) old ++ kept) (contentsStay old) [] (contentsChange ∷ [])
     (λ stay.
-    sym (take-append-drop 26 new) ∙ ap (λ (l : List ℕ). l ++ drop 26 new) (contents-listed-if-changed old bytes fine .0 stay) ∙ same)
+    sym (take-append-drop 26 new) ∙ ap (λ (l : List ℕ). l ++ drop 26 new) (contents-stay-if-same old bytes fine .0 stay) ∙ same)
     (λ _. same)
 
 pub list-is-exact : ListIsExact

@@ -4,12 +4,12 @@ use mathlib.Core.Path.{_≡_, refl, ap, _∙_}
 use mathlib.Core.List.{List, [], _∷_, _++_, append-nil}
 use Prim.Native.Nat.{ℕ, suc, _+_, _-_, _*_, _%_, min, _≤_, _<_}
 use native.Mathlib.Omega.{arith}
-use borrow.Author.Tests.{ltb-true, lt-ltb}
+use borrow.Author.Tests.{ltb-true, lt-ltb, eqb-false}
 use lib.Dec.{ltb, eqb}
 use lib.ListN.{length, drop, length-append, length-drop}
 use lib.Seq.{take-all, length-take-le}
 use Rattle.table.specs.Fold.{if, joinTo, countTo}
-use Rattle.table.proofs.Tests.{both, same-test}
+use Rattle.table.proofs.Tests.{both, same-test, by-if}
 use Rattle.table.proofs.Folds.{count-le, count-first, join-length}
 use Rattle.order.specs.declared.Order.the-variants.{Nearest}
 use Rattle.file.specs.File.{tableStart, thirdLength, events-max, event-size}
@@ -18,6 +18,7 @@ use Rattle.file.specs.declared.form.Form.{Form}
 use Rattle.file.specs.declared.form.Form.the-variants.{Two, Three}
 use Rattle.file.proofs.Lengths.{length-file}
 use Rattle.repair.specs.Salvage.{isTwo, isSalvageable, countIn, soundTo, isKept, eventBytes, keptTo, keptOf, keptCount, salvagedFile, droppedAt, cutAt, dropsTo, cutsOf, traceChanges}
+use Rattle.repair.specs.declared.change.Change.{Change}
 
 -- ---- which events are kept
 
@@ -93,6 +94,17 @@ changes-length room at trace =
     length-append (dropsTo room at trace (eventsIn trace)) (cutsOf at trace)
     ∙ omega (arith, drops-length room at trace (eventsIn trace), cuts-length at trace)
 
+-- each change stands for 16 bytes of the trace, but that of a rest, which has one at least
+pub changes-few : (room at : ℕ) (trace : List ℕ) → event-size * length (traceChanges room at trace) ≤ length trace + 15
+changes-few room at trace =
+    let rest = length trace % event-size in
+    let cut : event-size * (eventsIn trace + length (cutsOf 0 trace)) ≤ length trace + 15
+    = by-if (λ (l : List Change). event-size * (eventsIn trace + length l) ≤ length trace + 15)
+    (eqb rest 0) [] (cutAt (0 + event-size * eventsIn trace) ∷ [])
+    (λ h. omega arith)
+    (λ h. let some : rest ≡ 0 → ⊥ = eqb-false rest 0 h in omega arith) in
+    omega (arith, changes-length room at trace, cut)
+
 -- ---- a file that is salvaged
 
 module _ (old : List ℕ) (fine : isSalvageable old ≡ true) where
@@ -111,6 +123,9 @@ module _ (old : List ℕ) (fine : isSalvageable old ≡ true) where
   trace-rest =
       take-all (traceEnd old - traceStart old) (drop (traceStart old) old)
       (omega (arith, length-drop (traceStart old) old, ap thirdLength form-two))
+
+  pub trace-length : length (traceIn old) ≡ length old - traceStart old
+  trace-length = ap length trace-rest ∙ length-drop (traceStart old) old
 
   pub salvaged-length : length (salvagedFile old) ≡ traceStart old + event-size * keptCount events-max (traceIn old)
   unfolding salvagedFile tableAt

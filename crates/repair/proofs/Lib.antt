@@ -10,6 +10,7 @@ pub mod Accepted
 pub mod Contents
 pub mod Exact
 pub mod Rising
+pub mod Places
 pub mod Joined
 pub mod Head
 pub mod Worked

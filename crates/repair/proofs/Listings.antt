@@ -12,12 +12,25 @@ use Rattle.table.specs.Fold.{if}
 use Rattle.table.proofs.Tests.{le-or-lt}
 use Rattle.repair.specs.Salvage.{pairOf}
 use Rattle.repair.specs.Pieces.{changesIn, restAfter, isRefused, listOf, listOn}
+use Rattle.repair.specs.Laws.{PieceIsListed}
 use Rattle.repair.specs.declared.pieces.Rest.{Rest}
 use Rattle.repair.specs.declared.pieces.Listed.{Listed}
+use Rattle.repair.proofs.Kept.{changes-few}
 use Rattle.repair.proofs.Lists.{onList}
 
 abbrev pub unlisted : Rest → Listed
 unlisted rest = record { number = 17; changes = 0; rest = rest }
+
+-- nothing is refused where there is a place for each change and the end is within 63 bits
+not-refused : (rest : Rest) (piece : List ℕ) (places : ℕ) → length (changesIn rest piece) ≤ places → rest .at + length piece < 2 ^ 63
+    → isRefused rest piece places ≡ false
+unfolding isRefused
+not-refused rest piece places few low = rw (le-ltb places (length (changesIn rest piece)) few, lt-leb (2 ^ 63) (rest .at + length piece) low)
+
+pub piece-is-listed : PieceIsListed
+unfolding listOf if
+piece-is-listed rest piece places few low =
+    rw (not-refused rest piece places (omega (arith, changes-few (rest .room) (rest .at) piece)) low)
 
 module _ (rest : Rest) (piece : List ℕ) (changes : List (List ℕ)) where
   refused-then : isRefused rest piece (length changes) ≡ true
@@ -50,9 +63,7 @@ module _ (rest : Rest) (piece : List ℕ) (changes : List (List ℕ)) where
   pub then-listed : length (changesIn rest piece) ≤ length changes → rest .at + length piece ≤ 9_223_372_036_854_775_807
       → (record { number = 0; changes = length (changesIn rest piece); rest = restAfter rest piece } ≡ listOf rest piece (length changes))
       × (onList (changesIn rest piece) changes ≡ listOn rest piece changes)
-  unfolding listOf listOn isRefused if
+  unfolding listOf listOn if
   then-listed few low =
-      let n = length-map (changesIn rest piece) pairOf in
-      let fits = le-ltb (length changes) (length (changesIn rest piece)) few in
-      let near = lt-leb (2 ^ 63) (rest .at + length piece) (omega arith) in
-      (rw (fits, near), rw (fits, near, n))
+      let fits = not-refused rest piece (length changes) few (omega arith) in
+      (rw fits, rw (fits, length-map (changesIn rest piece) pairOf))

@@ -3,24 +3,23 @@ use mathlib.Core.Bool.{Bool, true, false}
 use mathlib.Core.Path.{_≡_, refl, sym, ap, _∙_}
 use mathlib.Core.Logic.{⊎-elim}
 use mathlib.Core.List.{List, [], _∷_, _++_}
-use Prim.Native.Nat.{ℕ, suc, _+_, _-_, _*_, _%_, _≤_}
+use Prim.Native.Nat.{ℕ, suc, _+_, _≤_}
 use native.Mathlib.Omega.{arith}
-use borrow.Author.Tests.{le-leb, leb-true, eqb-false, ne-eqb, le-ltb}
+use borrow.Author.Tests.{le-leb, leb-true, ne-eqb, le-ltb}
 use lib.Dec.{leb, eqb}
-use lib.ListN.{length, length-drop}
+use lib.ListN.{length}
 use Rattle.table.specs.Fold.{if}
 use Rattle.table.specs.Refusal.{given, _or-next_}
-use Rattle.table.proofs.Tests.{both, by-if}
+use Rattle.table.proofs.Tests.{both}
 use Rattle.cells.specs.Cells.{numberAt}
-use Rattle.file.specs.File.{thirdLength, events-max, event-size}
-use Rattle.file.specs.Reading.{formIn, tableLength, traceStart, traceIn, eventsIn, isOutlined}
+use Rattle.file.specs.File.{thirdLength, events-max}
+use Rattle.file.specs.Reading.{formIn, tableLength, traceStart, traceIn, isOutlined}
 use Rattle.file.specs.declared.form.Form.the-variants.{Two, Three}
 use Rattle.file.proofs.Forms.{form-is}
-use Rattle.repair.specs.Salvage.{isTwo, isSalvageable, countIn, salvagedFile, contentsStay, contentsChange, cutAt, cutsOf, traceChanges, changesOf, salvageRefusal, salvageOf, salvagedOn, listedOn}
+use Rattle.repair.specs.Salvage.{isTwo, isSalvageable, countIn, salvagedFile, contentsStay, contentsChange, traceChanges, changesOf, salvageRefusal, salvageOf, salvagedOn, listedOn}
 use Rattle.repair.specs.Laws.{RefusedAsSaid, SixteenComesFirst, RefusedChangesNothing, EnoughRoom, NeverSeventeen}
-use Rattle.repair.specs.declared.change.Change.{Change}
 use Rattle.repair.specs.declared.Salvaged.{Salvaged}
-use Rattle.repair.proofs.Kept.{form-two, start-two, trace-rest, changes-length, kept-few, salvaged-length}
+use Rattle.repair.proofs.Kept.{form-two, start-two, trace-length, changes-few, kept-few, salvaged-length}
 
 -- ---- which files
 
@@ -79,15 +78,6 @@ refused-changes-nothing old out changes n h =
 
 -- ---- room
 
--- a rest of a trace is listed only where there are bytes behind its last event
-cut-behind : (trace : List ℕ) → event-size * (eventsIn trace + length (cutsOf 0 trace)) ≤ length trace + 15
-cut-behind trace =
-    let rest = length trace % event-size in
-    by-if (λ (l : List Change). event-size * (eventsIn trace + length l) ≤ length trace + 15)
-    (eqb rest 0) [] (cutAt (0 + event-size * eventsIn trace) ∷ [])
-    (λ h. omega arith)
-    (λ h. let some : rest ≡ 0 → ⊥ = eqb-false rest 0 h in omega arith)
-
 -- of contents there is at most one change
 contents-once : (old : List ℕ) → length (changesOf old) ≤ suc (length (traceChanges events-max (traceStart old) (traceIn old)))
 unfolding changesOf if
@@ -103,12 +93,12 @@ enough-room old fine =
     let q = outlined old fine in
     let trace = traceIn old in
     let few = kept-few events-max trace in
-    let rest : length trace ≡ length old - traceStart old = ap length (trace-rest old fine) ∙ length-drop (traceStart old) old in
+    let rest = trace-length old fine in
     let size = salvaged-length old fine in
     let start = start-two old fine in (
       omega (arith, size, few .1, rest, q .long),
       omega (arith, size, few .0, start, q .count-high),
-      omega (arith, contents-once old, changes-length events-max (traceStart old) trace, cut-behind trace, rest, few .1, start, q .long),
+      omega (arith, contents-once old, changes-few events-max (traceStart old) trace, rest, start, q .long),
     )
 
 pub never-seventeen : NeverSeventeen

@@ -2,10 +2,11 @@
 use mathlib.Core.Bool.{Bool, true, false, _||_}
 use mathlib.Core.Logic.{_⊎_, ⊎-elim}
 use mathlib.Core.Path.{_≡_, refl, sym, ap, _∙_}
-use mathlib.Core.List.{List, _++_, append-nil, append-assoc}
+use mathlib.Core.List.{List, _++_, map, append-nil, append-assoc}
 use Prim.Native.Nat.{ℕ, _+_, _-_, _*_, _≤_}
 use native.Mathlib.Omega.{arith}
-use lib.Dec.{ltb}
+use borrow.Author.Tests.{eqb-false}
+use lib.Dec.{ltb, eqb}
 use lib.ListN.{length, take, drop, length-append, length-drop, length-map}
 use lib.Seq.{sets, take-all, take-length, drop-length, take-at, drop-at, drop-drop}
 use Rattle.table.specs.Fold.{if}
@@ -22,6 +23,7 @@ use Rattle.file.proofs.Lengths.{length-contents, length-table}
 use Rattle.file.proofs.Heads.{head-there}
 use Rattle.file.proofs.Stores.{file-parts}
 use Rattle.repair.specs.Salvage.{isSalvageable, countIn, keptOf, keptCount, salvagedFile, pairOf, cutsOf, traceChanges, listFrom, changesOf, salvageRefusal, salvageOf, salvagedOn, listedOn}
+use Rattle.repair.specs.Laws.{AnsweredIsThere}
 use Rattle.repair.proofs.Kept.{form-two, trace-rest, kept-few, kept-length, changes-length, salvaged-length}
 use Rattle.repair.proofs.Lists.{onList, list-stays, list-changed}
 use Rattle.repair.proofs.Taking.{fine-long, fine-count}
@@ -54,6 +56,30 @@ module _ (old out : List ℕ) (changes : List (List ℕ)) where
         × (onList (changesOf old) changes ≡ listedOn old out changes)
     unfolding salvageOf salvagedOn listedOn salvageRefusal given _or-next_ if
     done h = (rw (fine, h), rw (fine, h), rw (fine, h, length-map (changesOf old) pairOf))
+
+  -- a number 0 is answered only where nothing is refused
+  answered : salvageOf old out changes .number ≡ 0 → eqb (salvageRefusal old (length out) (length changes)) 0 ≡ true
+  unfolding salvageOf if
+  answered none = go (eqb refusal 0) refl none
+    where
+      refusal : ℕ
+      refusal = salvageRefusal old (length out) (length changes)
+
+      go : (b : Bool) → eqb refusal 0 ≡ b → salvageOf old out changes .number ≡ 0 → eqb refusal 0 ≡ true
+      go true h none = h
+      go false h none = absurd (eqb-false refusal 0 h (rw h at none))
+
+-- what is put at the start of a list is there, and what stood behind it stays
+put-there : {A : Type 0} (front l : List A) (n : ℕ) → length front ≡ n
+    → let put = front ++ drop (length front) l in (take n put ≡ front) × (drop n put ≡ drop n l)
+put-there front l n e = (take-at front _ n e, drop-at front _ n e ∙ ap (λ (k : ℕ). drop k l) e)
+
+pub answered-is-there : AnsweredIsThere
+unfolding salvageOf salvagedOn listedOn if
+answered-is-there old out changes none =
+    let file = put-there (salvagedFile old) out (length (salvagedFile old)) refl in
+    let list = put-there (map pairOf (changesOf old)) changes (length (changesOf old)) (length-map (changesOf old) pairOf) in
+    rw (answered old out changes none) (file .0, file .1, list .0, list .1)
 
 -- ---- the list
 

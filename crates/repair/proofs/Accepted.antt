@@ -4,7 +4,7 @@ use mathlib.Core.Path.{_≡_, refl, sym, ap, _∙_}
 use mathlib.Core.List.{List, [], _∷_}
 use Prim.Native.Nat.{ℕ, zero, suc, _+_, _-_, _*_, _%_, _<_}
 use native.Mathlib.Omega.{arith}
-use borrow.Author.Tests.{lt-ltb, le-leb, eq-eqb}
+use borrow.Author.Tests.{lt-ltb, le-leb}
 use lib.ListN.{length, take}
 use lib.Seq.{take-add, take-all}
 use Rattle.table.specs.Fold.{if, listTo, joinTo}
@@ -26,8 +26,7 @@ use Rattle.file.proofs.ReadBack.{table-back, trace-back}
 use Rattle.file.proofs.Round.{table-read-is-trimmed, reads-back, two-means-nearest}
 use Rattle.repair.specs.Salvage.{isTwo, isSalvageable, countIn, soundTo, isKept, keptTo, keptOf, keptCount, salvagedFile, contentsStay, droppedAt, traceChanges, changesOf}
 use Rattle.repair.specs.Laws.{soundOnes, SalvagedIsAccepted, SoundComesOutEqual, TwiceChangesNothing}
-use Rattle.repair.proofs.Kept.{start-two, kept-length, kept-few}
-use Rattle.repair.proofs.Refused.{outlined}
+use Rattle.repair.proofs.Kept.{outlined, no-cuts, start-two, kept-length, kept-few}
 use Rattle.repair.proofs.First.{coded-take, sound-coded, kept-are-the-first}
 
 -- ---- what is kept is a trace
@@ -95,7 +94,7 @@ module _ (trace : List ℕ) (q : Trace trace) where
       let even : length trace % event-size ≡ 0 = omega (arith, q .whole) in
       rw (
         join-none (λ i. if (isKept events-max trace i) [] (droppedAt (at + event-size * i) ∷ [])) (eventsIn trace) (λ i l. rw (all-kept trace q i l)),
-        eq-eqb _ _ even,
+        no-cuts at trace even,
       )
 
   pub count-whole : keptCount events-max trace ≡ eventsIn trace

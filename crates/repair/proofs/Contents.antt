@@ -1,7 +1,7 @@
 -- What a file that is salvaged is made of; and its contents are listed exactly where they are not what they were.
 use mathlib.Core.Bool.{Bool, true, false, _&&_}
 use mathlib.Core.Path.{_≡_, refl, sym, ap, _∙_}
-use mathlib.Core.List.{List, _++_, append-assoc, append-nil}
+use mathlib.Core.List.{List, _++_, append-assoc}
 use Prim.Native.Nat.{ℕ, _+_, _-_, _*_}
 use native.Mathlib.Omega.{arith}
 use borrow.Author.Tests.{le-leb}
@@ -9,23 +9,20 @@ use lib.Dec.{leb}
 use lib.ListN.{length, take, drop, take-append-drop}
 use lib.Seq.{take-at, drop-at}
 use Rattle.table.proofs.Tests.{both}
-use Rattle.order.specs.declared.Order.the-variants.{Nearest}
 use Rattle.cells.specs.Cells.{Bytes}
-use Rattle.file.specs.File.{tableStart, events-max, event-size, contents, tableBody, fileOf}
-use Rattle.file.specs.Reading.{eventsIn, startIn, tableLength, traceIn, tableAt, tableIn, hasContents}
+use Rattle.file.specs.File.{tableStart, events-max, event-size, contents, tableBody}
+use Rattle.file.specs.Reading.{startIn, tableLength, traceIn, tableAt, tableIn, hasContents}
 use Rattle.file.specs.declared.form.Form.{Form}
 use Rattle.file.specs.declared.form.Form.the-variants.{Two}
 use Rattle.file.proofs.Lengths.{length-contents, length-table}
-use Rattle.file.proofs.Stores.{file-parts}
 use Rattle.file.proofs.Accepted.{Contents, contents-of, is-contents}
 use Rattle.file.proofs.WriteBack.{contents-there, table-there}
 use Rattle.file.proofs.ReadBack.{entries-there}
-use Rattle.file.proofs.Round.{third-none}
 use Rattle.repair.specs.Salvage.{isSalvageable, countIn, keptOf, keptCount, salvagedFile, contentsStay, changesOf}
 use Rattle.repair.specs.Laws.{ContentsListedIfChanged}
-use Rattle.repair.proofs.Kept.{start-two, kept-length, kept-few}
+use Rattle.repair.proofs.Kept.{outlined, start-two, kept-few}
 use Rattle.repair.proofs.Lists.{list-stays, list-changed}
-use Rattle.repair.proofs.Refused.{outlined}
+use Rattle.repair.proofs.Salvaging.{file-is}
 
 module _ (old : List ℕ) (fine : isSalvageable old ≡ true) where
   -- how long its table body is, and what is kept
@@ -41,14 +38,12 @@ module _ (old : List ℕ) (fine : isSalvageable old ≡ true) where
 
   -- the contents that it should have, its table body and what is kept
   parts : salvagedFile old ≡ contents Two tableSize keptSize ++ (tableBody (tableIn old) ++ keptOf events-max (traceIn old))
-  unfolding salvagedFile tableAt
+  unfolding tableAt
   parts =
       let t = tableIn old in
-      let kept = keptOf events-max (traceIn old) in
-      let front = contents Two (length (tableBody t)) (length kept) in
-      let whole : fileOf Two Nearest t kept ≡ front ++ (tableBody t ++ kept)
-      = file-parts Two Nearest t kept ∙ rw (third-none Nearest, append-nil (front ++ tableBody t ++ kept)) (append-assoc front (tableBody t) kept) in
-      whole ∙ rw (length-table t, kept-length events-max (traceIn old) (eventsIn (traceIn old)) (omega arith))
+      file-is old fine
+      ∙ append-assoc (contents Two (length (tableBody t)) keptSize) (tableBody t) (keptOf events-max (traceIn old))
+      ∙ rw (length-table t) refl
 
   pub contents-front : take 26 (salvagedFile old) ≡ contents Two tableSize keptSize
   contents-front = rw parts (take-at (contents Two tableSize keptSize) _ 26 (length-contents Two tableSize keptSize))

@@ -16,8 +16,7 @@ use Rattle.file.specs.Reading.{eventsIn, tableLength, traceStart, traceIn}
 use Rattle.repair.specs.Salvage.{isSalvageable, countIn, isKept, eventBytes, keptTo, keptOf, salvagedFile, contentsStay, contentsChange, droppedAt, cutAt, dropsTo, cutsOf, traceChanges, changesOf}
 use Rattle.repair.specs.Laws.{putBack, restored, ListIsExact, EmptyListIsEqual}
 use Rattle.repair.specs.declared.change.Change.{Change}
-use Rattle.repair.proofs.Kept.{start-two, trace-rest}
-use Rattle.repair.proofs.Refused.{outlined}
+use Rattle.repair.proofs.Kept.{outlined, start-two, trace-rest}
 use Rattle.repair.proofs.Contents.{behind-contents, contents-stay-if-same}
 
 restored-append : (old : List ℕ) (a b : List Change) (file : List ℕ) → restored old (a ++ b) file ≡ restored old b (restored old a file)

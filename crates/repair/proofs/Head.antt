@@ -18,8 +18,8 @@ use Rattle.file.proofs.Columns.{column-agree}
 use Rattle.repair.specs.Salvage.{isSalvageable, countIn}
 use Rattle.repair.specs.Pieces.{takenOf}
 use Rattle.repair.specs.Laws.{TraceStartsEarly, HeadIsEnough}
-use Rattle.repair.proofs.Kept.{start-two}
-use Rattle.repair.proofs.Refused.{outlined, refused-as-said}
+use Rattle.repair.proofs.Kept.{start-two, outlined}
+use Rattle.repair.proofs.Refused.{refused-as-said}
 
 module _ (head more : List ℕ) (long : 106 ≤ length head) where
   abbrev whole : List ℕ

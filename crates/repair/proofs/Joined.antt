@@ -3,7 +3,7 @@ use mathlib.Core.Path.{_≡_, refl, sym, ap, _∙_}
 use mathlib.Core.List.{List, [], _∷_, _++_, append-assoc, append-nil}
 use Prim.Native.Nat.{ℕ, _+_, _-_, _*_, _%_, _≤_, _<_}
 use native.Mathlib.Omega.{arith}
-use borrow.Author.Tests.{lt-ltb, ltb-true, eq-eqb}
+use borrow.Author.Tests.{lt-ltb, ltb-true}
 use lib.Dec.{ltb}
 use lib.ListN.{length, take, drop, length-append, length-drop}
 use lib.Seq.{take-append-le, drop-append-le, drop-append-add}
@@ -19,7 +19,7 @@ use Rattle.repair.specs.Pieces.{changesIn, restAfter}
 use Rattle.repair.specs.Laws.{Pieces, Whole, joined, keptBy, countBy, listedBy, PiecesAreWhole}
 use Rattle.repair.specs.declared.pieces.Rest.{Rest}
 use Rattle.repair.specs.declared.change.Change.{Change}
-use Rattle.repair.proofs.Kept.{count-kept}
+use Rattle.repair.proofs.Kept.{count-kept, no-cuts}
 
 -- ---- two pieces
 
@@ -137,10 +137,6 @@ module _ (a b : List ℕ) where
             let there : at + event-size * (eventsIn a + i) ≡ at + length a + event-size * i = omega (arith, place i) in
             rw (kept-behind i, there)))
 
-        cuts-first : cutsOf at a ≡ []
-        unfolding if
-        cuts-first = rw (eq-eqb _ _ whole)
-
         cuts-two : cutsOf at (a ++ b) ≡ cutsOf (at + length a) b
         cuts-two =
             let rest : length (a ++ b) % event-size ≡ length b % event-size = rw (length-append a b) (omega arith) in
@@ -152,7 +148,7 @@ module _ (a b : List ℕ) where
         changes-two =
             let first = dropsTo room at a (eventsIn a) in
             let second = dropsTo left (at + length a) b (eventsIn b) in
-            rw (drops-two, cuts-first, cuts-two, append-nil first) (append-assoc first second (cutsOf (at + length a) b))
+            rw (drops-two, no-cuts at a whole, cuts-two, append-nil first) (append-assoc first second (cutsOf (at + length a) b))
 
 -- ---- any number of pieces
 

@@ -4,8 +4,8 @@ use mathlib.Core.Path.{_≡_, refl, ap, _∙_}
 use mathlib.Core.List.{List, [], _∷_, _++_, append-nil}
 use Prim.Native.Nat.{ℕ, suc, _+_, _-_, _*_, _%_, min, _≤_, _<_}
 use native.Mathlib.Omega.{arith}
-use borrow.Author.Tests.{ltb-true, lt-ltb, eqb-false}
-use lib.Dec.{ltb, eqb}
+use borrow.Author.Tests.{leb-true, ltb-true, lt-ltb, eqb-false, eq-eqb, ne-eqb}
+use lib.Dec.{leb, ltb, eqb}
 use lib.ListN.{length, drop, length-append, length-drop}
 use lib.Seq.{take-all, length-take-le}
 use Rattle.table.specs.Fold.{if, joinTo, countTo}
@@ -78,7 +78,17 @@ drops-length room at trace n =
     join-length (isKept room trace) (λ i. []) (λ i. droppedAt (at + event-size * i) ∷ []) 0 1 n (λ i l. refl) (λ i l. refl)
     ∙ omega arith
 
--- a rest is listed or not, wherever the trace starts
+-- a rest is listed where there is one
+module _ (at : ℕ) (trace : List ℕ) where
+  pub no-cuts : length trace % event-size ≡ 0 → cutsOf at trace ≡ []
+  unfolding if
+  no-cuts whole = rw (eq-eqb _ _ whole)
+
+  pub one-cut : (length trace % event-size ≡ 0 → ⊥) → cutsOf at trace ≡ cutAt (at + event-size * eventsIn trace) ∷ []
+  unfolding if
+  one-cut torn = rw (ne-eqb _ _ torn)
+
+-- as many are, wherever the trace starts
 cuts-length : (at : ℕ) (trace : List ℕ) → length (cutsOf at trace) ≡ length (cutsOf 0 trace)
 unfolding if
 cuts-length at trace = go (eqb (length trace % event-size) 0)
@@ -107,22 +117,35 @@ changes-few room at trace =
 
 -- ---- a file that is salvaged
 
-module _ (old : List ℕ) (fine : isSalvageable old ≡ true) where
-  pub form-two : formIn old ≡ Two
-  unfolding isSalvageable
-  form-two = go (formIn old) (both (isTwo (formIn old)) (isOutlined old) fine .0)
-    where
-      go : (form : Form) → isTwo form ≡ true → form ≡ Two
-      go Two h = refl
-      go Three h = absurd (false≢true h)
+-- the parts of a file of two entries are there
+pub record Outlined (old : List ℕ) : Type 0 where
+  pub two : formIn old ≡ Two
+  pub count-high : countIn old ≤ 8
+  pub long : traceStart old ≤ length old
 
+pub outlined : (old : List ℕ) → isSalvageable old ≡ true → Outlined old
+unfolding isSalvageable
+outlined old fine =
+    let q = both (isTwo (formIn old)) (isOutlined old) fine in
+    let a = both (leb (countIn old) 8) (leb (traceStart old + thirdLength (formIn old)) (length old)) (q .1) in
+    record {
+      two = go (formIn old) (q .0);
+      count-high = leb-true _ _ (a .0);
+      long = omega (arith, leb-true (traceStart old + thirdLength (formIn old)) (length old) (a .1));
+    }
+  where
+    go : (form : Form) → isTwo form ≡ true → form ≡ Two
+    go Two h = refl
+    go Three h = absurd (false≢true h)
+
+module _ (old : List ℕ) (fine : isSalvageable old ≡ true) where
   pub start-two : traceStart old ≡ tableStart Two + tableLength (countIn old)
-  start-two = ap (λ (f : Form). tableStart f + tableLength (countIn old)) form-two
+  start-two = ap (λ (f : Form). tableStart f + tableLength (countIn old)) (outlined old fine .two)
 
   pub trace-rest : traceIn old ≡ drop (traceStart old) old
   trace-rest =
       take-all (traceEnd old - traceStart old) (drop (traceStart old) old)
-      (omega (arith, length-drop (traceStart old) old, ap thirdLength form-two))
+      (omega (arith, length-drop (traceStart old) old, ap thirdLength (outlined old fine .two)))
 
   pub trace-length : length (traceIn old) ≡ length old - traceStart old
   trace-length = ap length trace-rest ∙ length-drop (traceStart old) old
@@ -131,4 +154,4 @@ module _ (old : List ℕ) (fine : isSalvageable old ≡ true) where
   unfolding salvagedFile tableAt
   salvaged-length =
       length-file Two Nearest (tableIn old) (keptOf events-max (traceIn old))
-      ∙ omega (arith, kept-length events-max (traceIn old) (eventsIn (traceIn old)) (omega arith), ap tableStart form-two)
+      ∙ omega (arith, kept-length events-max (traceIn old) (eventsIn (traceIn old)) (omega arith), ap tableStart (outlined old fine .two))

@@ -1,15 +1,14 @@
 -- What is refused and what is listed of a piece.
 use mathlib.Core.Bool.{Bool, true, false, _||_, or-true}
 use mathlib.Core.Logic.{_⊎_, inl, inr, ⊎-elim}
-use mathlib.Core.Path.{_≡_, refl, sym, ap, _∙_}
+use mathlib.Core.Path.{_≡_, refl}
 use mathlib.Core.List.{List}
 use Prim.Native.Nat.{ℕ, _+_, _-_, _^_, _≤_, _<_}
 use native.Mathlib.Omega.{arith}
-use borrow.Author.Tests.{le-leb, lt-leb, lt-ltb, le-ltb, ltb-true}
-use lib.Dec.{leb, ltb}
+use borrow.Author.Tests.{le-leb, lt-leb, le-ltb, ltb-true}
+use lib.Dec.{ltb}
 use lib.ListN.{length, length-map}
 use Rattle.table.specs.Fold.{if}
-use Rattle.table.proofs.Tests.{le-or-lt}
 use Rattle.repair.specs.Salvage.{pairOf}
 use Rattle.repair.specs.Pieces.{changesIn, restAfter, isRefused, listOf, listOn}
 use Rattle.repair.specs.Laws.{PieceIsListed}
@@ -38,6 +37,11 @@ module _ (rest : Rest) (piece : List ℕ) (changes : List (List ℕ)) where
   unfolding listOf listOn if
   refused-then h = (rw h, rw h)
 
+  -- a piece that ends past 63 bits is refused
+  far-refused : 2 ^ 63 ≤ rest .at + length piece → isRefused rest piece (length changes) ≡ true
+  unfolding isRefused
+  far-refused l = rw (le-leb (2 ^ 63) (rest .at + length piece) l) (or-true (ltb (length changes) (length (changesIn rest piece))))
+
   some-test : (a b : Bool) → (a || b) ≡ true → (a ≡ true) ⊎ (b ≡ true)
   some-test true b h = inl refl
   some-test false b h = inr h
@@ -49,7 +53,7 @@ module _ (rest : Rest) (piece : List ℕ) (changes : List (List ℕ)) where
   first-refused listed e h = refused-then (⊎-elim far few (some-test _ _ h))
     where
       far : ltb 9_223_372_036_854_775_807 (rest .at) ≡ true → isRefused rest piece (length changes) ≡ true
-      far t = let l = ltb-true 9_223_372_036_854_775_807 (rest .at) t in rw (le-leb (2 ^ 63) (rest .at + length piece) (omega arith)) (or-true (ltb (length changes) (length (changesIn rest piece))))
+      far t = far-refused (omega (arith, ltb-true 9_223_372_036_854_775_807 (rest .at) t))
 
       few : ltb (length changes) listed ≡ true → isRefused rest piece (length changes) ≡ true
       few t = rw (← e, t) refl
@@ -57,8 +61,7 @@ module _ (rest : Rest) (piece : List ℕ) (changes : List (List ℕ)) where
   -- the end is
   pub then-refused : 9_223_372_036_854_775_807 - rest .at < length piece → rest .at ≤ 9_223_372_036_854_775_807
       → (unlisted rest ≡ listOf rest piece (length changes)) × (changes ≡ listOn rest piece changes)
-  unfolding isRefused
-  then-refused l low = refused-then (rw (le-leb (2 ^ 63) (rest .at + length piece) (omega arith)) (or-true (ltb (length changes) (length (changesIn rest piece)))))
+  then-refused l low = refused-then (far-refused (omega arith))
 
   pub then-listed : length (changesIn rest piece) ≤ length changes → rest .at + length piece ≤ 9_223_372_036_854_775_807
       → (record { number = 0; changes = length (changesIn rest piece); rest = restAfter rest piece } ≡ listOf rest piece (length changes))

@@ -1,17 +1,17 @@
 -- Lists of changes, as they are put into a list of pairs from its start on.
 use mathlib.Core.Bool.{Bool, true, false}
-use mathlib.Core.Path.{_≡_, refl, sym, ap, _∙_}
+use mathlib.Core.Path.{_≡_, refl, _∙_}
 use mathlib.Core.List.{List, [], _∷_, _++_, map, map-append, append-nil}
 use Prim.Native.Nat.{ℕ, suc, _+_, _-_, _*_, _%_, _≤_, _<_}
 use native.Mathlib.Omega.{arith}
-use borrow.Author.Tests.{eq-eqb, ne-eqb}
 use lib.ListN.{length, take, drop, set, length-map, length-append, length-set, length-drop}
 use lib.Seq.{take-length, drop-length, length-take-le}
 use Rattle.table.specs.Fold.{if}
 use Rattle.file.specs.File.{events-max, event-size}
 use Rattle.file.specs.Reading.{eventsIn}
-use Rattle.repair.specs.Salvage.{contentsChange, cutAt, pairOf, dropsTo, cutsOf, traceChanges, listFrom}
+use Rattle.repair.specs.Salvage.{contentsChange, cutAt, pairOf, dropsTo, traceChanges, listFrom}
 use Rattle.repair.specs.declared.change.Change.{Change}
+use Rattle.repair.proofs.Kept.{no-cuts, one-cut}
 use Rattle.repair.proofs.Turns.{put-one}
 
 -- a list that is put at the start of another
@@ -32,21 +32,13 @@ one-more list change start more =
 
 module _ (room at : ℕ) (trace : List ℕ) where
   pub no-cut : length trace % event-size ≡ 0 → traceChanges room at trace ≡ dropsTo room at trace (eventsIn trace)
-  unfolding traceChanges if
-  no-cut whole = rw (eq-eqb _ _ whole) (append-nil (dropsTo room at trace (eventsIn trace)))
+  unfolding traceChanges
+  no-cut whole = rw (no-cuts at trace whole) (append-nil (dropsTo room at trace (eventsIn trace)))
 
   pub a-cut : (length trace % event-size ≡ 0 → ⊥)
       → traceChanges room at trace ≡ dropsTo room at trace (eventsIn trace) ++ (cutAt (at + event-size * eventsIn trace) ∷ [])
-  unfolding traceChanges if
-  a-cut torn = rw (ne-eqb _ _ torn) refl
-
-pub cuts-none : (trace : List ℕ) → length trace % event-size ≡ 0 → length (cutsOf 0 trace) ≡ 0
-unfolding if
-cuts-none trace whole = rw (eq-eqb _ _ whole) refl
-
-pub cuts-one : (trace : List ℕ) → (length trace % event-size ≡ 0 → ⊥) → length (cutsOf 0 trace) ≡ 1
-unfolding if
-cuts-one trace torn = rw (ne-eqb _ _ torn) refl
+  unfolding traceChanges
+  a-cut torn = rw (one-cut at trace torn) refl
 
 -- the whole list, where the contents stay and where they do not
 module _ (stay : Bool) (at : ℕ) (trace : List ℕ) where

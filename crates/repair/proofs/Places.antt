@@ -15,8 +15,7 @@ use Rattle.file.specs.Reading.{eventsIn, traceStart, traceIn}
 use Rattle.repair.specs.Salvage.{isSalvageable, isKept, contentsStay, contentsChange, droppedAt, cutAt, dropsTo, cutsOf, traceChanges, changesOf}
 use Rattle.repair.specs.Laws.{InPlace, AllInPlace, ChangesAreInPlace}
 use Rattle.repair.specs.declared.change.Change.{Change}
-use Rattle.repair.proofs.Kept.{trace-length}
-use Rattle.repair.proofs.Refused.{outlined}
+use Rattle.repair.proofs.Kept.{outlined, trace-length}
 
 places-append : (old : List ℕ) (a b : List Change) → AllInPlace old a → AllInPlace old b → AllInPlace old (a ++ b)
 unfolding AllInPlace

@@ -5,40 +5,22 @@ use mathlib.Core.Logic.{⊎-elim}
 use mathlib.Core.List.{List, [], _∷_, _++_}
 use Prim.Native.Nat.{ℕ, suc, _+_, _≤_}
 use native.Mathlib.Omega.{arith}
-use borrow.Author.Tests.{le-leb, leb-true, ne-eqb, le-ltb}
-use lib.Dec.{leb, eqb}
+use borrow.Author.Tests.{le-leb, ne-eqb, le-ltb}
+use lib.Dec.{eqb}
 use lib.ListN.{length}
 use Rattle.table.specs.Fold.{if}
 use Rattle.table.specs.Refusal.{given, _or-next_}
-use Rattle.table.proofs.Tests.{both}
 use Rattle.cells.specs.Cells.{numberAt}
 use Rattle.file.specs.File.{thirdLength, events-max}
-use Rattle.file.specs.Reading.{formIn, tableLength, traceStart, traceIn, isOutlined}
+use Rattle.file.specs.Reading.{formIn, tableLength, traceStart, traceIn}
 use Rattle.file.specs.declared.form.Form.the-variants.{Two, Three}
 use Rattle.file.proofs.Forms.{form-is}
-use Rattle.repair.specs.Salvage.{isTwo, isSalvageable, countIn, salvagedFile, contentsStay, contentsChange, traceChanges, changesOf, salvageRefusal, salvageOf, salvagedOn, listedOn}
+use Rattle.repair.specs.Salvage.{isSalvageable, salvagedFile, contentsStay, contentsChange, traceChanges, changesOf, salvageRefusal, salvageOf, salvagedOn, listedOn}
 use Rattle.repair.specs.Laws.{RefusedAsSaid, SixteenComesFirst, RefusedChangesNothing, EnoughRoom, NeverSeventeen}
 use Rattle.repair.specs.declared.Salvaged.{Salvaged}
-use Rattle.repair.proofs.Kept.{form-two, start-two, trace-length, changes-few, kept-few, salvaged-length}
+use Rattle.repair.proofs.Kept.{outlined, start-two, trace-length, changes-few, kept-few, salvaged-length}
 
 -- ---- which files
-
--- the parts of a file of two entries are there
-pub record Outlined (old : List ℕ) : Type 0 where
-  pub two : formIn old ≡ Two
-  pub count-high : countIn old ≤ 8
-  pub long : traceStart old ≤ length old
-
-pub outlined : (old : List ℕ) → isSalvageable old ≡ true → Outlined old
-unfolding isSalvageable
-outlined old fine =
-    let fits = both (isTwo (formIn old)) (isOutlined old) fine .1 in
-    let a = both (leb (countIn old) 8) (leb (traceStart old + thirdLength (formIn old)) (length old)) fits in
-    record {
-      two = form-two old fine;
-      count-high = leb-true _ _ (a .0);
-      long = omega (arith, leb-true (traceStart old + thirdLength (formIn old)) (length old) (a .1));
-    }
 
 -- a file is read as one of two entries exactly where its first two bytes do not say 3
 not-three-is-two : (old : List ℕ) → (numberAt 2 old 0 ≡ 3 → ⊥) → formIn old ≡ Two

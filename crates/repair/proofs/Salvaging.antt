@@ -22,11 +22,10 @@ use Rattle.file.specs.declared.form.Form.the-variants.{Two}
 use Rattle.file.proofs.Lengths.{length-contents, length-table}
 use Rattle.file.proofs.Heads.{head-there}
 use Rattle.file.proofs.Stores.{file-parts}
-use Rattle.repair.specs.Salvage.{isSalvageable, countIn, keptOf, keptCount, salvagedFile, pairOf, cutsOf, traceChanges, listFrom, changesOf, salvageRefusal, salvageOf, salvagedOn, listedOn}
+use Rattle.repair.specs.Salvage.{isSalvageable, keptOf, keptCount, salvagedFile, pairOf, cutsOf, listFrom, changesOf, salvageRefusal, salvageOf, salvagedOn, listedOn}
 use Rattle.repair.specs.Laws.{AnsweredIsThere}
-use Rattle.repair.proofs.Kept.{form-two, trace-rest, kept-few, kept-length, changes-length, salvaged-length}
+use Rattle.repair.proofs.Kept.{outlined, trace-rest, kept-few, kept-length, changes-length, salvaged-length}
 use Rattle.repair.proofs.Lists.{onList, list-stays, list-changed}
-use Rattle.repair.proofs.Taking.{fine-long, fine-count}
 
 -- ---- the answer
 
@@ -123,9 +122,9 @@ module _ (old : List ℕ) (fine : isSalvageable old ≡ true) where
   unfolding tableAt
   length-head =
       length-append (contents Two (length (tableBody t)) (event-size * count)) (tableBody t)
-      ∙ omega (arith, length-contents Two (length (tableBody t)) (event-size * count), length-table t, ap tableStart (form-two old fine))
+      ∙ omega (arith, length-contents Two (length (tableBody t)) (event-size * count), length-table t, ap tableStart (outlined old fine .two))
 
-  file-is : salvagedFile old ≡ head ++ kept
+  pub file-is : salvagedFile old ≡ head ++ kept
   unfolding salvagedFile thirdBody cell
   file-is = file-parts Two Nearest t kept ∙ rw (kept-size) (append-nil (head ++ kept))
 
@@ -138,7 +137,7 @@ module _ (old : List ℕ) (fine : isSalvageable old ≡ true) where
       let size = salvaged-length old fine in
       let rest = drop start out in
       let h : headedOn Two t count out ≡ head ++ rest
-      = head-there Two t count out (fine-count old fine) (kept-few events-max (traceIn old) .0)
+      = head-there Two t count out (outlined old fine .count-high) (kept-few events-max (traceIn old) .0)
       ∙ sets-start head out (omega (arith, length-head, size, room))
       ∙ ap (λ (n : ℕ). head ++ drop n out) length-head in
       let m : length (head ++ rest) - start ≡ length rest = omega (arith, length-append head rest, length-head) in

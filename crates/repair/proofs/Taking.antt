@@ -1,20 +1,15 @@
 -- What is taken of an old file, by the outline of it.
-use mathlib.Core.Bool.{Bool, true, false, _&&_, false≢true}
+use mathlib.Core.Bool.{Bool, true, false, _&&_}
 use mathlib.Core.Path.{_≡_, refl, sym, ap, _∙_}
 use mathlib.Core.List.{List}
-use Prim.Native.Nat.{ℕ, _+_, _≤_}
+use Prim.Native.Nat.{ℕ}
 use native.Mathlib.Omega.{arith}
-use borrow.Author.Tests.{leb-true}
-use lib.Dec.{leb}
-use lib.ListN.{length}
 use Rattle.table.specs.Fold.{if}
-use Rattle.table.proofs.Tests.{both}
-use Rattle.file.specs.File.{thirdLength}
 use Rattle.file.specs.Reading.{formIn, traceStart, isOutlined, outlineOf}
 use Rattle.file.specs.declared.form.Form.{Form}
 use Rattle.file.specs.declared.form.Form.the-variants.{Two, Three}
 use Rattle.file.specs.declared.outline.Outline.the-variants.{Outlined, Refused}
-use Rattle.file.proofs.Outlines.{Outline, outline-is, is-outline, no-outline}
+use Rattle.file.proofs.Outlines.{outline-is, is-outline, no-outline}
 use Rattle.repair.specs.Salvage.{isTwo, isSalvageable, countIn}
 use Rattle.repair.specs.Pieces.{takenOf}
 use Rattle.repair.specs.declared.Taken.{Taken}
@@ -71,16 +66,3 @@ module _ (old : List ℕ) where
       go true h =
           record { fine = h; count-is = ap (λ (t : Taken). t .count) (e ∙ taken-where h); start-is = ap (λ (t : Taken). t .start) (e ∙ taken-where h) }
       go false h = absurd (let n = ap (λ (t : Taken). t .number) (e ∙ taken-not h) in omega arith)
-
-  pub fine-long : isSalvageable old ≡ true → traceStart old ≤ length old
-  unfolding isSalvageable
-  fine-long h =
-      let q = both (isTwo (formIn old)) (isOutlined old) h in
-      let long : traceStart old + thirdLength (formIn old) ≤ length old = leb-true _ _ (both (leb (countIn old) 8) _ (q .1) .1) in
-      omega arith
-
-  pub fine-count : isSalvageable old ≡ true → countIn old ≤ 8
-  unfolding isSalvageable
-  fine-count h =
-      let q = both (isTwo (formIn old)) (isOutlined old) h in
-      leb-true (countIn old) 8 (both (leb (countIn old) 8) _ (q .1) .0)

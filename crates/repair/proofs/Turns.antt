@@ -1,17 +1,15 @@
 -- Turns of the loops over the events of a trace: what they have counted, copied and listed.
 use mathlib.Core.Bool.{Bool, true, false, _&&_}
-use mathlib.Core.Logic.{⊎-elim}
-use mathlib.Core.Path.{_≡_, refl, sym, ap, _∙_}
+use mathlib.Core.Path.{_≡_, refl, sym, _∙_}
 use mathlib.Core.List.{List, [], _∷_, _++_, map, map-append}
-use Prim.Native.Nat.{ℕ, zero, suc, _+_, _-_, _*_, _≤_, _<_}
+use Prim.Native.Nat.{ℕ, suc, _+_, _-_, _*_, _≤_, _<_}
 use native.Mathlib.Numerals.{add-one}
 use native.Mathlib.Omega.{arith}
 use lib.Dec.{ltb}
 use lib.ListN.{length, take, drop, set, getD, length-map}
 use lib.Seq.{sets, drop-cons, set-at, append-snoc}
 use Rattle.table.specs.Fold.{if, countTo}
-use Rattle.table.proofs.Tests.{le-or-lt}
-use Rattle.table.proofs.Folds.{count-le}
+use Rattle.table.proofs.Folds.{count-le, count-split}
 use Rattle.cells.proofs.Runs.{sets-next}
 use Rattle.file.specs.File.{event-size}
 use Rattle.file.specs.Reading.{eventsIn, eventAt, formed}
@@ -20,17 +18,9 @@ use Rattle.repair.proofs.Kept.{kept-test, kept-length, kept-more, kept-
 
 -- so many at most pass a test among those that come after the first n
 count-part : (f : ℕ → Bool) (n m : ℕ) → n ≤ m → countTo f m ≤ countTo f n + (m - n)
-unfolding countTo if
-count-part f n zero le = let e : n ≡ 0 = omega arith in rw e (omega arith)
-count-part f n (suc m) le =
-    ⊎-elim
-    (λ (u : n ≤ m). go (f m) (count-part f n m u) u)
-    (λ (u : m < n). let e : n ≡ suc m = omega arith in rw e (omega arith))
-    (le-or-lt n m)
-  where
-    go : (b : Bool) → countTo f m ≤ countTo f n + (m - n) → n ≤ m → if b (suc (countTo f m)) (countTo f m) ≤ countTo f n + (suc m - n)
-    go true h u = omega arith
-    go false h u = omega arith
+count-part f n m le =
+    let whole : n + (m - n) ≡ m = omega arith in
+    omega (arith, rw whole at (count-split f n (m - n)), count-le (λ i. f (n + i)) (m - n))
 
 -- an element more, where a list is written from its start on
 pub put-one : {A : Type 0} (front l : List A) (n : ℕ) (x d : A) → length front ≡ n → n < length l

@@ -1,8 +1,9 @@
 -- `listed_in` counts what is dropped, and one more for a torn rest.
-use mathlib.Core.Path.{_≡_}
+use mathlib.Core.Path.{ap}
 use native.Mathlib.Omega.{arith}
 use borrow.Author.Needs.{needs}
-use Rattle.repair.proofs.Lists.{cuts-none, cuts-one}
+use lib.ListN.{length}
+use Rattle.repair.proofs.Kept.{no-cuts, one-cut}
 use Rattle.repair.proofs.listed_in.Statement.{statement}
 use Rattle.repair.proofs.listed_in.Tie as tie
 
@@ -13,10 +14,10 @@ add-result : tie.Need-add-result
 add-result c = omega arith
 
 returns : tie.Need-returns
-returns c = omega (arith, cuts-none (c .before .args .trace .now) (c .if1 .taken))
+returns c = omega (arith, ap length (no-cuts 0 (c .before .args .trace .now) (c .if1 .taken)))
 
 returns-2 : tie.Need-returns-2
-returns-2 c = omega (arith, cuts-one (c .before .args .trace .now) (c .if1 .left))
+returns-2 c = omega (arith, ap length (one-cut 0 (c .before .args .trace .now) (c .if1 .left)))
 
 pub listed-in-spec : {M : Type 1} → statement M
 listed-in-spec = tie.close (tie.spec sub-dropped add-result returns returns-2)

@@ -1,11 +1,7 @@
 -- `put_file` puts what stands before the trace, and then the events that are kept.
-use mathlib.Core.Path.{_≡_, ap, _∙_}
-use Prim.Native.Nat.{_≤_}
 use native.Mathlib.Omega.{arith}
 use borrow.Author.Needs.{needs}
-use lib.ListN.{length}
-use Rattle.repair.proofs.Kept.{salvaged-length}
-use Rattle.repair.proofs.Taking.{fine-long}
+use Rattle.repair.proofs.Kept.{outlined, salvaged-length}
 use Rattle.repair.proofs.Salvaging.{the-trace, file-put}
 use Rattle.repair.proofs.put_file.Statement.{statement}
 use Rattle.repair.proofs.put_file.Tie as tie
@@ -19,7 +15,7 @@ put-head-requires c κs = tt
 sub-keep : tie.Need-sub-keep
 sub-keep c =
     let s = c .before .before .before .before .before .before .before in
-    rw (s .pre .0 .1) (fine-long (s .args .old .now) (s .pre .0 .0))
+    rw (s .pre .0 .1) (outlined (s .args .old .now) (s .pre .0 .0) .long)
 
 part-keep-start : tie.Need-part-keep-start
 part-keep-start c = let l = sub-keep c in search needs

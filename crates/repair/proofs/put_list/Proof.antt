@@ -1,11 +1,10 @@
 -- `put_list` puts the change of the contents first, where there is one, and the changes of the trace behind it.
-use mathlib.Core.Path.{_≡_, refl, sym, ap, _∙_}
+use mathlib.Core.Path.{_≡_, refl, ap, _∙_}
 use Prim.Native.Nat.{_+_, _≤_}
 use mathlib.Core.List.{[]}
 use native.Mathlib.Omega.{arith}
 use borrow.Author.Needs.{needs}
 use lib.ListN.{length, length-set}
-use Rattle.table.specs.Fold.{if}
 use Rattle.repair.specs.Salvage.{contentsChange, pairOf, traceChanges, listFrom}
 use Rattle.repair.proofs.Lists.{length-on, list-stays, list-changed, length-behind, behind-first}
 use Rattle.repair.proofs.put_list.Statement.{statement}

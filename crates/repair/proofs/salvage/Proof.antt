@@ -1,19 +1,19 @@
 -- `salvage` judges and measures before it puts anything: each way out is a law of `Salvaging`.
-use mathlib.Core.Logic.{_⊎_, inl, inr, ⊎-elim}
-use mathlib.Core.Path.{_≡_, refl, sym, ap, _∙_}
+use mathlib.Core.Logic.{inl, inr, ⊎-elim}
+use mathlib.Core.Path.{_≡_, refl, sym, _∙_}
 use Prim.Native.Nat.{_+_, _*_, _^_, _≤_, _<_}
 use native.Mathlib.Omega.{arith}
 use borrow.Author.Needs.{needs}
 use lib.Dec.{ltb}
-use lib.ListN.{length, length-drop}
+use lib.ListN.{length}
 use borrow.Author.Tests.{ltb-false}
 use Rattle.table.proofs.Tests.{neither}
 use Rattle.file.specs.File.{events-max, event-size}
 use Rattle.file.specs.Reading.{traceStart, traceIn}
 use Rattle.repair.specs.Salvage.{keptCount, salvagedFile, contentsStay, listFrom, changesOf}
-use Rattle.repair.proofs.Kept.{kept-few, trace-rest, salvaged-length}
+use Rattle.repair.proofs.Kept.{kept-few, outlined, trace-length, salvaged-length}
 use Rattle.repair.proofs.Refused.{enough-room}
-use Rattle.repair.proofs.Taking.{Found, refused-is, found-is, fine-long}
+use Rattle.repair.proofs.Taking.{Found, refused-is, found-is}
 use Rattle.repair.proofs.Salvaging.{sixteen, seventeen, done, listed-is, the-trace}
 use Rattle.repair.proofs.salvage.Statement.{statement}
 use Rattle.repair.proofs.salvage.Tie as tie
@@ -39,7 +39,7 @@ found c = found-is _ _ (c .before .before .take .ensures) (c .if1 .left)
 sub-trace : tie.Need-sub-trace
 sub-trace c =
     let f = found c in
-    rw (f .start-is) (fine-long _ (f .fine))
+    rw (f .start-is) (outlined _ (f .fine) .long)
 
 part-trace-start : tie.Need-part-trace-start
 part-trace-start c = let l = sub-trace c in search needs
@@ -158,7 +158,7 @@ put-list-requires c κs =
     let f = found (kept .before .before) in
     let start = f .start-is in
     let trace = the-trace old (f .fine) in
-    (rw (start, trace) (omega (arith, ap length (trace-rest old (f .fine)), length-drop (traceStart old) old, fine-long old (f .fine), short kept)), rw (start, trace, stay-is contents) (changes-fit e))
+    (rw (start, trace) (omega (arith, trace-length old (f .fine), outlined old (f .fine) .long, short kept)), rw (start, trace, stay-is contents) (changes-fit e))
 
 same-length : tie.Need-same-length
 same-length c = search needs

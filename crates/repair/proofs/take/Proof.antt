@@ -1,5 +1,5 @@
 -- `take` is what the outline of an old file says, where that is of two entries.
-use mathlib.Core.Path.{_≡_, sym, _∙_}
+use mathlib.Core.Path.{sym, _∙_}
 use borrow.Author.Needs.{needs}
 use Rattle.repair.proofs.Taking.{two-taken, three-untaken, unfit-untaken}
 use Rattle.repair.proofs.take.Statement.{statement}

@@ -1,5 +1,5 @@
 -- `is_kept` is its definition.
-use mathlib.Core.Path.{_≡_, refl}
+use mathlib.Core.Path.{refl}
 use Rattle.repair.proofs.events.is_kept.Statement.{statement}
 use Rattle.repair.proofs.events.is_kept.Tie as tie
 

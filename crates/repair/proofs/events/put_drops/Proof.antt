@@ -1,9 +1,8 @@
 -- `put_drops` lists the events that are not kept: those that the loop has passed stand at the start of the list.
 use mathlib.Core.Logic.{⊎-elim}
 use mathlib.Core.Path.{_≡_, refl, sym, ap, _∙_}
-use mathlib.Core.List.{List, _++_, map}
+use mathlib.Core.List.{_++_, map}
 use native.Mathlib.Omega.{arith}
-use borrow.Author.Needs.{needs}
 use Prim.Native.Nat.{ℕ, _≤_, _-_}
 use lib.ListN.{length, drop, length-set}
 use Rattle.table.specs.Fold.{joinTo, countTo}

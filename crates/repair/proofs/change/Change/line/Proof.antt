@@ -1,8 +1,8 @@
 -- `line` is the line of the word of a change, and its position.
-use mathlib.Core.Path.{_≡_, refl, sym, ap, _∙_}
+use mathlib.Core.Path.{refl}
 use borrow.Author.Tests.{eq-eqb, ne-eqb}
 use Rattle.table.specs.Fold.{if}
-use Rattle.listing.specs.Line.{ascii, textOf}
+use Rattle.listing.specs.Line.{ascii}
 use Rattle.repair.specs.Line.{changeFields}
 use Rattle.repair.proofs.change.Change.line.Statement.{statement}
 use Rattle.repair.proofs.change.Change.line.Tie as tie

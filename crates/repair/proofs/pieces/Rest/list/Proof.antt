@@ -1,12 +1,11 @@
 -- `list` refuses what does not fit, and puts the changes of a piece that does.
-use mathlib.Core.Path.{_≡_, refl, sym, ap, _∙_}
-use Prim.Native.Nat.{_+_, _-_, _≤_}
+use mathlib.Core.Path.{_≡_, sym, _∙_}
+use Prim.Native.Nat.{_+_, _≤_}
 use native.Mathlib.Omega.{arith}
 use borrow.Author.Needs.{needs}
 use borrow.Author.Tests.{ltb-false}
 use lib.ListN.{length}
 use Rattle.table.proofs.Tests.{neither}
-use Rattle.repair.specs.Salvage.{keptCount}
 use Rattle.repair.specs.Pieces.{changesIn}
 use Rattle.repair.proofs.Kept.{kept-few, changes-length}
 use Rattle.repair.proofs.Listings.{first-refused, then-refused, then-listed}

@@ -26,7 +26,7 @@ use Rattle.file.proofs.ReadBack.{table-back, trace-back}
 use Rattle.file.proofs.Round.{table-read-is-trimmed, reads-back, two-means-nearest}
 use Rattle.repair.specs.Salvage.{isTwo, isSalvageable, countIn, soundTo, isKept, keptTo, keptOf, keptCount, salvagedFile, contentsStay, droppedAt, traceChanges, changesOf}
 use Rattle.repair.specs.Laws.{soundOnes, SalvagedIsAccepted, SoundComesOutEqual, TwiceChangesNothing}
-use Rattle.repair.proofs.Kept.{outlined, no-cuts, start-two, kept-length, kept-few}
+use Rattle.repair.proofs.Kept.{outlined, no-cuts, start-two, kept-size, kept-few}
 use Rattle.repair.proofs.First.{coded-take, sound-coded, kept-are-the-first}
 
 -- ---- what is kept is a trace
@@ -39,7 +39,7 @@ kept-is-trace trace bytes =
     (trace-reads-back (take events-max sound) (coded-take events-max sound (sound-coded trace bytes (eventsIn trace))) (omega (arith, first .1, kept-few events-max trace .0)) .0)
 
 pub kept-events : (room : ℕ) (trace : List ℕ) → eventsIn (keptOf room trace) ≡ keptCount room trace
-kept-events room trace = omega (arith, kept-length room trace (eventsIn trace) (omega arith))
+kept-events room trace = omega (arith, kept-size room trace)
 
 -- ---- a file that is salvaged
 
@@ -60,7 +60,7 @@ salvaged-is-accepted old bytes fine =
     let read = table-read-is-trimmed old bytes in
     let can = writable old bytes fine in (
       reads-back Two Nearest t kept (read .0) can
-          ∙ rw (kept-events events-max (traceIn old), kept-length events-max (traceIn old) (eventsIn (traceIn old)) (omega arith), start-two old fine),
+          ∙ rw (kept-events events-max (traceIn old), kept-size events-max (traceIn old), start-two old fine),
       table-back Two Nearest t kept (read .0) can ∙ read .1,
       trace-back Two Nearest t kept (read .0) can,
     )

@@ -52,6 +52,9 @@ kept-length room trace n le =
     join-length (isKept room trace) (eventBytes trace) (λ i. []) event-size 0 n (λ i l. event-length trace i (omega arith)) (λ i l. refl)
     ∙ omega arith
 
+pub kept-size : (room : ℕ) (trace : List ℕ) → length (keptOf room trace) ≡ event-size * keptCount room trace
+kept-size room trace = kept-length room trace (eventsIn trace) (omega arith)
+
 -- with the next event: its bytes, where it is kept, and else nothing
 pub kept-more : (room : ℕ) (trace : List ℕ) (n : ℕ) → isKept room trace n ≡ true → keptTo room trace (suc n) ≡ keptTo room trace n ++ eventBytes trace n
 unfolding joinTo if
@@ -154,4 +157,4 @@ module _ (old : List ℕ) (fine : isSalvageable old ≡ true) where
   unfolding salvagedFile tableAt
   salvaged-length =
       length-file Two Nearest (tableIn old) (keptOf events-max (traceIn old))
-      ∙ omega (arith, kept-length events-max (traceIn old) (eventsIn (traceIn old)) (omega arith), ap tableStart (outlined old fine .two))
+      ∙ omega (arith, kept-size events-max (traceIn old), ap tableStart (outlined old fine .two))

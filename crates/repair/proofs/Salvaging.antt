@@ -24,7 +24,7 @@ use Rattle.file.proofs.Heads.{head-there}
 use Rattle.file.proofs.Stores.{file-parts}
 use Rattle.repair.specs.Salvage.{isSalvageable, keptOf, keptCount, salvagedFile, pairOf, cutsOf, listFrom, changesOf, salvageRefusal, salvageOf, salvagedOn, listedOn}
 use Rattle.repair.specs.Laws.{AnsweredIsThere}
-use Rattle.repair.proofs.Kept.{outlined, trace-rest, kept-few, kept-length, changes-length, salvaged-length}
+use Rattle.repair.proofs.Kept.{outlined, trace-rest, kept-few, kept-size, changes-length, salvaged-length}
 use Rattle.repair.proofs.Lists.{onList, list-stays, list-changed}
 
 -- ---- the answer
@@ -115,9 +115,6 @@ module _ (old : List ℕ) (fine : isSalvageable old ≡ true) where
   abbrev head : List ℕ
   head = contents Two (length (tableBody t)) (event-size * count) ++ tableBody t
 
-  kept-size : length kept ≡ event-size * count
-  kept-size = kept-length events-max (traceIn old) (eventsIn (traceIn old)) (omega arith)
-
   length-head : length head ≡ start
   unfolding tableAt
   length-head =
@@ -126,7 +123,7 @@ module _ (old : List ℕ) (fine : isSalvageable old ≡ true) where
 
   pub file-is : salvagedFile old ≡ head ++ kept
   unfolding salvagedFile thirdBody cell
-  file-is = file-parts Two Nearest t kept ∙ rw (kept-size) (append-nil (head ++ kept))
+  file-is = file-parts Two Nearest t kept ∙ rw (kept-size events-max (traceIn old)) (append-nil (head ++ kept))
 
   pub file-put : (out : List ℕ) → length (salvagedFile old) ≤ length out
       → let h = headedOn Two t count out in
@@ -141,8 +138,9 @@ module _ (old : List ℕ) (fine : isSalvageable old ≡ true) where
       ∙ sets-start head out (omega (arith, length-head, size, room))
       ∙ ap (λ (n : ℕ). head ++ drop n out) length-head in
       let m : length (head ++ rest) - start ≡ length rest = omega (arith, length-append head rest, length-head) in
-      let n : length kept ≤ length rest = omega (arith, kept-size, size, room, length-drop start out) in
-      let e : start + length kept ≡ length (salvagedFile old) = omega (arith, kept-size, size) in
+      let held = kept-size events-max (traceIn old) in
+      let n : length kept ≤ length rest = omega (arith, held, size, room, length-drop start out) in
+      let e : start + length kept ≡ length (salvagedFile old) = omega (arith, held, size) in
       rw (
         h,
         take-at head rest start length-head,

@@ -1,8 +1,8 @@
 -- Events and their bytes determine each other.
-use mathlib.Core.Bool.{true, false, not, _&&_, false≢true}
+use mathlib.Core.Bool.{true, not, _&&_, false≢true}
 use mathlib.Core.Path.{_≡_, refl, sym, ap, _∙_}
 use mathlib.Core.List.{List, [], _++_}
-use Prim.Native.Nat.{ℕ, suc, _+_, _-_, _*_, _/_, _^_, _≤_, _<_}
+use Prim.Native.Nat.{ℕ, suc, _+_, _*_, _/_, _^_, _≤_, _<_}
 use native.Mathlib.Omega.{arith}
 use native.Mathlib.Nat.{add-zero}
 use borrow.Author.Tests.{lt-ltb, eqb-true, eq-eqb, ltb-true, not-false}

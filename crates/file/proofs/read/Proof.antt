@@ -1,5 +1,5 @@
 -- `read` judges what has an outline, and refuses the rest by the outline's number.
-use mathlib.Core.Path.{_≡_, sym, _∙_}
+use mathlib.Core.Path.{sym, _∙_}
 use borrow.Author.Needs.{needs}
 use Rattle.file.proofs.Outlines.{unfit-is-refused}
 use Rattle.file.proofs.read.Statement.{statement}

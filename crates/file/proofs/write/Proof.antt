@@ -1,10 +1,10 @@
 -- `write` stores nothing before it has judged everything; what it then stores is the file, part by part (`file-stored`).
-use mathlib.Core.Path.{_≡_, sym, ap, _∙_}
-use Prim.Native.Nat.{ℕ, _+_, _*_, _≤_}
+use mathlib.Core.Path.{_≡_, sym, _∙_}
+use Prim.Native.Nat.{ℕ, _+_, _≤_}
 use native.Mathlib.Omega.{arith}
 use borrow.Author.Needs.{needs}
 use lib.ListN.{length}
-use Rattle.file.specs.File.{event-size, thirdBody, tableBody, fileOf}
+use Rattle.file.specs.File.{thirdBody, fileOf}
 use Rattle.file.specs.Reading.{eventsIn}
 use Rattle.file.proofs.Forms.{start-low, third-low}
 use Rattle.file.proofs.Lengths.{length-file}

@@ -1,5 +1,5 @@
 -- `has_contents` is `is_contents` of a file of so many streams and events, where there is one.
-use mathlib.Core.Path.{_≡_, sym, _∙_}
+use mathlib.Core.Path.{_∙_}
 use Prim.Native.Nat.{_≤_}
 use native.Mathlib.Omega.{arith}
 use Rattle.file.proofs.Forms.{start-low}

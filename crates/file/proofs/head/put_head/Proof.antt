@@ -1,5 +1,5 @@
 -- `put_head` stores the contents table, and behind it the table body, where there is such a file.
-use mathlib.Core.Path.{_≡_, sym, _∙_}
+use mathlib.Core.Path.{_∙_}
 use Prim.Native.Nat.{_≤_}
 use native.Mathlib.Omega.{arith}
 use borrow.Author.Needs.{needs}

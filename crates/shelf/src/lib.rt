@@ -5,6 +5,7 @@ mod images;
 ghost use mathlib.Core.Path.{_≡_};
 ghost use Rattle.table.specs.Reservations.{lentTable};
 ghost use Rattle.file.specs.Reading.{readOf, tableIn};
+ghost use Rattle.repair.specs.Salvage.{salvageOf, salvagedOn, listedOn};
 ghost use Rattle.booking.specs.Bookings.{begunOf, addOf, withdrawOf, finishedOf};
 ghost use Rattle.shelf.specs.Image.{openedAs, answeredAs, viewedAs, stateAs, closingAs, latestAs};
 ghost use Rattle.shelf.specs.Filed.{readAs, wroteAs, wroteOn};
@@ -34,6 +35,7 @@ pub use images::Opening;
 pub use images::Told;
 pub use images::Wrote;
 use order::Order;
+use repair::Salvaged;
 use table::Reservation;
 use table::Table;
 use table::take_in;
@@ -166,6 +168,20 @@ pub extern "C" fn yerbagunt_write(
     let form = Form::of_third(third);
     let by = Order::of_number(order);
     written(file::write(table, form, by, trace, out))
+}
+
+// Writes a sound file of what is sound in an old one at the start of a buffer, and lists each change, as two numbers, at the start of a list.
+#[no_mangle]
+pub extern "C" fn yerbagunt_salvage(
+    old: &[u8],
+    out: &mut [u8],
+    changes: &mut [[u64; 2]],
+) -> Salvaged
+    ensures { λ r. ⌜ r ≡ salvageOf (now (old .entry)) (now (out .entry)) (now (changes .entry)) ⌝ }
+    ensures { λ _. ⌜ now (out .exit) ≡ salvagedOn (now (old .entry)) (now (out .entry)) (now (changes .entry)) ⌝ }
+    ensures { λ _. ⌜ now (changes .exit) ≡ listedOn (now (old .entry)) (now (out .entry)) (now (changes .entry)) ⌝ }
+{
+    repair::salvage(old, out, changes)
 }
 
 // Begins a booking table, whatever it was, with W, H, k and the limits of desk 1 and desk 2.

@@ -7,15 +7,14 @@ use Prim.Native.Nat.{ℕ, _+_, _-_, _^_, _≤_, _<_}
 use native.Mathlib.Omega.{arith}
 use borrow.Author.Tests.{le-leb, lt-leb, le-ltb, ltb-true}
 use lib.Dec.{ltb}
-use lib.ListN.{length, length-map}
+use lib.ListN.{length}
 use Rattle.table.specs.Fold.{if}
-use Rattle.repair.specs.Salvage.{pairOf}
+use Rattle.repair.specs.Salvage.{putOn}
 use Rattle.repair.specs.Pieces.{changesIn, restAfter, isRefused, listOf, listOn}
 use Rattle.repair.specs.Laws.{PieceIsListed}
 use Rattle.repair.specs.declared.pieces.Rest.{Rest}
 use Rattle.repair.specs.declared.pieces.Listed.{Listed}
 use Rattle.repair.proofs.Kept.{changes-few}
-use Rattle.repair.proofs.Lists.{onList}
 
 abbrev pub unlisted : Rest → Listed
 unlisted rest = record { number = 17; changes = 0; rest = rest }
@@ -65,8 +64,8 @@ module _ (rest : Rest) (piece : List ℕ) (changes : List (List ℕ)) where
 
   pub then-listed : length (changesIn rest piece) ≤ length changes → rest .at + length piece ≤ 9_223_372_036_854_775_807
       → (record { number = 0; changes = length (changesIn rest piece); rest = restAfter rest piece } ≡ listOf rest piece (length changes))
-      × (onList (changesIn rest piece) changes ≡ listOn rest piece changes)
+      × (putOn (changesIn rest piece) changes ≡ listOn rest piece changes)
   unfolding listOf listOn if
   then-listed few low =
       let fits = not-refused rest piece (length changes) few (omega arith) in
-      (rw fits, rw (fits, length-map (changesIn rest piece) pairOf))
+      (rw fits, rw fits)

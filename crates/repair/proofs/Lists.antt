@@ -9,22 +9,19 @@ use lib.Seq.{take-length, drop-length, length-take-le}
 use Rattle.table.specs.Fold.{if}
 use Rattle.file.specs.File.{events-max, event-size}
 use Rattle.file.specs.Reading.{eventsIn}
-use Rattle.repair.specs.Salvage.{contentsChange, cutAt, pairOf, dropsTo, traceChanges, listFrom}
+use Rattle.repair.specs.Salvage.{contentsChange, cutAt, pairOf, putOn, dropsTo, traceChanges, listFrom}
 use Rattle.repair.specs.declared.change.Change.{Change}
 use Rattle.repair.proofs.Kept.{no-cuts, one-cut}
 use Rattle.repair.proofs.Turns.{put-one}
 
--- a list that is put at the start of another
-abbrev pub onList : List Change → List (List ℕ) → List (List ℕ)
-onList list start = map pairOf list ++ drop (length list) start
-
-pub length-on : (list : List Change) (start : List (List ℕ)) → length list ≤ length start → length (onList list start) ≡ length start
+-- changes at the start of a list
+pub length-on : (list : List Change) (start : List (List ℕ)) → length list ≤ length start → length (putOn list start) ≡ length start
 length-on list start few =
     length-append (map pairOf list) (drop (length list) start) ∙ omega (arith, length-map list pairOf, length-drop (length list) start)
 
 -- one change more
 pub one-more : (list : List Change) (change : Change) (start : List (List ℕ)) → length list < length start
-    → set (onList list start) (length list) (pairOf change) ≡ onList (list ++ (change ∷ [])) start
+    → set (putOn list start) (length list) (pairOf change) ≡ putOn (list ++ (change ∷ [])) start
 one-more list change start more =
     let n : length (list ++ (change ∷ [])) ≡ suc (length list) = length-append list (change ∷ []) ∙ omega arith in
     rw (map-append pairOf list (change ∷ []), n)
@@ -63,8 +60,8 @@ module _ (first : Change) (list : List Change) (start : List (List ℕ)) where
 
 pub behind-first : (first : Change) (list : List Change) (start : List (List ℕ)) → 1 ≤ length start
     → let whole = set start 0 (pairOf first) in
-    take 1 whole ++ (onList list (behind first list start) ++ drop (length whole - 1) (drop 1 whole)) ≡ onList (first ∷ list) start
+    take 1 whole ++ (putOn list (behind first list start) ++ drop (length whole - 1) (drop 1 whole)) ≡ putOn (first ∷ list) start
 behind-first first list [] more = absurd (omega arith)
 behind-first first list (x ∷ rest) more =
     let all : suc (length rest) - 1 ≡ length rest = omega arith in
-    rw (all, take-length rest, drop-length rest, append-nil (onList list rest)) refl
+    rw (all, take-length rest, drop-length rest, append-nil (putOn list rest)) refl

@@ -1,9 +1,9 @@
 -- Each change of the list is in its place: contents at 0, a dropped event at one of its trace, and a cut at the last part of one.
 use mathlib.Core.Logic.{inl, inr}
-use mathlib.Core.Bool.{true}
+use mathlib.Core.Bool.{true, false}
 use mathlib.Core.Path.{_≡_, refl}
 use mathlib.Core.List.{List, [], _∷_, _++_}
-use Prim.Native.Nat.{ℕ, zero, suc, _+_, _*_, _%_, _≤_, _<_}
+use Prim.Native.Nat.{ℕ, zero, suc, _+_, _-_, _*_, _/_, _%_, _≤_, _<_}
 use native.Mathlib.Omega.{arith}
 use borrow.Author.Tests.{eqb-false}
 use lib.Dec.{eqb}
@@ -33,16 +33,18 @@ module _ (old : List ℕ) (fine : isSalvageable old ≡ true) where
   whole : start + length trace ≡ length old
   whole = omega (arith, trace-length old fine, outlined old fine .long)
 
-  drop-there : (n : ℕ) → n < eventsIn trace → InPlace old (droppedAt (start + event-size * n))
+  drop-there : (n : ℕ) → n < eventsIn trace → isKept events-max trace n ≡ false → InPlace old (droppedAt (start + event-size * n))
   unfolding InPlace
-  drop-there n l = inr (inl (refl, omega arith, omega arith, omega (arith, whole)))
+  drop-there n l h =
+      let e : (start + event-size * n - start) / event-size ≡ n = omega arith in
+      inr (inl (refl, omega arith, omega arith, omega (arith, whole), rw e h))
 
   drops-there : (n : ℕ) → n ≤ eventsIn trace → AllInPlace old (dropsTo events-max start trace n)
   unfolding joinTo AllInPlace
   drops-there zero le = tt
   drops-there (suc n) le =
       places-append old (dropsTo events-max start trace n) _ (drops-there n (omega arith))
-      (by-if (AllInPlace old) (isKept events-max trace n) [] (droppedAt (start + event-size * n) ∷ []) (λ _. tt) (λ _. (drop-there n (omega arith), tt)))
+      (by-if (AllInPlace old) (isKept events-max trace n) [] (droppedAt (start + event-size * n) ∷ []) (λ _. tt) (λ h. (drop-there n (omega arith) h, tt)))
 
   cut-there : (length trace % event-size ≡ 0 → ⊥) → InPlace old (cutAt (start + event-size * eventsIn trace))
   unfolding InPlace

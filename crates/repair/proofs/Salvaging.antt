@@ -22,10 +22,10 @@ use Rattle.file.specs.declared.form.Form.the-variants.{Two}
 use Rattle.file.proofs.Lengths.{length-contents, length-table}
 use Rattle.file.proofs.Heads.{head-there}
 use Rattle.file.proofs.Stores.{file-parts}
-use Rattle.repair.specs.Salvage.{isSalvageable, keptOf, keptCount, salvagedFile, pairOf, cutsOf, listFrom, changesOf, salvageRefusal, salvageOf, salvagedOn, listedOn}
+use Rattle.repair.specs.Salvage.{isSalvageable, keptOf, keptCount, salvagedFile, pairOf, putOn, cutsOf, listFrom, changesOf, salvageRefusal, salvageOf, salvagedOn, listedOn}
 use Rattle.repair.specs.Laws.{AnsweredIsThere}
 use Rattle.repair.proofs.Kept.{outlined, trace-rest, kept-few, kept-size, changes-length, salvaged-length}
-use Rattle.repair.proofs.Lists.{onList, list-stays, list-changed}
+use Rattle.repair.proofs.Lists.{list-stays, list-changed}
 
 -- ---- the answer
 
@@ -52,9 +52,9 @@ module _ (old out : List ℕ) (changes : List (List ℕ)) where
     pub done : isShort ≡ false
         → (record { number = 0; length = length (salvagedFile old); changes = length (changesOf old) } ≡ salvageOf old out changes)
         × (salvagedFile old ++ drop (length (salvagedFile old)) out ≡ salvagedOn old out changes)
-        × (onList (changesOf old) changes ≡ listedOn old out changes)
+        × (putOn (changesOf old) changes ≡ listedOn old out changes)
     unfolding salvageOf salvagedOn listedOn salvageRefusal given _or-next_ if
-    done h = (rw (fine, h), rw (fine, h), rw (fine, h, length-map (changesOf old) pairOf))
+    done h = (rw (fine, h), rw (fine, h), rw (fine, h))
 
   -- a number 0 is answered only where nothing is refused
   answered : salvageOf old out changes .number ≡ 0 → eqb (salvageRefusal old (length out) (length changes)) 0 ≡ true
@@ -70,8 +70,8 @@ module _ (old out : List ℕ) (changes : List (List ℕ)) where
 
 -- what is put at the start of a list is there, and what stood behind it stays
 put-there : {A : Type 0} (front l : List A) (n : ℕ) → length front ≡ n
-    → let put = front ++ drop (length front) l in (take n put ≡ front) × (drop n put ≡ drop n l)
-put-there front l n e = (take-at front _ n e, drop-at front _ n e ∙ ap (λ (k : ℕ). drop k l) e)
+    → let put = front ++ drop n l in (take n put ≡ front) × (drop n put ≡ drop n l)
+put-there front l n e = (take-at front _ n e, drop-at front _ n e)
 
 pub answered-is-there : AnsweredIsThere
 unfolding salvageOf salvagedOn listedOn if

@@ -15,7 +15,7 @@ use Rattle.file.specs.Reading.{eventsIn, eventAt, formed, traceStart, traceIn, 
 use Rattle.file.specs.declared.form.Form.the-variants.{Two}
 use Rattle.file.specs.declared.event.Event.{Event}
 use Rattle.file.specs.declared.Reading.the-variants.{LaidOut}
-use Rattle.repair.specs.Salvage.{isSalvageable, countIn, keptOf, keptCount, salvagedFile, contentsChange, pairOf, traceChanges, changesOf, salvageRefusal, salvageOf, salvagedOn, listedOn}
+use Rattle.repair.specs.Salvage.{isSalvageable, isKept, countIn, keptOf, keptCount, salvagedFile, contentsChange, pairOf, traceChanges, changesOf, salvageRefusal, salvageOf, salvagedOn, listedOn}
 use Rattle.repair.specs.Pieces.{table-end-max, takenOf, changesIn, restAfter, listOf}
 use Rattle.repair.specs.Cases.{cases, answerOf, expected}
 use Rattle.repair.specs.declared.pieces.Rest.{Rest}
@@ -139,13 +139,17 @@ ContentsListedIfChanged =
     let rest = traceChanges events-max (traceStart old) (traceIn old) in
     (same → changesOf old ≡ rest) × ((same → ⊥) → changesOf old ≡ contentsChange ∷ rest)
 
--- what a change says of the old file: contents are at 0, an event that is dropped is a whole one of its trace, and what is cut is a part of one, up to the end
+-- what a change says of the old file: contents are at 0, an event that is dropped is a whole one of its trace, which is not kept, and what is cut is a part of one, up to the end
 unfoldable pub InPlace : List ℕ → Change → Type 0
 InPlace old change =
     let at = change .position in
     let start = traceStart old in
     ((change .kind ≡ 1) × (at ≡ 0))
-    ⊎ ((change .kind ≡ 2) × (start ≤ at) × ((at - start) % event-size ≡ 0) × (at + event-size ≤ length old))
+    ⊎ ((change .kind ≡ 2)
+    × (start ≤ at)
+    × ((at - start) % event-size ≡ 0)
+    × (at + event-size ≤ length old)
+    × (isKept events-max (traceIn old) ((at - start) / event-size) ≡ false))
     ⊎ ((change .kind ≡ 3) × (start ≤ at) × ((at - start) % event-size ≡ 0) × (at < length old) × (length old < at + event-size))
 
 unfoldable pub AllInPlace : List ℕ → List Change → Type 0

@@ -1,15 +1,15 @@
 -- An old file that is longer than any buffer, piece by piece: its first bytes tell where the trace starts, and the trace is taken in pieces, each of whole events but the last.
 use mathlib.Core.Bool.{Bool, _||_}
-use mathlib.Core.List.{List, _++_, map}
+use mathlib.Core.List.{List}
 use Prim.Native.Nat.{ℕ, _+_, _-_, _^_}
 use lib.Dec.{leb, ltb}
-use lib.ListN.{length, drop}
+use lib.ListN.{length}
 use Rattle.table.specs.Fold.{if}
 use Rattle.table.specs.Ranges.{streams-max}
 use Rattle.file.specs.File.{tableStart}
 use Rattle.file.specs.Reading.{tableLength, traceStart}
 use Rattle.file.specs.declared.form.Form.the-variants.{Two}
-use Rattle.repair.specs.Salvage.{isSalvageable, countIn, keptCount, pairOf, traceChanges}
+use Rattle.repair.specs.Salvage.{isSalvageable, countIn, keptCount, putOn, traceChanges}
 use Rattle.repair.specs.declared.Taken.{Taken}
 use Rattle.repair.specs.declared.pieces.Rest.{Rest}
 use Rattle.repair.specs.declared.pieces.Listed.{Listed}
@@ -46,5 +46,4 @@ listOf rest piece places =
 
 unfoldable pub listOn : Rest → List ℕ → List (List ℕ) → List (List ℕ)
 listOn rest piece changes =
-    let list = map pairOf (changesIn rest piece) in
-    if (isRefused rest piece (length changes)) changes (list ++ drop (length list) changes)
+    if (isRefused rest piece (length changes)) changes (putOn (changesIn rest piece) changes)

@@ -76,6 +76,10 @@ pairOf change = change .kind ∷ change .position ∷ []
 abbrev pub changeOf : List ℕ → Change
 changeOf pair = record { kind = getD pair 0 0; position = getD pair 1 0 }
 
+-- changes, as pairs, at the start of a list; what stood behind them stays
+abbrev pub putOn : List Change → List (List ℕ) → List (List ℕ)
+putOn changes list = map pairOf changes ++ drop (length changes) list
+
 -- "(once, at 0, if any of the 26 bytes changes)": they stay where they are the contents table of the file that is written
 unfoldable pub contentsStay : List ℕ → Bool
 contentsStay old = hasContents Two old (countIn old) (keptCount events-max (traceIn old))
@@ -123,5 +127,4 @@ salvagedOn old out changes =
 
 unfoldable pub listedOn : List ℕ → List ℕ → List (List ℕ) → List (List ℕ)
 listedOn old out changes =
-    let list = map pairOf (changesOf old) in
-    if (eqb (salvageRefusal old (length out) (length changes)) 0) (list ++ drop (length list) changes) changes
+    if (eqb (salvageRefusal old (length out) (length changes)) 0) (putOn (changesOf old) changes) changes

@@ -5,13 +5,12 @@ use file::event_at;
 use file::is_formed;
 ghost use mathlib.Core.Bool.{_&&_};
 ghost use mathlib.Core.Path.{_≡_};
-ghost use mathlib.Core.List.{_++_, map};
 ghost use Prim.Native.Nat.{_+_, _≤_, _^_};
 ghost use lib.Dec.{ltb};
-ghost use lib.ListN.{length, drop};
+ghost use lib.ListN.{length};
 ghost use lib.Seq.{sets};
 ghost use Rattle.file.specs.Reading.{eventsIn, eventAt, formed};
-ghost use Rattle.repair.specs.Salvage.{keptOf, keptCount, pairOf, dropsTo, traceChanges};
+ghost use Rattle.repair.specs.Salvage.{keptOf, keptCount, putOn, dropsTo, traceChanges};
 
 // Whether the event at i of a trace is kept, where so many were before it.
 fn is_kept(trace: &[u8], i: usize, kept: usize, room: usize) -> bool
@@ -59,7 +58,7 @@ pub fn keep(trace: &[u8], room: usize, out: &mut [u8]) -> usize
 pub(crate) fn put_changes(trace: &[u8], at: u64, room: usize, changes: &mut [[u64; 2]])
     requires { ⌜ at + length (now trace) ≤ 2 ^ 64 ⌝ }
     requires { ⌜ length (traceChanges room at (now trace)) ≤ length (now changes) ⌝ }
-    ensures { λ _. ⌜ now (changes .exit) ≡ map pairOf (traceChanges room at (now (trace .entry))) ++ drop (length (traceChanges room at (now (trace .entry)))) (now (changes .entry)) ⌝ }
+    ensures { λ _. ⌜ now (changes .exit) ≡ putOn (traceChanges room at (now (trace .entry))) (now (changes .entry)) ⌝ }
 {
     let events = trace.len() / Event::SIZE;
     let dropped = put_drops(trace, at, room, changes);
@@ -74,7 +73,7 @@ fn put_drops(trace: &[u8], at: u64, room: usize, changes: &mut [[u64; 2]]) -> us
     requires { ⌜ at + length (now trace) ≤ 2 ^ 64 ⌝ }
     requires { ⌜ length (dropsTo room at (now trace) (eventsIn (now trace))) ≤ length (now changes) ⌝ }
     ensures { λ r. ⌜ r ≡ length (dropsTo room at (now (trace .entry)) (eventsIn (now (trace .entry)))) ⌝ }
-    ensures { λ r. ⌜ now (changes .exit) ≡ map pairOf (dropsTo room at (now (trace .entry)) (eventsIn (now (trace .entry)))) ++ drop r (now (changes .entry)) ⌝ }
+    ensures { λ _. ⌜ now (changes .exit) ≡ putOn (dropsTo room at (now (trace .entry)) (eventsIn (now (trace .entry)))) (now (changes .entry)) ⌝ }
 {
     let events = trace.len() / Event::SIZE;
     let mut kept: usize = 0;

@@ -13,13 +13,13 @@ use file::Outline;
 pub use pieces::Listed;
 pub use pieces::Rest;
 ghost use mathlib.Core.Path.{_≡_};
-ghost use mathlib.Core.List.{_++_, map};
+ghost use mathlib.Core.List.{_++_};
 ghost use Prim.Native.Nat.{_+_, _-_, _≤_, _^_};
 ghost use lib.ListN.{length, drop};
 ghost use mathlib.Core.Bool.{true};
 ghost use Rattle.file.specs.File.{events-max};
 ghost use Rattle.file.specs.Reading.{eventsIn, traceStart, traceIn};
-ghost use Rattle.repair.specs.Salvage.{isSalvageable, keptCount, salvagedFile, pairOf, cutsOf, listFrom, salvageOf, salvagedOn, listedOn};
+ghost use Rattle.repair.specs.Salvage.{isSalvageable, keptCount, salvagedFile, putOn, cutsOf, listFrom, salvageOf, salvagedOn, listedOn};
 ghost use Rattle.repair.specs.Pieces.{takenOf};
 
 // What is taken of an old file: how many streams it has, where its trace starts, and 0; or the refusal, and zeros.
@@ -112,7 +112,7 @@ fn put_file(old: &[u8], start: usize, kept: usize, out: &mut [u8])
 fn put_list(stay: bool, trace: &[u8], start: u64, changes: &mut [[u64; 2]])
     requires { ⌜ start + length (now trace) ≤ 2 ^ 64 ⌝ }
     requires { ⌜ length (listFrom stay start (now trace)) ≤ length (now changes) ⌝ }
-    ensures { λ _. ⌜ now (changes .exit) ≡ map pairOf (listFrom stay start (now (trace .entry))) ++ drop (length (listFrom stay start (now (trace .entry)))) (now (changes .entry)) ⌝ }
+    ensures { λ _. ⌜ now (changes .exit) ≡ putOn (listFrom stay start (now (trace .entry))) (now (changes .entry)) ⌝ }
 {
     if stay {
         put_changes(trace, start, Event::MOST, changes);

@@ -1,5 +1,5 @@
 -- `put_changes` lists the events that are not kept, and then a torn rest.
-use mathlib.Core.Path.{_≡_, refl, ap, _∙_}
+use mathlib.Core.Path.{_≡_, ap, _∙_}
 use mathlib.Core.List.{[], _∷_}
 use Prim.Native.Nat.{_%_, _≤_, _<_}
 use native.Mathlib.Omega.{arith}
@@ -74,7 +74,7 @@ returns-2 : tie.Need-returns-2
 returns-2 c =
     let put = c .before .before in
     let a = put .before .before .before .args in
-    rw (no-cut (a .room) (a .at) (a .trace .now) (c .if1 .left)) (put .put-drops .ensures .1 ∙ rw (put .put-drops .ensures .0) refl)
+    rw (no-cut (a .room) (a .at) (a .trace .now) (c .if1 .left)) (put .put-drops .ensures .1)
 
 pub put-changes-spec : {M : Type 1} → statement M
 put-changes-spec =

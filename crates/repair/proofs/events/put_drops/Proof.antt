@@ -119,7 +119,7 @@ returns c =
     let e = all-passed _ _ (l .inv .0) (c .loop-test .left) in
     let count : eventsIn (a .trace .now) - l .kept ≡ length (dropsTo (a .room) (a .at) (a .trace .now) (eventsIn (a .trace .now)))
     = rw (l .inv .1, e) (sym (drops-length (a .room) (a .at) (a .trace .now) (eventsIn (a .trace .now)))) in
-    (count, l .inv .2 ∙ ap (λ (n : ℕ). map pairOf (dropsTo (a .room) (a .at) (a .trace .now) n) ++ drop (n - l .kept) (a .changes .now)) e)
+    (count, l .inv .2 ∙ rw (← count) (ap (λ (n : ℕ). map pairOf (dropsTo (a .room) (a .at) (a .trace .now) n) ++ drop (n - l .kept) (a .changes .now)) e))
 
 pub put-drops-spec : {M : Type 1} → statement M
 put-drops-spec =

@@ -1,6 +1,5 @@
 -- `print_changes` counts its turns down.
 use native.Mathlib.Omega.{arith}
-use borrow.Author.Needs.{needs}
 use Rattle.salvage.proofs.changes.print_changes.Statement.{statement}
 use Rattle.salvage.proofs.changes.print_changes.Tie as tie
 

@@ -1,6 +1,5 @@
 -- `print_piece` goes over the places of the list.
 use Prim.Native.Nat.{_-_}
-use mathlib.Core.Path.{_≡_}
 use native.Mathlib.Omega.{arith}
 use borrow.Author.Needs.{needs}
 use Rattle.salvage.proofs.changes.print_piece.Statement.{statement}

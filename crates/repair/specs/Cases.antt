@@ -53,26 +53,52 @@ made file changes = record { taken = true; file = file; changes = changes }
 abbrev pub answerOf : Case → Outcome
 answerOf k = if (isSalvageable (k .old)) (made (salvagedFile (k .old)) (changesOf (k .old))) refused
 
-abbrev pub expected : Case → Outcome
-expected k = k .expect
-
-abbrev pub cases : List Case
-cases =
-    -- a sound file; one whose first entry has the kind 7; one that says 258 entries
+-- a sound file; one whose first entry has the kind 7; one that says 258 entries
+abbrev pub contentsCases : List Case
+contentsCases =
     record { old = sound; expect = made sound [] } ∷
     record { old = 2 ∷ 0 ∷ 7 ∷ drop 3 sound; expect = made sound (contentsChange ∷ []) } ∷
     record { old = 2 ∷ 1 ∷ drop 2 sound; expect = made sound (contentsChange ∷ []) } ∷
-    -- a broken event in the middle, which the contents count, and one that they do not
+    []
+
+-- a broken event in the middle, which the contents count, and one that they do not
+abbrev pub droppedCases : List Case
+droppedCases =
     record { old = contentsFor 48 ++ tableFor 1 ++ arrival ++ broken ++ turn; expect = made sound (contentsChange ∷ droppedAt 66 ∷ []) } ∷
     record { old = contentsFor 32 ++ tableFor 1 ++ arrival ++ broken ++ turn; expect = made sound (droppedAt 66 ∷ []) } ∷
-    -- a torn rest, behind events and behind nothing
+    []
+
+-- a torn rest, behind events and behind nothing; and all at once
+abbrev pub cutCases : List Case
+cutCases =
     record { old = sound ++ take 5 arrival; expect = made sound (cutAt 82 ∷ []) } ∷
     record { old = contentsFor 0 ++ tableFor 1 ++ take 15 turn; expect = made (contentsFor 0 ++ tableFor 1) (cutAt 50 ∷ []) } ∷
-    -- all at once
     record { old = 9 ∷ drop 1 sound ++ broken ++ take 1 turn; expect = made sound (contentsChange ∷ droppedAt 82 ∷ cutAt 98 ∷ []) } ∷
-    -- refused: a count of 9, a table that is one byte short, 3 in the first two bytes, and nothing at all
+    []
+
+-- refused: a count of 9, a table that is one byte short, 3 in the first two bytes, one byte, and nothing at all
+abbrev pub refusedCases : List Case
+refusedCases =
     record { old = contentsFor 32 ++ tableFor 9 ++ arrival ++ turn; expect = refused } ∷
     record { old = take 49 sound; expect = refused } ∷
     record { old = 3 ∷ drop 1 sound; expect = refused } ∷
+    record { old = 2 ∷ []; expect = refused } ∷
     record { old = []; expect = refused } ∷
+    []
+
+-- a trace of four events, of which the second is broken: what is kept of it, and what is listed where it starts at 50, by how many may be kept
+abbrev pub fourEvents : List ℕ
+fourEvents = arrival ++ broken ++ turn ++ arrival
+
+pub record RoomCase : Type 0 where
+  pub room : ℕ
+  pub kept : List ℕ
+  pub dropped : List Change
+
+abbrev pub roomCases : List RoomCase
+roomCases =
+    record { room = 4; kept = arrival ++ turn ++ arrival; dropped = droppedAt 66 ∷ [] } ∷
+    record { room = 2; kept = arrival ++ turn; dropped = droppedAt 66 ∷ droppedAt 98 ∷ [] } ∷
+    record { room = 1; kept = arrival; dropped = droppedAt 66 ∷ droppedAt 82 ∷ droppedAt 98 ∷ [] } ∷
+    record { room = 0; kept = []; dropped = droppedAt 50 ∷ droppedAt 66 ∷ droppedAt 82 ∷ droppedAt 98 ∷ [] } ∷
     []

@@ -17,7 +17,7 @@ use Rattle.file.specs.declared.event.Event.{Event}
 use Rattle.file.specs.declared.Reading.the-variants.{LaidOut}
 use Rattle.repair.specs.Salvage.{isSalvageable, isKept, countIn, keptOf, keptCount, salvagedFile, contentsChange, pairOf, traceChanges, changesOf, salvageRefusal, salvageOf, salvagedOn, listedOn}
 use Rattle.repair.specs.Pieces.{table-end-max, takenOf, changesIn, restAfter, listOf}
-use Rattle.repair.specs.Cases.{cases, answerOf, expected}
+use Rattle.repair.specs.Cases.{Case, contentsCases, droppedCases, cutCases, refusedCases, answerOf, RoomCase, roomCases, fourEvents}
 use Rattle.repair.specs.declared.pieces.Rest.{Rest}
 use Rattle.repair.specs.declared.change.Change.{Change}
 
@@ -214,5 +214,16 @@ PieceIsListed =
 
 -- ---- worked cases
 
+abbrev pub AsExpected : List Case → Type 0
+AsExpected cases =
+    (map (λ (k : Case). answerOf k .taken) cases ≡ map (λ (k : Case). k .expect .taken) cases)
+    × (map (λ (k : Case). answerOf k .changes) cases ≡ map (λ (k : Case). k .expect .changes) cases)
+    × (map (λ (k : Case). answerOf k .file) cases ≡ map (λ (k : Case). k .expect .file) cases)
+
 abbrev pub CasesHold : Type 0
-CasesHold = map answerOf cases ≡ map expected cases
+CasesHold = AsExpected contentsCases × AsExpected droppedCases × AsExpected cutCases × AsExpected refusedCases
+
+abbrev pub RoomCasesHold : Type 0
+RoomCasesHold =
+    (map (λ (k : RoomCase). keptOf (k .room) fourEvents) roomCases ≡ map (λ (k : RoomCase). k .kept) roomCases)
+    × (map (λ (k : RoomCase). traceChanges (k .room) 50 fourEvents) roomCases ≡ map (λ (k : RoomCase). k .dropped) roomCases)

@@ -7,7 +7,7 @@
 enum body { BODY_TABLE, BODY_TRACE, BODY_ORDER, BODIES };
 
 // "numbers little-endian"
-static uint64_t number_at(const uint8_t *bytes, size_t width)
+uint64_t number_at(const uint8_t *bytes, size_t width)
 {
     uint64_t number = 0;
     for (size_t i = width; i > 0; i--)
@@ -28,7 +28,7 @@ static struct event event_at(const uint8_t *bytes)
 }
 
 // "Kinds: 1 arrival, 2 turn, 3 own turn, 4 done, 5 clock. Turn has stream 0 and value 0; done and clock have stream 0."
-static bool event_sound(const uint8_t *bytes)
+bool event_sound(const uint8_t *bytes)
 {
     struct event e = event_at(bytes);
     if (e.kind != EVENT_ARRIVAL && e.tag != 0)

@@ -41,6 +41,12 @@ struct run {
     size_t count;
 };
 
+// The number that stands in so many bytes.
+uint64_t number_at(const uint8_t *bytes, size_t width);
+
+// Whether the bytes of an event are as laid out.
+bool event_sound(const uint8_t *bytes);
+
 // ADMITTED, or the number that reading or opening refuses a file by; and the margin that opening tells, 0 where reading
 // refuses.
 struct opening {

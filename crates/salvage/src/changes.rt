@@ -11,7 +11,7 @@ ghost use Prim.Native.Nat.{_≤_};
 ghost use Rattle.repair.specs.Pieces.{table-end-max};
 
 // A place for each event of a piece, and for a torn rest.
-const PLACES: usize = 257;
+const PLACES: usize = 4_097;
 
 // What is left of the trace, and whether there may be more of it.
 struct Printed {
@@ -46,7 +46,7 @@ pub(crate) fn print_changes(fd: i32, head: &[u8], taken: Taken, kept: usize) -> 
 
 // Reads a piece, and prints what is changed of it.
 fn print_piece(fd: i32, rest: Rest) -> Printed {
-    let mut piece = io::buffer();
+    let mut piece = io::large_buffer();
     let len = io::read_full(fd, &mut piece);
     let none = [0u64; 2];
     let mut changes = [none; PLACES];

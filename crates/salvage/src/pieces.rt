@@ -1,4 +1,4 @@
-// The old file's trace, which is read piece by piece. A piece of 4,096 bytes has whole events, and only the last is shorter.
+// The old file's trace, which is read piece by piece. A piece of 65,536 bytes has whole events, and only the last is shorter.
 use file::Event;
 use libc::SEEK_SET;
 ghost use Prim.Native.Nat.{_≤_, _*_};
@@ -44,7 +44,7 @@ fn gather_piece(fd: i32, room: usize, trace: &mut [u8]) -> Gathered
     requires { ⌜ event-size * events-max ≤ length (now trace) ⌝ }
     ensures { λ r. ⌜ r .room ≤ room ⌝ }
 {
-    let mut piece = io::buffer();
+    let mut piece = io::large_buffer();
     let len = io::read_full(fd, &mut piece);
     let filled = Event::SIZE * (Event::MOST - room);
     let kept = repair::keep(&piece[..len], room, &mut trace[filled..]);

@@ -9,10 +9,10 @@ abbrev Inv-loop : tie.InvT-loop
 Inv-loop fd piece len changes listed i₀ i = Unit
 
 abbrev μ-loop : tie.MeasureT-loop
-μ-loop fd piece len changes listed i₀ i = 257 - i
+μ-loop fd piece len changes listed i₀ i = 4_097 - i
 
-buffer-requires : tie.Need-buffer-requires Inv-loop μ-loop
-buffer-requires c κs = tt
+large-buffer-requires : tie.Need-large-buffer-requires Inv-loop μ-loop
+large-buffer-requires c κs = tt
 
 slice-aggregate-read-full : tie.Need-slice-aggregate-read-full Inv-loop μ-loop
 slice-aggregate-read-full c = search needs
@@ -62,7 +62,7 @@ print-piece-spec =
     (tie.spec
     Inv-loop
     μ-loop
-    buffer-requires
+    large-buffer-requires
     slice-aggregate-read-full
     read-full-requires
     array-share-prefix-piece

@@ -4,8 +4,8 @@ use Rattle.repair.proofs.Kept.{kept-few}
 use Rattle.salvage.proofs.pieces.gather_piece.Statement.{statement}
 use Rattle.salvage.proofs.pieces.gather_piece.Tie as tie
 
-buffer-requires : tie.Need-buffer-requires
-buffer-requires c κs = tt
+large-buffer-requires : tie.Need-large-buffer-requires
+large-buffer-requires c κs = tt
 
 slice-aggregate-read-full : tie.Need-slice-aggregate-read-full
 slice-aggregate-read-full c = search needs
@@ -52,7 +52,7 @@ pub gather-piece-spec : {M : Type 1} → statement M
 gather-piece-spec =
     tie.close
     (tie.spec
-    buffer-requires
+    large-buffer-requires
     slice-aggregate-read-full
     read-full-requires
     sub-filled

@@ -297,7 +297,7 @@ def mixture(index, seed):
 
 
 def examples():
-    for path in sorted(glob(os.path.join(ROOT, "examples", "*.session"))):
+    for path in sorted(glob(os.path.join(ROOT, "examples", "**", "*.session"), recursive=True)):
         with open(path, "rb") as file:
             yield Case(os.path.relpath(path, ROOT), file.read())
 

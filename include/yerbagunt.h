@@ -7,11 +7,12 @@
  *
  * - Pointers. A pointer is valid for the length beside it, a session's for a session, and a booking table's for a booking table.
  *   Where the length is 0 nothing is read or written, and the pointer may be null. Nowhere else may it be.
- * - No overlap. What one call is lent shares no byte. Only yerbagunt_write is lent two things, a trace and a buffer:
- *   with the trace inside the buffer it may answer 0 and leave there what no reader accepts.
- * - Alignment. A session, a booking table and the records of a table stand where C puts them, at a multiple of 8 bytes and of 4. Bytes stand anywhere.
- * - One thread at a time. Until a call returns, no other thread uses its session, its booking table or its buffer, nor writes what else it was lent.
- *   Different ones are used by different threads as you like: the library keeps nothing from one call to the next.
+ * - No overlap. What one call is lent shares no byte. Only yerbagunt_write, a trace and a buffer, and yerbagunt_salvage, an old file, a buffer and
+ *   a list, are lent more than one thing: with the trace or the old file inside the buffer they may answer 0 and leave there what no reader accepts.
+ * - Alignment. A session, a booking table and a list of changes stand where C puts them, at a multiple of 8 bytes, and the records of a table at
+ *   one of 4. Bytes stand anywhere.
+ * - One thread at a time. Until a call returns, no other thread uses its session, its booking table, its buffer or its list, nor writes what else it
+ *   was lent. Different ones are used by different threads as you like: the library keeps nothing from one call to the next.
  * - Stack. A call takes up to 16 KB of it. It takes no other memory.
  *
  * A session and a booking table are structs like any other: they may be moved and copied, and a copy goes on from where it was taken. */
@@ -24,9 +25,9 @@
 /* The version of this header and of its library. Another major number: the layout of a struct changed, or the answer to some input; read what
  * changed, and compile anew. Another minor number: something was added, and programs go on as they are. Another patch: neither.
  * The numbers of replies keep their meaning through all of them. */
-#define YERBAGUNT_VERSION "7.1.0"
+#define YERBAGUNT_VERSION "7.2.0"
 #define YERBAGUNT_VERSION_MAJOR 7
-#define YERBAGUNT_VERSION_MINOR 1
+#define YERBAGUNT_VERSION_MINOR 2
 #define YERBAGUNT_VERSION_PATCH 0
 
 #ifdef __cplusplus
@@ -51,10 +52,11 @@ extern "C" {
 #define YERBAGUNT_EVENT_SIZE 16
 #define YERBAGUNT_EVENTS_MAX 4000
 #define YERBAGUNT_ORDER_SIZE 4 /* of the third body of a file, which says the order */
+#define YERBAGUNT_SALVAGED_MAX 64106 /* of a file of two entries: no file that is salvaged is longer */
 
 /* The numbers of replies. Their meaning does not change. */
 enum yerbagunt_number {
-    YERBAGUNT_OK = 0,          /* opened, shown, told, read, written, begun, booked or finished */
+    YERBAGUNT_OK = 0,          /* opened, shown, told, read, written, salvaged, begun, booked or finished */
     YERBAGUNT_COUNT = 1,       /* no stream, or more than 8; of yerbagunt_add: a ninth */
     YERBAGUNT_WORST = 2,       /* W outside 1 to 1,000,000 */
     YERBAGUNT_SPAN = 3,        /* H outside 1,000 to 600,000,000 */
@@ -70,8 +72,8 @@ enum yerbagunt_number {
     YERBAGUNT_PAST = 13,       /* time below the clock */
     YERBAGUNT_END = 14,        /* a clock, or a deadline in a move, would pass 1,000,000,000,000 */
     YERBAGUNT_NOT_IN_SET = 15, /* index not in the set */
-    YERBAGUNT_LAYOUT = 16,     /* file or event not as laid out */
-    YERBAGUNT_ROOM = 17,       /* output buffer shorter than the file */
+    YERBAGUNT_LAYOUT = 16,     /* file or event not as laid out; of yerbagunt_salvage: no table to take */
+    YERBAGUNT_ROOM = 17,       /* output buffer shorter than the file; of yerbagunt_salvage also: list shorter than the changes */
     YERBAGUNT_LIMIT = 18,      /* the desk's own sum would pass its limit */
     YERBAGUNT_NO_BOOKING = 19, /* the desk has no stream of that number */
     YERBAGUNT_ARRIVED = 20,    /* value: queue length */
@@ -239,6 +241,28 @@ struct yerbagunt_written {
     uint64_t number, length;
 };
 
+/* What salvaging changed. */
+enum yerbagunt_kind {
+    YERBAGUNT_CONTENTS = 1, /* the contents table, the first 26 bytes, was rewritten */
+    YERBAGUNT_DROPPED = 2,  /* an event was dropped: it is not as laid out, or comes after the first 4,000 that are */
+    YERBAGUNT_CUT = 3       /* the tail was cut: fewer bytes than an event has */
+};
+
+/* A change, and where in the old file what it took away stands: contents at 0, an event's first byte, or the first byte of the tail. */
+struct yerbagunt_change {
+    uint64_t kind, position;
+};
+
+/* number 0, how long the file is and how many changes are listed; or 16 or 17 beside zeros. */
+struct yerbagunt_salvaged {
+    uint64_t number, length, changes;
+};
+
+YERBAGUNT_ASSERT(sizeof(struct yerbagunt_change) == 16, "change");
+YERBAGUNT_ASSERT(offsetof(struct yerbagunt_change, position) == 8, "change.position");
+YERBAGUNT_ASSERT(sizeof(struct yerbagunt_salvaged) == 24, "salvaged");
+YERBAGUNT_ASSERT(offsetof(struct yerbagunt_salvaged, changes) == 16, "salvaged.changes");
+
 /* Opens a session with W, H, k, the records of a table, of any length, and an order: 31 where the order is neither YERBAGUNT_NEAREST nor
  * YERBAGUNT_SWEEP, whatever the table is; 1 to 7.
  * A stream's granted budget g is e and k times W, where a k of 0 stands for 3. The load is the sum of g * (H / p)
@@ -307,6 +331,16 @@ struct yerbagunt_table yerbagunt_table(struct yerbagunt_bytes file);
  * and the third that reading it answered. */
 struct yerbagunt_written yerbagunt_write(struct yerbagunt_table table, struct yerbagunt_bytes trace, struct yerbagunt_buffer out, uint64_t order,
                                          uint64_t third);
+
+/* Salvages a broken session file: 16, 17. Of the old file it takes the table body that stands just after two entries, at 26, with its own count,
+ * and whole events from there to the end. At the start of the buffer it writes a sound file of two entries, of that table and of the first 4,000
+ * events that are as laid out; and at the start of the list, which has so many places, each change, in order of position. What is behind the file
+ * and behind the list stays as it was. A file of two entries that yerbagunt_read accepts comes out equal, with no change, and so does one that was
+ * salvaged. The numbers of the table are not judged; opening judges those.
+ * 16: the first two bytes say 3, the count is above 8, or the table is cut short. 17: the file or the list does not fit. With a buffer of
+ * YERBAGUNT_SALVAGED_MAX bytes, or as long as the old file, and a place for every 16 bytes of the old file, rounded down, there is no 17.
+ * The list is lent by two arguments: the library does not take a third slice where C puts a struct. */
+struct yerbagunt_salvaged yerbagunt_salvage(struct yerbagunt_bytes old, struct yerbagunt_buffer out, struct yerbagunt_change *changes, size_t places);
 
 /* Two booking desks, 1 and 2, on one table, before it is opened. Each has a limit on the sum of g * (H / p) over its own streams, without the last
  * term of the load, and counts its own streams from 1 in order of booking. What a desk is told depends on its own streams and limit, the number of

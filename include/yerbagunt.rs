@@ -8,12 +8,14 @@
 use core::mem::offset_of;
 
 /// The version of this wrapper and its library, that of `yerbagunt.h`.
-pub const VERSION: &str = "7.1.0";
+pub const VERSION: &str = "7.2.0";
 
 pub const STREAMS_MAX: usize = 8;
 pub const QUEUE_MAX: usize = 16;
 /// Of the third body of a session file, which says the order.
 pub const ORDER_SIZE: u64 = 4;
+/// No file that is salvaged is longer.
+pub const SALVAGED_MAX: usize = 64106;
 
 /// The numbers of replies, as in `yerbagunt.h`.
 pub mod number {
@@ -48,6 +50,16 @@ pub mod number {
     pub const LATE: u64 = 28;
     pub const NO_DESK: u64 = 30;
     pub const UNSOUND: u64 = 31;
+}
+
+/// What salvaging changed.
+pub mod kind {
+    /// The contents table, the first 26 bytes, was rewritten.
+    pub const CONTENTS: u64 = 1;
+    /// An event was dropped: it is not as laid out, or comes after the first 4,000 that are.
+    pub const DROPPED: u64 = 2;
+    /// The tail was cut: fewer bytes than an event has.
+    pub const CUT: u64 = 3;
 }
 
 /// The order in which a turn takes requests. It chooses among those of the set that belong to the streams with the earliest deadline; of requests
@@ -193,6 +205,27 @@ pub struct File {
 const _: () = assert!(size_of::<Order>() == 8 && Order::Nearest as u64 == 0 && Order::Sweep as u64 == 1);
 const _: () = assert!(size_of::<File>() == 56 && offset_of!(File, order) == 40 && offset_of!(File, third) == 48);
 
+/// A change, and where in the old file what it took away stands: contents at 0, an event's first byte, or the first byte of the tail.
+#[repr(C)]
+#[derive(Clone, Copy, Debug, Default, PartialEq, Eq)]
+pub struct Change {
+    /// A number of `kind`.
+    pub kind: u64,
+    pub position: u64,
+}
+
+/// How long the file is that was salvaged, and how many changes are listed.
+#[repr(C)]
+#[derive(Clone, Copy, Debug, PartialEq, Eq)]
+pub struct Salvaged {
+    pub number: u64,
+    pub length: u64,
+    pub changes: u64,
+}
+
+const _: () = assert!(size_of::<Change>() == 16 && offset_of!(Change, position) == 8);
+const _: () = assert!(size_of::<Salvaged>() == 24 && offset_of!(Salvaged, changes) == 16);
+
 #[repr(C)]
 struct Opening {
     number: u64,
@@ -270,7 +303,8 @@ const _: () = assert!(size_of::<Desk>() == 80 && offset_of!(Desk, count) == 8 &&
 const _: () = assert!(size_of::<Book>() == 176 && offset_of!(Book, desks) == 16 && size_of::<Receipt>() == 16);
 const _: () = assert!(size_of::<Finished>() == 80 && offset_of!(Finished, records) == 8 && offset_of!(Finished, count) == 72);
 
-// A slice as it crosses: its pointer and its length.
+// A slice as it crosses: its pointer and its length. Where one register is left for both, a struct of them would go elsewhere, so that a third
+// slice crosses as two arguments.
 #[repr(C)]
 struct Lent<T> {
     start: *const T,
@@ -285,6 +319,10 @@ struct LentMut<T> {
 
 fn lent<T>(slice: &[T]) -> Lent<T> {
     Lent { start: slice.as_ptr(), length: slice.len() }
+}
+
+fn lent_mut<T>(slice: &mut [T]) -> LentMut<T> {
+    LentMut { start: slice.as_mut_ptr(), length: slice.len() }
 }
 
 #[link(name = "shelf", kind = "static")]
@@ -302,6 +340,7 @@ unsafe extern "C" {
     fn yerbagunt_read(file: Lent<u8>) -> File;
     fn yerbagunt_table(file: Lent<u8>) -> Table;
     fn yerbagunt_write(table: Table, trace: Lent<u8>, out: LentMut<u8>, order: Order, third: u64) -> Written;
+    fn yerbagunt_salvage(old: Lent<u8>, out: LentMut<u8>, changes: *mut Change, places: usize) -> Salvaged;
     fn yerbagunt_begin(book: &mut Book, worst: u32, span: u32, padding: u32, limit1: u64, limit2: u64) -> Receipt;
     fn yerbagunt_add(book: &mut Book, desk: u64, reserved: u32, period: u32) -> Receipt;
     fn yerbagunt_withdraw(book: &mut Book, desk: u64, number: u64) -> Receipt;
@@ -424,7 +463,14 @@ pub fn read(file: &[u8]) -> Result<(File, Table), u64> {
 /// entries, and no place for an order but nearest; with `ORDER_SIZE` it has three, and says its order; any other is 16. With the order and the
 /// `third` of a `File` it is written again byte for byte.
 pub fn write(table: Table, trace: &[u8], out: &mut [u8], order: Order, third: u64) -> Result<u64, u64> {
-    let out = LentMut { start: out.as_mut_ptr(), length: out.len() };
-    let written = unsafe { yerbagunt_write(table, lent(trace), out, order, third) };
+    let written = unsafe { yerbagunt_write(table, lent(trace), lent_mut(out), order, third) };
     if written.number == number::OK { Ok(written.length) } else { Err(written.number) }
+}
+
+/// Salvages a broken session file: writes a sound one of what is sound in it at the start of a buffer, and lists each change, in order of position,
+/// at the start of a list; or 16 or 17, as `yerbagunt_salvage` of `yerbagunt.h` says. With a buffer of `SALVAGED_MAX` bytes, or as long as the
+/// old file, and `old.len() / 16` places there is no 17.
+pub fn salvage(old: &[u8], out: &mut [u8], changes: &mut [Change]) -> Result<Salvaged, u64> {
+    let salvaged = unsafe { yerbagunt_salvage(lent(old), lent_mut(out), changes.as_mut_ptr(), changes.len()) };
+    if salvaged.number == number::OK { Ok(salvaged) } else { Err(salvaged.number) }
 }

@@ -19,6 +19,35 @@ static struct yerbagunt_written written(const uint8_t *from, size_t length, uint
     return yerbagunt_write(table, (struct yerbagunt_bytes){from, length}, (struct yerbagunt_buffer){out, room}, YERBAGUNT_SWEEP, YERBAGUNT_ORDER_SIZE);
 }
 
+/* The file of that table and trace with two entries, of which the contents and the turn are broken, and a torn event behind it: three changes. */
+#define BROKEN_LENGTH 91
+#define SALVAGED_LENGTH 74
+#define CHANGES 3
+
+static void make_broken(uint8_t *file)
+{
+    yerbagunt_write(table, (struct yerbagunt_bytes){trace, sizeof trace}, (struct yerbagunt_buffer){file, BROKEN_LENGTH - 1}, YERBAGUNT_NEAREST, 0);
+    file[2] = file[75] = file[90] = 7;
+}
+
+static struct yerbagunt_salvaged salvaged(const uint8_t *old, size_t length, uint8_t *out, size_t room, struct yerbagunt_change *list, size_t places)
+{
+    return yerbagunt_salvage((struct yerbagunt_bytes){old, length}, (struct yerbagunt_buffer){out, room}, list, places);
+}
+
+/* The broken file is salvaged: its arrival is kept, and its changes are listed. */
+static void hold_salvaged(const uint8_t *old, uint8_t *out, struct yerbagunt_change *list, unsigned long at)
+{
+    static const struct yerbagunt_change expected[CHANGES] = {{YERBAGUNT_CONTENTS, 0}, {YERBAGUNT_DROPPED, 74}, {YERBAGUNT_CUT, 90}};
+    uint8_t broken[BROKEN_LENGTH], kept[SALVAGED_LENGTH];
+    make_broken(broken);
+    yerbagunt_write(table, (struct yerbagunt_bytes){trace, 16}, (struct yerbagunt_buffer){kept, sizeof kept}, YERBAGUNT_NEAREST, 0);
+    struct yerbagunt_salvaged s = salvaged(old, BROKEN_LENGTH, out, SALVAGED_LENGTH, list, CHANGES);
+    hold(s.number == YERBAGUNT_OK && s.length == sizeof kept && s.changes == CHANGES, "a broken file is salvaged", at);
+    hold(memcmp(out, kept, sizeof kept) == 0 && memcmp(list, expected, sizeof expected) == 0, "what is kept of it is written, and what is not is listed", at);
+    hold(memcmp(old, broken, sizeof broken) == 0, "the old file is as it was", at);
+}
+
 /* At every other horizon the second stream is owed half a microsecond beside whole ones. */
 static const struct yerbagunt_reservation records[2] = {{25000, 250000}, {175001, 500000}};
 
@@ -114,6 +143,24 @@ static void nothing_lent(void)
     }
 }
 
+/* The same of salvaging, of each of its three. */
+static void nothing_salvaged(void)
+{
+    static uint8_t file[BROKEN_LENGTH], out[BROKEN_LENGTH];
+    static struct yerbagunt_change list[CHANGES];
+    uint8_t *const pointers[] = {NULL, (uint8_t *)4, (uint8_t *)-1, out};
+    for (size_t i = 0; i < sizeof pointers / sizeof pointers[0]; i++) {
+        uint8_t *p = pointers[i];
+        make_broken(file);
+        hold(salvaged(p, 0, p, 0, (void *)p, 0).number == YERBAGUNT_LAYOUT, "of no bytes nothing is salvaged", i);
+        hold(salvaged(file, sizeof file, p, 0, list, CHANGES).number == YERBAGUNT_ROOM, "no file fits in no room", i);
+        hold(salvaged(file, sizeof file, out, sizeof out, (void *)p, 0).number == YERBAGUNT_ROOM, "no change fits in no place", i);
+        hold_salvaged(file, out, list, i);
+        memcpy(file, out, SALVAGED_LENGTH);
+        hold(salvaged(file, SALVAGED_LENGTH, out, sizeof out, (void *)p, 0).length == SALVAGED_LENGTH, "a sound file takes no place", i);
+    }
+}
+
 /* No overlap: a trace right before its buffer, and right behind it. */
 static void side_by_side(void)
 {
@@ -129,7 +176,23 @@ static void side_by_side(void)
     }
 }
 
-/* Alignment: a session and a booking table at a multiple of 8 and no more, records at one of 4, bytes anywhere. */
+/* An old file, its buffer and its list in a row, either way. */
+static void in_a_row(void)
+{
+    static _Alignas(8) struct {
+        uint8_t unused[3], first[BROKEN_LENGTH], out[SALVAGED_LENGTH];
+        struct yerbagunt_change list[CHANGES];
+        uint8_t other[SALVAGED_LENGTH], behind[BROKEN_LENGTH];
+    } row;
+    make_broken(row.first);
+    make_broken(row.behind);
+    hold_salvaged(row.first, row.out, row.list, 0);
+    memset(row.list, 0, sizeof row.list);
+    hold_salvaged(row.behind, row.other, row.list, 1);
+    hold(memcmp(row.first, row.behind, BROKEN_LENGTH) == 0 && memcmp(row.out, row.other, SALVAGED_LENGTH) == 0, "what stands beside is as it was", 0);
+}
+
+/* Alignment: a session, a booking table and a list of changes at a multiple of 8 and no more, records at one of 4, bytes anywhere. */
 static void alignment(void)
 {
     static _Alignas(64) struct {
@@ -162,6 +225,16 @@ static void alignment(void)
         hold(memcmp(file + 64 - at, even, FILE_LENGTH) == 0, "the file is the same anywhere", at);
         struct yerbagunt_bytes bytes = {file + 64 - at, FILE_LENGTH};
         hold(yerbagunt_read(bytes).events == 2 && yerbagunt_table(bytes).period[1] == 500000, "a file is read anywhere", at);
+    }
+
+    static _Alignas(64) struct {
+        uint64_t before;
+        struct yerbagunt_change changes[CHANGES];
+    } list;
+    static _Alignas(64) uint8_t old[64 + BROKEN_LENGTH], out[64 + SALVAGED_LENGTH];
+    for (size_t at = 0; at < 64; at++) {
+        make_broken(old + at);
+        hold_salvaged(old + at, out + 64 - at, list.changes, at);
     }
 }
 
@@ -264,6 +337,10 @@ static void *every_call(void *file)
     hold(written(trace, sizeof trace, file, FILE_LENGTH).number == YERBAGUNT_OK, "a file is written", 0);
     hold(yerbagunt_read((struct yerbagunt_bytes){file, FILE_LENGTH}).number == YERBAGUNT_OK, "a file is read", 0);
     hold(yerbagunt_table((struct yerbagunt_bytes){file, FILE_LENGTH}).count == 2, "its table is read", 0);
+    static uint8_t old[BROKEN_LENGTH], out[SALVAGED_LENGTH];
+    static struct yerbagunt_change list[CHANGES];
+    make_broken(old);
+    hold_salvaged(old, out, list, 0);
     return NULL;
 }
 
@@ -292,7 +369,9 @@ static void stack(void)
 int main(void)
 {
     nothing_lent();
+    nothing_salvaged();
     side_by_side();
+    in_a_row();
     alignment();
     threads();
     not_judged();

@@ -62,6 +62,18 @@ static void files()
     hold(yerbagunt_write(table, yerbagunt_bytes{nullptr, 0}, buffer, parts.order, parts.third).number == number, "a number has a type", 0);
 }
 
+static void salvages()
+{
+    static uint8_t old[59], out[YERBAGUNT_SALVAGED_MAX];
+    yerbagunt_table table = {25000, 1000000, 1, 2, {25000, 175000}, {250000, 500000}};
+    hold(yerbagunt_write(table, yerbagunt_bytes{nullptr, 0}, yerbagunt_buffer{old, 58}, YERBAGUNT_NEAREST, 0).length == 58, "a file of two entries is written", 0);
+    yerbagunt_change changes[3];
+    yerbagunt_salvaged salvaged = yerbagunt_salvage(yerbagunt_bytes{old, sizeof old}, yerbagunt_buffer{out, sizeof out}, changes, 3);
+    yerbagunt_kind kind = YERBAGUNT_CUT;
+    hold(salvaged.number == YERBAGUNT_OK && salvaged.length == 58 && salvaged.changes == 1, "a file is salvaged", 0);
+    hold(changes[0].kind == kind && changes[0].position == 58, "a change has a kind and a position", 0);
+}
+
 static void bookings()
 {
     yerbagunt_book book;
@@ -81,6 +93,7 @@ int main()
     calls();
     shown();
     files();
+    salvages();
     bookings();
     printf("%lu facts, %lu wrong\n", held, wrong);
     return wrong != 0;

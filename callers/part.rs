@@ -1,7 +1,7 @@
 //! Uses a part of the wrapper, which is copied beside this file as a product copies it.
 mod yerbagunt;
 
-use yerbagunt::{Book, ORDER_SIZE, Order, Refusal, Reservation, Session, Table, read, write};
+use yerbagunt::{Book, Change, ORDER_SIZE, Order, Refusal, Reservation, Session, Table, kind, read, salvage, write};
 
 fn opened(order: Order, reserved: u32) -> Result<Session, Refusal> {
     Session::open(25000, 1000000, 1, &[Reservation { reserved, period: 1000000 }], order)
@@ -18,15 +18,26 @@ fn sent_from_500(order: Order) -> u64 {
     session.turn().value
 }
 
+const EMPTY: Table = Table { worst: 25000, span: 1000000, padding: 1, count: 0, reserved: [0; 8], period: [0; 8] };
+const TURN: [u8; 16] = [2, 0, 0, 0, 0, 0, 0, 0, 0, 0, 0, 0, 0, 0, 0, 0];
+
 /// What is read of a file with one turn, and whether it is written again byte for byte; or 16.
 fn there_and_back(order: Order, third: u64) -> Result<(Order, u64, bool), u64> {
-    let empty = Table { worst: 25000, span: 1000000, padding: 1, count: 0, reserved: [0; 8], period: [0; 8] };
-    let turn = [2, 0, 0, 0, 0, 0, 0, 0, 0, 0, 0, 0, 0, 0, 0, 0];
     let (mut out, mut again) = ([0; 80], [0; 80]);
-    let length = write(empty, &turn, &mut out, order, third)?;
+    let length = write(EMPTY, &TURN, &mut out, order, third)?;
     let (file, table) = read(&out[..length as usize])?;
     write(table, &out[file.start as usize..file.end as usize], &mut again, file.order, file.third)?;
     Ok((file.order, file.third, out == again))
+}
+
+/// What is changed of a file with one turn of which a byte is another, and which has one too many; and what is read of what comes out; or 16 or 17.
+fn salvaged(byte: usize, room: usize, places: usize) -> Result<(Vec<Change>, u64), u64> {
+    let (mut old, mut out, mut changes) = ([0; 59], vec![0; room], vec![Change::default(); places]);
+    write(EMPTY, &TURN, &mut old, Order::Nearest, 0)?;
+    old[byte] = 3;
+    let told = salvage(&old, &mut out, &mut changes)?;
+    changes.truncate(told.changes as usize);
+    Ok((changes, read(&out[..told.length as usize])?.0.events))
 }
 
 /// What two desks are told, and what comes of their table when it is opened.
@@ -75,4 +86,9 @@ fn main() {
     for (order, third) in [(Order::Nearest, 0), (Order::Nearest, ORDER_SIZE), (Order::Sweep, ORDER_SIZE), (Order::Sweep, 0)] {
         println!("a file of {order:?} and {third}: {:?}", there_and_back(order, third));
     }
+
+    for (byte, room, places) in [(2, 58, 2), (58, 58, 1), (57, 42, 3), (0, 59, 3), (2, 57, 2), (2, 58, 1)] {
+        println!("another byte at {byte}, and room for {room} and {places}: {:?}", salvaged(byte, room, places));
+    }
+    println!("kinds {:?}", [kind::CONTENTS, kind::DROPPED, kind::CUT]);
 }

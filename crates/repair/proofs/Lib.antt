@@ -13,4 +13,5 @@ pub mod Rising
 pub mod Places
 pub mod Joined
 pub mod Head
+pub mod Piecewise
 pub mod Worked

@@ -10,7 +10,7 @@ use Rattle.table.specs.Fold.{if, listTo}
 use Rattle.order.specs.declared.Order.{Order}
 use Rattle.order.specs.declared.Order.the-variants.{Nearest}
 use Rattle.cells.specs.Cells.{numberAt, Bytes}
-use Rattle.file.specs.File.{events-max, event-size, traceOf}
+use Rattle.file.specs.File.{events-max, event-size, traceOf, fileOf}
 use Rattle.file.specs.Reading.{eventsIn, eventAt, formed, traceStart, traceIn, tableIn, hasContents, readOf}
 use Rattle.file.specs.declared.form.Form.the-variants.{Two}
 use Rattle.file.specs.declared.event.Event.{Event}
@@ -205,6 +205,17 @@ PiecesAreWhole =
     → ((room : ℕ) → keptBy room pieces last ≡ keptOf room (joined pieces last))
     × ((room : ℕ) → countBy room pieces last ≡ keptCount room (joined pieces last))
     × ((rest : Rest) → listedBy rest pieces last ≡ changesIn rest (joined pieces last))
+
+-- So what is made of an old file that is read in pieces, from its first bytes and the pieces of its trace, is what is made of it whole: the new file and the list. The first bytes are 106 or more, or all that there are.
+abbrev pub InPiecesAsWhole : Type 0
+InPiecesAsWhole =
+    (head more : List ℕ) (pieces : Pieces) (last : List ℕ) → (table-end-max ≤ length head) ⊎ (more ≡ []) → isSalvageable head ≡ true
+    → Whole pieces → drop (takenOf head .start) (head ++ more) ≡ joined pieces last
+    → let old = head ++ more in
+    let kept = countBy events-max pieces last in
+    (isSalvageable old ≡ true)
+    × (fileOf Two Nearest (tableIn head) (keptBy events-max pieces last) ≡ salvagedFile old)
+    × ((if (hasContents Two head (takenOf head .count) kept) [] (contentsChange ∷ [])) ++ listedBy (record { at = takenOf head .start; room = events-max }) pieces last ≡ changesOf old)
 
 -- A piece is listed whole where there is a place for each of its events and for a torn rest, as long as it ends within 63 bits.
 abbrev pub PieceIsListed : Type 0

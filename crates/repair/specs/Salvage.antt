@@ -16,11 +16,12 @@ use Rattle.repair.specs.declared.Salvaged.{Salvaged}
 
 -- ---- what is taken of an old file
 
+-- a file is of two entries unless it says 3
 abbrev pub isTwo : Form → Bool
 isTwo Two = true
 isTwo Three = false
 
--- "If the count is above 8, the table is cut short or the first two bytes say 3 it refuses." Where they say anything else, "The tool takes the table body from the place just after two entries, uses its own count": a file is read so that does not say 3.
+-- "If the count is above 8, the table is cut short or the first two bytes say 3 it refuses." Else "The tool takes the table body from the place just after two entries, uses its own count, and takes whole events from there to the end": as reading does, whose table body and trace these are.
 unfoldable pub isSalvageable : List ℕ → Bool
 isSalvageable old = isTwo (formIn old) && isOutlined old
 
@@ -69,17 +70,6 @@ droppedAt position = record { kind = 2; position = position }
 abbrev pub cutAt : ℕ → Change
 cutAt position = record { kind = 3; position = position }
 
--- a change as two numbers: its kind, and its position
-abbrev pub pairOf : Change → List ℕ
-pairOf change = change .kind ∷ change .position ∷ []
-
-abbrev pub changeOf : List ℕ → Change
-changeOf pair = record { kind = getD pair 0 0; position = getD pair 1 0 }
-
--- changes, as pairs, at the start of a list; what stood behind them stays
-abbrev pub putOn : List Change → List (List ℕ) → List (List ℕ)
-putOn changes list = map pairOf changes ++ drop (length changes) list
-
 -- "(once, at 0, if any of the 26 bytes changes)": they stay where they are the contents table of the file that is written
 unfoldable pub contentsStay : List ℕ → Bool
 contentsStay old = hasContents Two old (countIn old) (keptCount events-max (traceIn old))
@@ -110,6 +100,17 @@ unfoldable pub salvageRefusal : List ℕ → ℕ → ℕ → ℕ
 salvageRefusal old bytes places =
     given (not (isSalvageable old)) 16
     or-next given (ltb bytes (length (salvagedFile old)) || ltb places (length (changesOf old))) 17
+
+-- a change as two numbers: its kind, and its position
+abbrev pub pairOf : Change → List ℕ
+pairOf change = change .kind ∷ change .position ∷ []
+
+abbrev pub changeOf : List ℕ → Change
+changeOf pair = record { kind = getD pair 0 0; position = getD pair 1 0 }
+
+-- changes, as pairs, at the start of a list; what stood behind them stays
+abbrev pub putOn : List Change → List (List ℕ) → List (List ℕ)
+putOn changes list = map pairOf changes ++ drop (length changes) list
 
 -- how long the file is and how many changes are listed, and 0; or the refusal, and zeros
 unfoldable pub salvageOf : List ℕ → List ℕ → List (List ℕ) → Salvaged

@@ -1,6 +1,6 @@
 // What is printed of a file that is salvaged: its changes, a line each.
 use crate::pieces::go_to;
-use crate::pieces::has_failed;
+use crate::pieces::is_at_end;
 use crate::say::print;
 use file::Event;
 use file::Form;
@@ -41,7 +41,7 @@ pub(crate) fn print_changes(fd: i32, head: &[u8], taken: Taken, kept: usize) -> 
         printed = print_piece(fd, rest);
         turns -= 1;
     }
-    !has_failed(fd)
+    is_at_end(fd)
 }
 
 // Reads a piece, and prints what is changed of it.

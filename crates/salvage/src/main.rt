@@ -9,7 +9,7 @@ use file::Form;
 use file::Writing;
 use order::Order;
 use pieces::gather;
-use pieces::has_failed;
+use pieces::is_at_end;
 use repair::Taken;
 use say::print;
 use say::say;
@@ -60,8 +60,10 @@ fn salvage_as(old: &[u8], new: &[u8]) {
 fn salvage_open(fd: i32, new: &[u8]) -> bool {
     let mut head = io::buffer();
     let len = io::read_full(fd, &mut head);
-    if has_failed(fd) {
-        return false;
+    if len < head.len() {
+        if !is_at_end(fd) {
+            return false;
+        }
     }
     let taken = repair::take(&head[..len]);
     if taken.number != 0 {

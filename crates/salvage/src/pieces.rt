@@ -34,7 +34,8 @@ pub(crate) fn gather(fd: i32, start: usize, trace: &mut [u8]) -> Gathered
         gathered = gather_piece(fd, gathered.room, trace);
         turns -= 1;
     }
-    gathered.failed = has_failed(fd);
+    let ended = is_at_end(fd);
+    gathered.failed = (gathered.room > 0) & !ended;
     gathered
 }
 
@@ -63,8 +64,8 @@ pub(crate) fn go_to(fd: i32, start: usize) -> bool
     libc::lseek(fd, start as i64, SEEK_SET) >= 0
 }
 
-// Where a read failed, at once as of a folder or later, one more read fails too, and shows it.
-pub(crate) fn has_failed(fd: i32) -> bool {
+// Whether the file was read to its end: one more read has nothing. Where a read failed, at once as of a folder or later, one more fails too or reads on.
+pub(crate) fn is_at_end(fd: i32) -> bool {
     let mut one = [0u8; 1];
-    libc::read(fd, &mut one) < 0
+    libc::read(fd, &mut one) == 0
 }

@@ -13,8 +13,8 @@ slice-aggregate-read-full c = search needs
 read-full-requires : tie.Need-read-full-requires
 read-full-requires c κs = search needs
 
-has-failed-requires : tie.Need-has-failed-requires
-has-failed-requires c κs = search needs
+is-at-end-requires : tie.Need-is-at-end-requires
+is-at-end-requires c κs = search needs
 
 returns : tie.Need-returns
 returns c = search needs
@@ -56,7 +56,7 @@ salvage-open-spec =
     buffer-requires
     slice-aggregate-read-full
     read-full-requires
-    has-failed-requires
+    is-at-end-requires
     returns
     array-share-prefix-head
     slice-aggregate-take

@@ -42,8 +42,8 @@ loop-less c = omega arith
 loop-again : tie.Need-loop-again Inv-loop μ-loop
 loop-again c = tt
 
-has-failed-requires : tie.Need-has-failed-requires Inv-loop μ-loop
-has-failed-requires c κs = tt
+is-at-end-requires : tie.Need-is-at-end-requires Inv-loop μ-loop
+is-at-end-requires c κs = tt
 
 returns-2 : tie.Need-returns-2 Inv-loop μ-loop
 returns-2 c = tt
@@ -65,5 +65,5 @@ print-changes-spec =
     sub-turns
     loop-less
     loop-again
-    has-failed-requires
+    is-at-end-requires
     returns-2)

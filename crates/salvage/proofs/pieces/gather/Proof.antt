@@ -39,14 +39,14 @@ loop-again c =
     let loop = c .before .before .before .before .before .before .loop in
     (piece .kept .1 .1 .0 ∙ loop .inv .0, omega (arith, piece .ensures, loop .inv .1))
 
-has-failed-requires : tie.Need-has-failed-requires Inv-loop μ-loop
-has-failed-requires c κs = tt
+is-at-end-requires : tie.Need-is-at-end-requires Inv-loop μ-loop
+is-at-end-requires c κs = tt
 
 same-length : tie.Need-same-length Inv-loop μ-loop
-same-length c = c .before .before .loop .inv .0
+same-length c = c .before .before .before .loop .inv .0
 
 returns-2 : tie.Need-returns-2 Inv-loop μ-loop
-returns-2 c = c .before .before .loop .inv .1
+returns-2 c = c .before .before .before .loop .inv .1
 
 pub gather-spec : {M : Type 1} → statement M
 gather-spec =
@@ -61,6 +61,6 @@ gather-spec =
     sub-turns
     loop-less
     loop-again
-    has-failed-requires
+    is-at-end-requires
     same-length
     returns-2)

@@ -39,6 +39,7 @@ pub record Outline (file : List ℕ) (form : Form) (count start end : ℕ) : Typ
   pub end-is : traceEnd file ≡ end
   pub count-high : countAt file (startIn file) ≤ 8
   pub long : traceStart file + thirdLength (formIn file) ≤ length file
+  pub holds : isOutlined file ≡ true
 
 chosen : (b : Bool) {f form : Form} {n s e count start end : ℕ}
     → if b (Outlined f n s e) (Unfit 16) ≡ Outlined form count start end → (b ≡ true) × (f ≡ form) × (n ≡ count) × (s ≡ start) × (e ≡ end)
@@ -59,6 +60,7 @@ outline-is file form count start end h =
       end-is = q .4;
       count-high = leb-true _ _ (b .0);
       long = leb-true _ _ (b .1);
+      holds = q .0;
     }
 
 unchosen : (b : Bool) (f : Form) (n s e : ℕ) {m : ℕ} → if b (Outlined f n s e) (Unfit 16) ≡ Unfit m → (b ≡ false) × (m ≡ 16)
@@ -66,22 +68,15 @@ unfolding if
 unchosen true f n s e h = absurd (let never : _≡_ {A = ℕ} 0 1 = cc in omega arith)
 unchosen false f n s e h = (refl, cc)
 
+-- and what says that there is none
+pub no-outline : (file : List ℕ) (n : ℕ) → outlineOf file ≡ Unfit n → (isOutlined file ≡ false) × (n ≡ 16)
+unfolding outlineOf
+no-outline file n h = unchosen (isOutlined file) _ _ _ _ h
+
 -- what has no outline is not laid out, and is refused by the same number
 not-laid : (file : List ℕ) → isOutlined file ≡ false → isLaidOut file ≡ false
 unfolding isLaidOut
 not-laid file e = rw e
 
 pub unfit-is-refused : (file : List ℕ) (n : ℕ) → outlineOf file ≡ Unfit n → Refused n ≡ readOf file
-unfolding outlineOf
-unfit-is-refused file n h =
-    let q = unchosen (isOutlined file) _ _ _ _ h in
-    rw (q .1, read-refused file (not-laid file (q .0)))
-
--- whether there is an outline
-pub is-outline : (file : List ℕ) (form : Form) (count start end : ℕ) → outlineOf file ≡ Outlined form count start end → isOutlined file ≡ true
-unfolding outlineOf
-is-outline file form count start end h = chosen (isOutlined file) h .0
-
-pub no-outline : (file : List ℕ) (n : ℕ) → outlineOf file ≡ Unfit n → isOutlined file ≡ false
-unfolding outlineOf
-no-outline file n h = unchosen (isOutlined file) _ _ _ _ h .0
+unfit-is-refused file n h = let q = no-outline file n h in rw (q .1, read-refused file (not-laid file (q .0)))

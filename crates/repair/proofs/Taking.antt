@@ -9,7 +9,7 @@ use Rattle.file.specs.Reading.{formIn, traceStart, isOutlined, outlineOf}
 use Rattle.file.specs.declared.form.Form.{Form}
 use Rattle.file.specs.declared.form.Form.the-variants.{Two, Three}
 use Rattle.file.specs.declared.outline.Outline.the-variants.{Outlined, Refused}
-use Rattle.file.proofs.Outlines.{outline-is, is-outline, no-outline}
+use Rattle.file.proofs.Outlines.{outline-is, no-outline}
 use Rattle.repair.specs.Salvage.{isTwo, isSalvageable, countIn}
 use Rattle.repair.specs.Pieces.{takenOf}
 use Rattle.repair.specs.declared.Taken.{Taken}
@@ -34,7 +34,7 @@ module _ (old : List ℕ) where
       → record { number = 0; count = count; start = start } ≡ takenOf old
   two-taken count start end h =
       let q = outline-is old Two count start end h in
-      rw (← q .count-is, ← q .start-is) (sym (taken-where (fine-of Two (q .form-is) ∙ is-outline old _ _ _ _ h)))
+      rw (← q .count-is, ← q .start-is) (sym (taken-where (fine-of Two (q .form-is) ∙ q .holds)))
 
   pub three-untaken : (count start end : ℕ) → outlineOf old ≡ Outlined Three count start end → untaken ≡ takenOf old
   three-untaken count start end h = let q = outline-is old Three count start end h in sym (taken-not (fine-of Three (q .form-is)))
@@ -43,7 +43,7 @@ module _ (old : List ℕ) where
   unfit-untaken n h = sym (taken-not (go (formIn old) refl))
     where
       go : (form : Form) → formIn old ≡ form → isSalvageable old ≡ false
-      go Two e = fine-of Two e ∙ no-outline old n h
+      go Two e = fine-of Two e ∙ no-outline old n h .0
       go Three e = fine-of Three e
 
   -- and back again: the number says whether there is something to salvage, and where

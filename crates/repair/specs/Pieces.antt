@@ -26,7 +26,7 @@ takenOf old =
     (record { number = 0; count = countIn old; start = traceStart old })
     (record { number = 16; count = 0; start = 0 })
 
--- what is changed of a piece, where the rest of the trace starts and how many of its events may still be kept is known
+-- what is changed of a piece, by where the rest of the trace starts and how many of its events may still be kept
 abbrev pub changesIn : Rest → List ℕ → List Change
 changesIn rest piece = traceChanges (rest .room) (rest .at) piece
 

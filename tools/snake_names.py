@@ -114,6 +114,28 @@ def main():
             if new != bare:
                 table[bare] = new
                 where.setdefault(bare, set()).add(path)
+    # Two names of one file that would be one: the lemma, which has a dash, gets `_lem` everywhere.
+    together = True
+    while together:
+        together = set()
+        for path in files(".antt", ".rt"):
+            text = read(path)
+            own, other = imports(text)
+            held = {n for it in other for n in (it, it.strip("◌"))} - own
+            if path.endswith(".rt"):
+                present = own
+            else:
+                present = set(TOKEN.findall(re.sub(r"(?<=[\w)'])\.[\w'-]+|^ *(?:pub )?use [^{\n]*", "", re.sub(r"--.*", "", text), flags=re.M)))
+            news = {}
+            for token in present:
+                bare = token.strip("◌")
+                if is_proof(path) and bare not in own:
+                    continue
+                news.setdefault(bare if bare in held else table.get(bare, bare), set()).add(bare)
+            together |= {it for olds in news.values() if len(olds) > 1 for it in olds if "-" in it and it in table}
+        for it in together:
+            table[it] += "_lem"
+            print(f"{it}: {table[it]}")
     clash = []
     for path, names in modules.items():
         byname = {}
@@ -144,6 +166,8 @@ def main():
             if is_proof(path) and re.search(r"(?:^|[^\w.'-])(?:tie|goal|Goals)\.$", before[-12:]):
                 return token
             new = token.replace(bare, table[bare])
+            if before[-1:] == "." and new.endswith("_lem"):
+                new = new[: -len("_lem")]
             if new in present:
                 clash.append(f"{path}: {token} would be {new}, which is there already")
             return new

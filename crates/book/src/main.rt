@@ -1,4 +1,6 @@
 // Reads a file of bookings from standard input, and prints the reply to each line, and then the finished table as notes. Of a file with a line that may not stand where it stands it says so on standard error, and prints nothing.
+#![tactic(auto)]
+
 ghost use Rattle.std.specs.Prelude.{◌≤◌, length};
 ghost use Rattle.listing.specs.Line.{Within};
 

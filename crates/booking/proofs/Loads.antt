@@ -13,7 +13,7 @@ use Rattle.table.specs.declared.reservations.Reservation.{Reservation}
 use Rattle.table.proofs.Folds.{smallest_is, smallest_agree}
 use Rattle.table.proofs.Elements.{Each}
 use Rattle.table.proofs.Judged.{stream_of}
-use Rattle.booking.proofs.Streams.{EachFits, shares, shares_are, period_at}
+use Rattle.booking.proofs.Streams.{EachFits, shares, shares_are, period_at_lem}
 
 -- the smallest period of streams
 abbrev pub smallest : List Reservation → ℕ
@@ -29,7 +29,7 @@ module _ (worst span k : ℕ) where
     unfolding smallest_period table_of_records
     smallest_are =
         smallest_agree (period_at (lent_table worst span k xs)) (λ i. (record_at xs i).period) (length xs) some
-        (λ i l. period_at worst span k xs i (omega arith))
+        (λ i l. period_at_lem worst span k xs i (omega arith))
 
     pub load_are : load_of (lent_table worst span k xs) ≡ shares worst span k xs + worst * (span / smallest xs)
     unfolding load_of table_of_records

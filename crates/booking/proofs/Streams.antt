@@ -16,7 +16,7 @@ use Rattle.table.proofs.Tests.{by_if}
 use Rattle.table.proofs.Folds.{first_none, first_all, sum_agree}
 use Rattle.table.proofs.Lists.{get_d_list_to}
 use Rattle.table.proofs.Elements.{total, each_append, each_left, each_right}
-use Rattle.table.proofs.Judged.{judged_load, judged_shares}
+use Rattle.table.proofs.Judged.{judged_load_lem, judged_shares_lem}
 
 -- each stream is in order
 abbrev pub EachFits : ℕ → ℕ → ℕ → List Reservation → Type 0
@@ -43,13 +43,13 @@ module _ (worst span k : ℕ) (xs : List Reservation) where
   table = lent_table worst span k xs
 
   -- the cells of the table are those of the records
-  pub reserved_at : (i : ℕ) → i < streams_max → reserved_at table i ≡ (record_at xs i).reserved
+  pub reserved_at_lem : (i : ℕ) → i < streams_max → reserved_at table i ≡ (record_at xs i).reserved
   unfolding table_of_records
-  reserved_at i l = get_d_list_to (λ j. (record_at xs j).reserved) 0 streams_max i l
+  reserved_at_lem i l = get_d_list_to (λ j. (record_at xs j).reserved) 0 streams_max i l
 
-  pub period_at : (i : ℕ) → i < streams_max → period_at table i ≡ (record_at xs i).period
+  pub period_at_lem : (i : ℕ) → i < streams_max → period_at table i ≡ (record_at xs i).period
   unfolding table_of_records
-  period_at i l = get_d_list_to (λ j. (record_at xs j).period) 0 streams_max i l
+  period_at_lem i l = get_d_list_to (λ j. (record_at xs j).period) 0 streams_max i l
 
   module _ (few : length xs ≤ streams_max) where
     -- no stream of it is refused exactly where each is in order
@@ -57,19 +57,19 @@ module _ (worst span k : ℕ) (xs : List Reservation) where
     unfolding streams_refusal table_of_records
     streams_none fits =
         first_all (stream_refusal_at table) (length xs)
-        (λ i l. rw (reserved_at i (omega arith), period_at i (omega arith)) (fits i l))
+        (λ i l. rw (reserved_at_lem i (omega arith), period_at_lem i (omega arith)) (fits i l))
 
     pub streams_each : streams_refusal table ≡ 0 → EachFits worst span k xs
     unfolding streams_refusal table_of_records
     streams_each none i l =
-        rw (reserved_at i (omega arith), period_at i (omega arith)) at (first_none (stream_refusal_at table) (length xs) none i l)
+        rw (reserved_at_lem i (omega arith), period_at_lem i (omega arith)) at (first_none (stream_refusal_at table) (length xs) none i l)
 
     -- its shares are those of its records
     pub shares_are : shares_of table ≡ shares worst span k xs
     unfolding shares_of table_of_records
     shares_are =
         sum_agree (share_at table) (λ i. share_of worst span k (record_at xs i).reserved (record_at xs i).period) (length xs)
-        (λ i l. rw (reserved_at i (omega arith), period_at i (omega arith)))
+        (λ i l. rw (reserved_at_lem i (omega arith), period_at_lem i (omega arith)))
 
   -- with a stream at least, where W, H and k are in their ranges and each stream is in order, nothing is refused by 1 to 6
   module _ (ranges : ranges_refusal worst span k ≡ 0) where
@@ -83,11 +83,11 @@ module _ (worst span k : ℕ) (xs : List Reservation) where
 
     -- so that its load is judged
     pub load_judged : 1 ≤ length xs → length xs ≤ streams_max → EachFits worst span k xs → judged_load table ≡ load_of table
-    load_judged some few fits = judged_load table (numbers_pass some few) (streams_none few fits)
+    load_judged some few fits = judged_load_lem table (numbers_pass some few) (streams_none few fits)
 
 -- and its shares, which are 0 where there is no stream
 pub shares_judged : (worst span k : ℕ) (xs : List Reservation) → ranges_refusal worst span k ≡ 0 → length xs ≤ streams_max → EachFits worst span k xs
     → judged_shares (lent_table worst span k xs) ≡ shares_of (lent_table worst span k xs)
 unfolding judged_shares shares_of table_of_records sum_to
 shares_judged worst span k [] ranges few fits = by_if (λ (n : ℕ). n ≡ 0) _ 0 0 (λ _. refl) (λ _. refl)
-shares_judged worst span k (x ∷ xs) ranges few fits = judged_shares _ (parts_fit worst span k (x ∷ xs) ranges (omega arith) few fits)
+shares_judged worst span k (x ∷ xs) ranges few fits = judged_shares_lem _ (parts_fit worst span k (x ∷ xs) ranges (omega arith) few fits)

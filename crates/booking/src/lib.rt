@@ -1,4 +1,6 @@
 // A booking table, into which two desks book streams before it is opened.
+#![tactic(auto)]
+
 mod bookings;
 mod lent;
 mod soundness;
@@ -14,7 +16,7 @@ use table::{Records, Reservation, Table};
 
 // What one desk has booked, and the limit on the sum of its streams' shares. Of its eight cells the first `count` are used, in order of booking; the others are 0.
 #[repr(C)]
-#[derive(Drop)]
+#[derive(Clone, Copy)]
 pub struct Desk {
     pub limit: u64,
     pub count: usize,
@@ -23,7 +25,7 @@ pub struct Desk {
 
 // The numbers of the whole table, and both desks. The cell `unused` is 0, and is there so that no byte is padding.
 #[repr(C)]
-#[derive(Drop)]
+#[derive(Clone, Copy)]
 pub struct Book {
     pub worst: u32,
     pub span: u32,
@@ -35,14 +37,14 @@ pub struct Book {
 
 // The reply to a booking: 0 and how many streams the desk has then, or the number of a refusal and 0.
 #[repr(C)]
-#[derive(Drop)]
+#[derive(Clone, Copy)]
 pub struct Receipt {
     pub number: u64,
     pub value: u64,
 }
 
 // What a booking comes to.
-#[derive(Drop)]
+#[derive(Clone, Copy)]
 pub struct Booked {
     pub book: Book,
     pub receipt: Receipt,
@@ -50,21 +52,21 @@ pub struct Booked {
 
 // The streams of a finished table, as opening takes them, and 0; or 31, and none.
 #[repr(C)]
-#[derive(Drop)]
+#[derive(Clone, Copy)]
 pub struct Finished {
     pub number: u64,
     pub records: Records,
 }
 
 // What finishing comes to: the table is what it was.
-#[derive(Drop)]
+#[derive(Clone, Copy)]
 pub struct Closed {
     pub book: Book,
     pub finished: Finished,
 }
 
 // A booking of a desk, which is 1 or 2: a stream more, or the one less that has this number among its own, counted from 1.
-#[derive(Drop)]
+#[derive(Clone, Copy)]
 pub enum Booking {
     Add {
         desk: u64,

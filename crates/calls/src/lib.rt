@@ -1,11 +1,13 @@
 // The calls of a session and what they answer.
+#![tactic(auto)]
+
 ghost use Rattle.std.specs.Prelude.{◌≡◌};
 ghost use Rattle.calls.specs.Replies.{number_of, value_of, called_stream, stream_of, tag_of};
 
 use time::{Charge, Clock};
 
 // Streams are counted from 1, a queue's places from 0. A tag is the host's own, and comes back as it was.
-#[derive(Drop)]
+#[derive(Clone, Copy)]
 pub enum Call {
     Arrival { stream: u64, place: u64, tag: u32 },
     Turn,
@@ -14,7 +16,7 @@ pub enum Call {
     Clock { time: u64 },
 }
 
-#[derive(Drop)]
+#[derive(Clone, Copy)]
 pub enum Reply {
     Refused {
         number: u64,

@@ -1,4 +1,6 @@
 // Reads a session file from standard input, and prints what a card may say of its table, or what refuses it. The trace is not run.
+#![tactic(auto)]
+
 ghost use Rattle.std.specs.Prelude.{◌≤◌};
 
 use file::Reading;

@@ -1,4 +1,6 @@
 // Numbers and runs of bytes at an index of a slice. Any arguments will do: past the end a read gives 0, and a store is left out.
+#![tactic(auto)]
+
 ghost use Rattle.std.specs.Prelude.{◌≡◌, ◌-◌, min};
 ghost use Rattle.std.proofs.lemmas.List.Edits.{sets};
 ghost use Rattle.cells.specs.Cells.{cell, number_at};

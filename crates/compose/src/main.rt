@@ -1,11 +1,13 @@
 // Reads notes from standard input, and writes their session file. Of notes that are wrong it says on standard error what is wrong where and what was expected, and writes nothing. A table without streams is told, too, and written.
+#![tactic(auto)]
+
 ghost use Rattle.std.specs.Prelude.{◌≤◌};
 
 use libc::{STDERR_FILENO, STDIN_FILENO, STDOUT_FILENO};
 use notes::{Composed, Expected, Fault, Field, Heard, Notes};
 
 // The notes so far, and whether there may be more of them.
-#[derive(Drop)]
+#[derive(Clone, Copy)]
 struct Input {
     notes: Notes,
     more: bool,

@@ -1,4 +1,6 @@
 // What is counted of a session file, and of a list of them: jobs, late ones, expired slots, disk time and the largest completion of each stream number.
+#![tactic(auto)]
+
 mod run;
 
 ghost use Rattle.std.specs.Prelude.{◌≡◌, true, not, ◌+◌, max};
@@ -12,7 +14,7 @@ use session::Session;
 use table::Table;
 
 // What is counted of one stream.
-#[derive(Drop)]
+#[derive(Clone, Copy)]
 pub struct Tally {
     pub jobs: u64,
     pub late: u64,
@@ -22,14 +24,14 @@ pub struct Tally {
 }
 
 // A tally for each stream number; or a sum has passed 64 bits, and no number stands.
-#[derive(Drop)]
+#[derive(Clone, Copy)]
 pub struct Counts {
     pub over: bool,
     pub rows: [Tally; Table::STREAMS_MAX],
 }
 
 // What is counted of a file: the refusal is 0, or its number beside counts of nothing, with the amount over the span where the load is.
-#[derive(Drop)]
+#[derive(Clone, Copy)]
 pub struct Filed {
     pub refusal: u64,
     pub over: u64,

@@ -14,7 +14,7 @@ use table::Table;
 use time::Clock;
 
 // What a call and its answer tell of every stream.
-#[derive(Drop)]
+#[derive(Clone, Copy)]
 pub(crate) struct Told {
     number: u64,
     stream: u64,
@@ -24,7 +24,7 @@ pub(crate) struct Told {
 }
 
 // A session, and the counts of the calls so far.
-#[derive(Drop)]
+#[derive(Clone, Copy)]
 pub(crate) struct Step {
     session: Session,
     counts: Counts,

@@ -30,9 +30,9 @@ entry_of file at kind offset len h =
     let b = both _ _ a.0 in
     record { kind_is = eqb-true _ _ b.0; offset_is = eqb-true _ _ b.1; length_is = eqb-true _ _ a.1 }
 
-pub is_entry : (file : List ℕ) (at kind offset len : ℕ) → Entry file at kind offset len → is_entry file at kind offset len ≡ true
+pub is_entry_lem : (file : List ℕ) (at kind offset len : ℕ) → Entry file at kind offset len → is_entry file at kind offset len ≡ true
 unfolding is_entry
-is_entry file at kind offset len q = rw (eq-eqb _ _ q.kind_is, eq-eqb _ _ q.offset_is, eq-eqb _ _ q.length_is)
+is_entry_lem file at kind offset len q = rw (eq-eqb _ _ q.kind_is, eq-eqb _ _ q.offset_is, eq-eqb _ _ q.length_is)
 
 -- ---- the contents table
 
@@ -55,13 +55,13 @@ contents_of form file start end h =
       third_entry = a.1;
     }
 
-pub is_contents : (form : Form) (file : List ℕ) (start end : ℕ) → Contents form file start end → is_contents form file start end ≡ true
+pub is_contents_lem : (form : Form) (file : List ℕ) (start end : ℕ) → Contents form file start end → is_contents form file start end ≡ true
 unfolding is_contents
-is_contents form file start end q =
+is_contents_lem form file start end q =
     rw (
       eq-eqb _ _ q.entries,
-      is_entry _ _ _ _ _ q.table_entry,
-      is_entry _ _ _ _ _ q.trace_entry,
+      is_entry_lem _ _ _ _ _ q.table_entry,
+      is_entry_lem _ _ _ _ _ q.trace_entry,
     )
     q.third_entry
 

@@ -26,10 +26,10 @@ module _ (file : List ℕ) where
     unfolding outline_of if
     length_unfit h = rw (le-leb _ _ count, lt-leb _ _ h)
 
-    pub is_outlined : trace_start file + third_length (form_in file) ≤ length file
+    pub is_outlined_lem : trace_start file + third_length (form_in file) ≤ length file
         → outline_of file ≡ Outlined (form_in file) (count_at file (start_in file)) (trace_start file) (trace_end file)
     unfolding outline_of if
-    is_outlined h = rw (le-leb _ _ count, le-leb _ _ h)
+    is_outlined_lem h = rw (le-leb _ _ count, le-leb _ _ h)
 
 -- what an outline says
 pub record Outline (file : List ℕ) (form : Form) (count start end : ℕ) : Type 0 where

@@ -25,8 +25,8 @@ use Rattle.file.proofs.Columns.{column_agree}
 use Rattle.file.proofs.Forms.{entries_few, form_is, order_fits}
 use Rattle.file.proofs.Lengths.{length_contents, length_streams, length_four, length_table, length_file}
 use Rattle.file.proofs.Stores.{file_parts}
-use Rattle.file.proofs.Trace.{trace_of}
-use Rattle.file.proofs.Accepted.{Entry, is_entry, Contents, is_contents, trace_decides}
+use Rattle.file.proofs.Trace.{trace_of_lem}
+use Rattle.file.proofs.Accepted.{Entry, is_entry_lem, Contents, is_contents_lem, trace_decides}
 use Rattle.file.proofs.Writes.{Writable, writable_parts}
 
 -- a number past a run of known length
@@ -121,7 +121,7 @@ module _ (table trace : ℕ) (after : List ℕ) (h : table ≤ table_length 8) (
   unfolding contents entry cell number_at
   third_there Two = refl
   third_there Three =
-      is_entry _ _ _ _ _ (record { kind_is = refl; offset_is = number_cell 4 (table_start Three + table + trace) [] (omega arith); length_is = refl })
+      is_entry_lem _ _ _ _ _ (record { kind_is = refl; offset_is = number_cell 4 (table_start Three + table + trace) [] (omega arith); length_is = refl })
 
   pub entries_there : (form : Form)
       → let file = contents form table trace ++ after in
@@ -169,7 +169,7 @@ module _ (form : Form) (order : Order) (t : Table) (trace : List ℕ) (q : Words
   table_short = omega (arith, length_table t, right.count_high)
 
   trace_short : length trace ≤ 64_000
-  trace_short = let w = trace_of trace right.trace_right in omega (arith, w.whole, w.events_high)
+  trace_short = let w = trace_of_lem trace right.trace_right in omega (arith, w.whole, w.events_high)
 
   -- the form that was written
   pub form_back : form_in file ≡ form
@@ -235,7 +235,7 @@ module _ (form : Form) (order : Order) (t : Table) (trace : List ℕ) (q : Words
   pub laid_back : is_laid_out file ≡ true
   laid_back =
       let contents-are : is_contents (form_in file) file (trace_start file) (trace_end file) ≡ true
-      = rw (start_back, end_back, form_back) (is_contents form file start end contents_back) in
+      = rw (start_back, end_back, form_back) (is_contents_lem form file start end contents_back) in
       let order_is : is_order (third_in file) ≡ true = ap is_order number_back ∙ (numbers_are_orders.0 order).0 in
       trace_decides
       file

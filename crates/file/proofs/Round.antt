@@ -29,10 +29,10 @@ use Rattle.file.specs.declared.Writing.TheVariants.{Written, Refused}
 use Rattle.file.proofs.Forms.{start_low, third_low, order_placed}
 use Rattle.file.proofs.Columns.{column_lt, column_again}
 use Rattle.file.proofs.Lengths.{length_file}
-use Rattle.file.proofs.Trace.{trace_of}
+use Rattle.file.proofs.Trace.{trace_of_lem}
 use Rattle.file.proofs.Traces.{old_trace_reads}
 use Rattle.file.proofs.Accepted.{entry_of, Contents, accepted_of, answered, read_refused, read_accepted}
-use Rattle.file.proofs.Writes.{count_refused, rest_refused, room_decides, is_writable, writable_of, write_refused, write_done}
+use Rattle.file.proofs.Writes.{count_refused, rest_refused, room_decides, is_writable_lem, writable_of, write_refused, write_done}
 use Rattle.file.proofs.WriteBack.{length_trace, write_back}
 use Rattle.file.proofs.ReadBack.{form_back, order_back, table_back, count_back, start_back, end_back, trace_back, laid_back}
 
@@ -62,7 +62,7 @@ writable_back : (file : List ℕ) → is_laid_out file ≡ true → is_writable 
 unfolding table_at
 writable_back file h =
     let q = accepted_of file h in
-    is_writable (form_in file) (order_in file) (table_in file) (trace_in file)
+    is_writable_lem (form_in file) (order_in file) (table_in file) (trace_in file)
     (record { count_high = q.count_high; placed = order_placed (form_in file) file (trace_end file); trace_right = q.trace_right })
 
 pub accepted_are_the_written : AcceptedAreTheWritten
@@ -165,7 +165,7 @@ within : (file : List ℕ) → is_laid_out file ≡ true
     → Within file (form_in file) (count_at file (start_in file)) (trace_start file) (trace_end file) (events_in (trace_in file))
 within file h =
     let q = accepted_of file h in
-    let w = trace_of (trace_in file) q.trace_right in
+    let w = trace_of_lem (trace_in file) q.trace_right in
     record {
       count_high = q.count_high;
       events_high = w.events_high;
@@ -212,7 +212,7 @@ two_means_nearest = (
 
 pub old_file_reads : OldFileReads
 old_file_reads t trace q c old =
-    let right = is_writable Two Nearest t trace (record { count_high = c; placed = refl; trace_right = (old_trace_reads trace old).0 }) in
+    let right = is_writable_lem Two Nearest t trace (record { count_high = c; placed = refl; trace_right = (old_trace_reads trace old).0 }) in
     rw (← is_old Nearest t trace) (reads_back Two Nearest t trace q right)
 
 unplaced : (t : Table) (trace : List ℕ) (room : ℕ) → write_refusal Two Sweep t trace room ≡ 16

@@ -18,9 +18,9 @@ pub record Trace (trace : List ℕ) : Type 0 where
   pub events_high : events_in trace ≤ events_max
   pub all_formed : (i : ℕ) → i < events_in trace → formed (event_at trace i) ≡ true
 
-pub trace_of : (trace : List ℕ) → is_trace trace ≡ true → Trace trace
+pub trace_of_lem : (trace : List ℕ) → is_trace trace ≡ true → Trace trace
 unfolding is_trace
-trace_of trace h =
+trace_of_lem trace h =
     let a = both _ _ h in
     let b = both _ _ a.0 in
     let even : length trace % 16 ≡ 0 = eqb-true _ _ b.0 in

@@ -19,7 +19,7 @@ use Rattle.file.specs.Laws.{Coded, StoredReadsBack, AllCoded, TraceReadsBack, Tr
 use Rattle.file.specs.declared.event.Event.{Event}
 use Rattle.file.specs.declared.event.Event.TheVariants.{Arrival, Turn, OwnTurn, Done, Clock, Malformed}
 use Rattle.file.proofs.Columns.{list_agree}
-use Rattle.file.proofs.Trace.{trace_of}
+use Rattle.file.proofs.Trace.{trace_of_lem}
 use Rattle.file.proofs.Events.{event_reads_back, event_writes_back, six_zeros_read_as_before}
 use Rattle.file.proofs.Stores.{stored_there}
 
@@ -111,7 +111,7 @@ unfolding list_to trace_of
 front trace b h zero l = (tt, refl)
 front trace b h (suc n) l =
     let before = front trace b h n (omega arith) in
-    let last = event_writes_back trace n b ((trace_of trace h).all_formed n l) in
+    let last = event_writes_back trace n b ((trace_of_lem trace h).all_formed n l) in
     let k : event_size * suc n ≡ event_size * n + event_size = omega arith in (
       coded_append (list_to (event_at trace) n) (event_at trace n) before.0 last.0,
       trace_append (list_to (event_at trace) n) (event_at trace n ∷ [])
@@ -120,7 +120,7 @@ front trace b h (suc n) l =
 
 pub trace_writes_back : TraceWritesBack
 trace_writes_back trace b h =
-    let whole = (trace_of trace h).whole in
+    let whole = (trace_of_lem trace h).whole in
     let f = front trace b h (events_in trace) (omega arith) in
     (f.0, f.1 ∙ take_all (event_size * events_in trace) trace (omega (arith, whole)))
 

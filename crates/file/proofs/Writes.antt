@@ -46,9 +46,9 @@ writable_parts form order t trace h =
     let b = both _ _ a.0 in
     record { count_high = leb-true _ _ b.0; placed = b.1; trace_right = a.1 }
 
-pub is_writable : (form : Form) (order : Order) (t : Table) (trace : List ℕ) → Writable form order t trace → is_writable form order t trace ≡ true
+pub is_writable_lem : (form : Form) (order : Order) (t : Table) (trace : List ℕ) → Writable form order t trace → is_writable form order t trace ≡ true
 unfolding is_writable
-is_writable form order t trace q = rw (le-leb _ _ q.count_high, q.placed, q.trace_right)
+is_writable_lem form order t trace q = rw (le-leb _ _ q.count_high, q.placed, q.trace_right)
 
 not_false : (b : Bool) → not b ≡ false → b ≡ true
 not_false true h = refl

@@ -10,7 +10,7 @@ use crate::word::{put_word, word_at};
 use cells::{number_at, put_number};
 
 // What an event asks for. Streams are counted from 1, a queue's places from 0.
-#[derive(Drop)]
+#[derive(Clone, Copy)]
 pub enum Event {
     Arrival { stream: u64, place: u64, tag: u32 },
     Turn,

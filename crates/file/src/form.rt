@@ -8,7 +8,7 @@ use cells::number_at;
 use order::Order;
 
 // A file of two entries, whose order is nearest; or one of three, which says its order.
-#[derive(Drop)]
+#[derive(Clone, Copy)]
 pub enum Form {
     Two,
     Three,

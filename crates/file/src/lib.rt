@@ -1,4 +1,6 @@
 // The session file: reading and writing.
+#![tactic(auto)]
+
 mod body;
 mod contents;
 mod event;
@@ -27,7 +29,7 @@ pub use outline::{Outline, outline_of};
 use table::Table;
 
 // What reading says: the form, the order, how many streams there are, where the trace is and how many events it has; or the refusal.
-#[derive(Drop)]
+#[derive(Clone, Copy)]
 pub enum Reading {
     LaidOut {
         form: Form,
@@ -41,7 +43,7 @@ pub enum Reading {
 }
 
 // What writing says: how long the file is, or the refusal.
-#[derive(Drop)]
+#[derive(Clone, Copy)]
 pub enum Writing {
     Written(usize),
     Refused(u64),

@@ -8,7 +8,7 @@ use cells::number_at;
 use table::Table;
 
 // The form, how many streams there are, and where the trace is; or the refusal.
-#[derive(Drop)]
+#[derive(Clone, Copy)]
 pub enum Outline {
     Outlined {
         form: Form,

@@ -6,7 +6,7 @@ use libc::STDIN_FILENO;
 use logs::Follower;
 
 // How far a listing was read: what was followed of it, how many bytes of its last line are held at the start of the buffer, whether there may be more, and whether it could not be read on.
-#[derive(Drop)]
+#[derive(Clone, Copy)]
 pub(crate) struct Listing {
     pub follower: Follower,
     pub held: usize,

@@ -1,4 +1,6 @@
 // Reads a session file, which its argument names, and a listing from standard input, and prints `accepted`, or which line does not follow and below it each that could have stood there.
+#![tactic(auto)]
+
 mod input;
 mod print;
 
@@ -10,7 +12,7 @@ use logs::Follower;
 use print::print_report;
 
 // What was read of a file: how many bytes, and whether it could not be read on.
-#[derive(Drop)]
+#[derive(Clone, Copy)]
 struct Read {
     len: usize,
     failed: bool,

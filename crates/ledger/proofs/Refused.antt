@@ -46,15 +46,15 @@ line_refused (Call x) fine =
     (ap (λ (r : Booked). r.book) (zero_refuses x), ap (λ (r : Booked). replied_to r.receipt (Call x)) (zero_refuses x))
 line_refused Wrong fine = absurd (false≢true fine)
 
-all_refused : (lines : List (List ℕ)) → all_of (λ line. stands true (entry_of line)) lines ≡ true → printed_from zero_book lines ≡ all_refused lines
+all_refused_lem : (lines : List (List ℕ)) → all_of (λ line. stands true (entry_of line)) lines ≡ true → printed_from zero_book lines ≡ all_refused lines
 unfolding printed_from all_refused all_of
-all_refused [] fine = zero_not_printed
-all_refused (line ∷ rest) fine =
+all_refused_lem [] fine = zero_not_printed
+all_refused_lem (line ∷ rest) fine =
     let parts = both (stands true (entry_of line)) (all_of (λ line. stands true (entry_of line)) rest) fine in
     let step = line_refused (entry_of line) parts.0 in
     ap (λ (said : List ℕ). said ++ printed_from (taken_by zero_book (entry_of line)).book rest) step.1
     ∙ ap (λ (b : Book). replied_to (refused 31) (entry_of line) ++ printed_from b rest) step.0
-    ∙ ap (λ (l : List ℕ). replied_to (refused 31) (entry_of line) ++ l) (all_refused rest parts.1)
+    ∙ ap (λ (l : List ℕ). replied_to (refused 31) (entry_of line) ++ l) (all_refused_lem rest parts.1)
 
 begun_refused : (worst span k limit1 limit2 : ℕ) → (ranges_refusal worst span k ≡ 0 → ⊥)
     → begun_of worst span k limit1 limit2 ≡ booked zero_book (refused (ranges_refusal worst span k))
@@ -66,4 +66,4 @@ unfolding printed_from
 refused_beginning b line rest worst span k limit1 limit2 is off fine =
     ap (λ (e : Entry). let t = taken_by b e in replied_to t.receipt e ++ printed_from t.book rest) is
     ∙ ap (λ (t : Booked). replied_to t.receipt (Begin worst span k limit1 limit2) ++ printed_from t.book rest) (begun_refused worst span k limit1 limit2 off)
-    ∙ ap (λ (l : List ℕ). replied_to (refused (ranges_refusal worst span k)) (Begin worst span k limit1 limit2) ++ l) (all_refused rest fine)
+    ∙ ap (λ (l : List ℕ). replied_to (refused (ranges_refusal worst span k)) (Begin worst span k limit1 limit2) ++ l) (all_refused_lem rest fine)

@@ -1,4 +1,6 @@
 // A file of bookings: its lines, whether each may stand where it stands, and what is printed of them.
+#![tactic(auto)]
+
 mod line;
 mod lines;
 mod phrase;
@@ -10,7 +12,7 @@ pub use lines::{judge, line_end};
 pub use taking::taken;
 
 // What a line says: nothing; that the table is begun, with its numbers and the limit of each desk; a booking; or nothing that can be understood.
-#[derive(Drop)]
+#[derive(Clone, Copy)]
 pub enum Entry {
     Blank,
     Begin {
@@ -25,7 +27,7 @@ pub enum Entry {
 }
 
 // Of a file: every line may stand where it stands; no table is begun; or the number of the first line that may not, and whether a table was begun before it.
-#[derive(Drop)]
+#[derive(Clone, Copy)]
 pub enum Judged {
     Right,
     Unbegun,

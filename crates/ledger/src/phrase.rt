@@ -8,7 +8,7 @@ use booking::Booking;
 use notes::{Value, read_as};
 
 // The words so far: whether each of them may stand there, how many there are, and what they are held as; the first is the name, and the others are numbers.
-#[derive(Drop)]
+#[derive(Clone, Copy)]
 pub(crate) struct Phrase {
     right: bool,
     words: usize,

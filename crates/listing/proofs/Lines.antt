@@ -141,28 +141,28 @@ newline_ends (field ∷ rest) p = newline_after field (onward rest) (field_newli
 
 -- ---- the kinds of lines
 
-header_fields : Each Field header_fields
+header_fields_lem : Each Field header_fields
 unfolding Each ascii header_fields
-header_fields = (omega arith, (omega arith, (omega arith, (omega arith, (omega arith, (omega arith, tt))))))
+header_fields_lem = (omega arith, (omega arith, (omega arith, (omega arith, (omega arith, (omega arith, tt))))))
 
-tally_header_fields : Each Field tally_header_fields
+tally_header_fields_lem : Each Field tally_header_fields
 unfolding Each ascii tally_header_fields
-tally_header_fields = (omega arith, (omega arith, (omega arith, (omega arith, (omega arith, (omega arith, tt))))))
+tally_header_fields_lem = (omega arith, (omega arith, (omega arith, (omega arith, (omega arith, (omega arith, tt))))))
 
-total_fields : Each Field total_fields
+total_fields_lem : Each Field total_fields
 unfolding Each ascii worded_fields
-total_fields = (omega arith, tt)
+total_fields_lem = (omega arith, tt)
 
-accepted_fields : Each Field accepted_fields
+accepted_fields_lem : Each Field accepted_fields
 unfolding Each ascii worded_fields
-accepted_fields = (omega arith, tt)
+accepted_fields_lem = (omega arith, tt)
 
-refused_fields : (numbers : List ℕ) → Each Field (refused_word ∷ map decimal numbers)
+refused_fields_lem : (numbers : List ℕ) → Each Field (refused_word ∷ map decimal numbers)
 unfolding Each ascii
-refused_fields numbers = ((omega arith, omega arith), decimal_fields numbers)
+refused_fields_lem numbers = ((omega arith, omega arith), decimal_fields numbers)
 
 pub prints_fields : PrintsFields
-prints_fields = (header_fields, tally_header_fields, total_fields, accepted_fields, λ numbers. (decimal_fields numbers, refused_fields numbers))
+prints_fields = (header_fields_lem, tally_header_fields_lem, total_fields_lem, accepted_fields_lem, λ numbers. (decimal_fields numbers, refused_fields_lem numbers))
 
 -- a letter begins no number
 letter_no_number : (letter n : ℕ) (rest : List ℕ) → zero_digit + 9 < letter → letter ∷ rest ≡ decimal n → ⊥
@@ -175,11 +175,11 @@ pub kinds_differ : KindsDiffer
 unfolding ascii header_fields
 kinds_differ number others refusal =
     let event = decimal_fields (number ∷ others) in
-    let refused = refused_fields refusal in (
+    let refused = refused_fields_lem refusal in (
       (λ h.
-          let words : ascii "event" ≡ refused_word = head-eq_of_cons-eq (fields_tell header_fields (refused_word ∷ map decimal refusal) header_fields refused h) in
+          let words : ascii "event" ≡ refused_word = head-eq_of_cons-eq (fields_tell header_fields (refused_word ∷ map decimal refusal) header_fields_lem refused h) in
           let letters : code "e" ≡ code "r" = head-eq_of_cons-eq words in
           omega (arith, letters)),
-      (λ h. letter_no_number (code "e") number _ (omega arith) (head-eq_of_cons-eq (fields_tell header_fields (map decimal (number ∷ others)) header_fields event h))),
+      (λ h. letter_no_number (code "e") number _ (omega arith) (head-eq_of_cons-eq (fields_tell header_fields (map decimal (number ∷ others)) header_fields_lem event h))),
       λ h. letter_no_number (code "r") number _ (omega arith) (head-eq_of_cons-eq (fields_tell (refused_word ∷ map decimal refusal) (map decimal (number ∷ others)) refused event h)),
     )

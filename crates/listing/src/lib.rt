@@ -1,10 +1,12 @@
 // The lines that the programs print, as bytes. Any numbers have a line.
+#![tactic(auto)]
+
 ghost use Rattle.std.specs.Prelude.{◌≡◌, ◌∷◌, map, ◌+◌, ◌≤◌, min, length};
 ghost use Rattle.std.proofs.lemmas.List.Edits.{sets};
 ghost use Rattle.listing.specs.Line.{decimal, onward, header_fields, event_fields, worded_fields, refused_fields, tally_header_fields, tally_fields, total_fields, accepted_fields, place_fields, receipt_fields, text_size, text_holding, text_of, Within};
 
 // A printed line: the first `len` bytes. Those after them are 0.
-#[derive(Drop)]
+#[derive(Clone, Copy)]
 pub struct Text {
     pub bytes: [u8; Text::SIZE],
     pub len: usize,

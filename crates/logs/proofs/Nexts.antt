@@ -71,19 +71,19 @@ event_due f trace i opened e l =
 
 -- ---- the lines
 
-refused_fields : (number over : ℕ) → Each Field (refused_fields number over)
+refused_fields_lem : (number over : ℕ) → Each Field (refused_fields number over)
 unfolding refused_fields worded_fields ascii
-refused_fields number zero = (prints_fields.4 (number ∷ [])).1
-refused_fields number (suc n) = (prints_fields.4 (number ∷ suc n ∷ [])).1
+refused_fields_lem number zero = (prints_fields.4 (number ∷ [])).1
+refused_fields_lem number (suc n) = (prints_fields.4 (number ∷ suc n ∷ [])).1
 
-first_fields : (f : Follower) → Each Field (first_fields f)
+first_fields_lem : (f : Follower) → Each Field (first_fields f)
 unfolding first_fields
-first_fields f =
-    by_if (Each Field) (eqb f.refusal 0) _ _ (λ opened. prints_fields.0) (λ refused. refused_fields f.refusal f.over)
+first_fields_lem f =
+    by_if (Each Field) (eqb f.refusal 0) _ _ (λ opened. prints_fields.0) (λ refused. refused_fields_lem f.refusal f.over)
 
-event_fields : (s : Session) (n : ℕ) (event : Event) → Each Field (fields_of (applied s n event).line)
+event_fields_lem : (s : Session) (n : ℕ) (event : Event) → Each Field (fields_of (applied s n event).line)
 unfolding event_fields
-event_fields s n event =
+event_fields_lem s n event =
     let l = (applied s n event).line in
     decimal_fields (l.event ∷ l.answer ∷ l.stream ∷ l.value ∷ l.clock ∷ l.tag ∷ [])
 
@@ -96,10 +96,10 @@ nexts_end f trace x = go (awaited f trace)
     Ends y = OneNewline (rendered y.fields)
 
     go : (a : Awaited) → Among x (nexts_at f trace a) → OneNewline (rendered x.fields)
-    go First p = subst Ends (sym (among_one x _ p)) (newline_ends (first_fields f) (first_fields f))
+    go First p = subst Ends (sym (among_one x _ p)) (newline_ends (first_fields f) (first_fields_lem f))
     go (EventAt i) p =
         let from = among_map (next_by f.session (i + 1)) x (may_be f.session (event_at trace i)) p in
-        subst Ends (sym from.2) (newline_ends _ (event_fields f.session (i + 1) from.0))
+        subst Ends (sym from.2) (newline_ends _ (event_fields_lem f.session (i + 1) from.0))
     go Nothing p = absurd p
 
 -- equal lines are of the same

@@ -16,7 +16,7 @@ use stream::Stream;
 use table::Table;
 
 // Whether a line was found, and the session after it; where it was not, the one before it.
-#[derive(Drop)]
+#[derive(Clone, Copy)]
 pub(crate) struct Found {
     pub found: bool,
     pub session: Session,

@@ -1,4 +1,6 @@
 // The listing of another dispatcher, followed line by line beside the session file that it is of.
+#![tactic(auto)]
+
 mod candidates;
 mod choices;
 mod same;
@@ -14,7 +16,7 @@ use session::Session;
 use table::Table;
 
 // How far a listing was followed: the session after the lines so far; the number that refuses the file, or 0, and the amount over the span; the number of the line that is due; and whether a line did not follow.
-#[derive(Drop)]
+#[derive(Clone, Copy)]
 pub struct Follower {
     session: Session,
     refusal: u64,
@@ -24,14 +26,14 @@ pub struct Follower {
 }
 
 // A follower, and how many bytes of a piece are left behind its last line.
-#[derive(Drop)]
+#[derive(Clone, Copy)]
 pub struct Fed {
     pub follower: Follower,
     pub left: usize,
 }
 
 // The line that is due: the first, that of an event, counted from 0, or none.
-#[derive(Drop)]
+#[derive(Clone, Copy)]
 pub(crate) enum Awaited {
     First,
     Event(usize),

@@ -1,6 +1,8 @@
 // Makes the last call of a session file many times over, by value and each time on the same session, so that its instructions can be counted.
 // Standard input has the number of times in eight bytes, and then the file; of a file without events the table is opened.
 // Prints that number, the number of the last reply, and what was gathered from the sessions that were handed back.
+#![tactic(auto)]
+
 ghost use Rattle.listing.specs.Line.{Within};
 
 use file::{Event, Reading};
@@ -12,7 +14,7 @@ use table::Table;
 const TIMES_BYTES: usize = 8;
 
 // The number of the last reply, and the clocks and heads of all sessions, mixed into one number.
-#[derive(Drop)]
+#[derive(Clone, Copy)]
 struct Tally {
     number: u64,
     mixed: u64,

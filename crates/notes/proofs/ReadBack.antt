@@ -314,9 +314,9 @@ module _ (n : ℕ) where
   clock_line = refl
 
 module _ (a b : ℕ) where
-  stream_line : a < 2 ^ 32 → b < 2 ^ 32 → line_of (drafted Within 3 (held "stream") 0 a b) ≡ Stream a b
+  stream_line_lem : a < 2 ^ 32 → b < 2 ^ 32 → line_of (drafted Within 3 (held "stream") 0 a b) ≡ Stream a b
   unfolding ascii held_after fields_line pair_line stream_line if
-  stream_line h k = rw (lt-ltb a (2 ^ 32) h, lt-ltb b (2 ^ 32) k)
+  stream_line_lem h k = rw (lt-ltb a (2 ^ 32) h, lt-ltb b (2 ^ 32) k)
 
   arrival_line : a < 2 ^ 8 → line_of (drafted Within 3 (held "arrival") 0 a b) ≡ Call (Arrival a b 0)
   unfolding ascii held_after fields_line pair_line if
@@ -361,7 +361,7 @@ line_reads_back i k m o t e g trace (Ordered Sweep) f h =
     line_taken i k m o t e g trace (ascii "order sweep" ++ onward []) _ (Ordered Sweep) (sweep_read i k m o t e g trace) sweep_line h
 line_reads_back i k m o t e g trace (Stream a b) f h =
     worded_taken i k m o t e g trace (ascii "stream") (a ∷ b ∷ []) (Stream a b) (words i k m o t e g trace).3 (omega arith)
-    (omega (arith, f.0), (omega (arith, f.1), tt)) (stream_line a b f.0 f.1) h
+    (omega (arith, f.0), (omega (arith, f.1), tt)) (stream_line_lem a b f.0 f.1) h
 line_reads_back i k m o t e g trace (Call (Arrival a b zero)) f h =
     worded_taken i k m o t e g trace (ascii "arrival") (a ∷ b ∷ []) (Call (Arrival a b 0)) (words i k m o t e g trace).4 (omega arith)
     (omega (arith, f.0), (f.1, tt)) (arrival_line a b f.0) h

@@ -94,9 +94,9 @@ module _ (trace : List ℕ) (b : Bytes trace) (well : (i : ℕ) → i < events_i
 
 -- ---- the lines, one after the other
 
-next_line : (n : ℕ) → n < 2 ^ 64 - 1 → next_line n ≡ n + 1
+next_line_lem : (n : ℕ) → n < 2 ^ 64 - 1 → next_line n ≡ n + 1
 unfolding next_line if
-next_line n h = rw (lt-ltb n (2 ^ 64 - 1) h)
+next_line_lem n h = rw (lt-ltb n (2 ^ 64 - 1) h)
 
 -- the head has three lines, or four
 head_range : (form : Form) → (3 ≤ head_lines form) × (head_lines form ≤ 4)
@@ -192,7 +192,7 @@ module _ (form : Form) (order : Order) (nearest : form ≡ Two → order ≡ Nea
   stream_taken j h =
       let e : j + (head + 1) + 1 ≡ suc j + (head + 1) = omega arith in
       let more : j + 1 ≡ suc j = omega arith in
-      rw (lt-ltb j streams_max h, next_line (j + (head + 1)) (omega (arith, h, (head_range form).1)), e, more, column_more (reserved_at t) j h, column_more (period_at t) j h)
+      rw (lt-ltb j streams_max h, next_line_lem (j + (head + 1)) (omega (arith, h, (head_range form).1)), e, more, column_more (reserved_at t) j h, column_more (period_at t) j h)
 
   streams_read : (j : ℕ) → j ≤ t.count → read_of (j + head) ≡ read (noted (j + (head + 1)) 3 form order (streams_of j) 0 0) buffer
   streams_read zero h =
@@ -226,7 +226,7 @@ module _ (form : Form) (order : Order) (nearest : form ≡ Two → order ≡ Nea
   event_taken e h =
       let k : e + (lines + 1) + 1 ≡ suc e + (lines + 1) = omega arith in
       let more : e + 1 ≡ suc e = omega arith in
-      rw (lt-ltb e events_max h, next_line (e + (lines + 1)) (omega (arith, few, (head_range form).1)), began_there lines e form order (trimmed t), k, more)
+      rw (lt-ltb e events_max h, next_line_lem (e + (lines + 1)) (omega (arith, few, (head_range form).1)), began_there lines e form order (trimmed t), k, more)
 
   -- the trace has room for each event
   event_kept : (e : ℕ) → e < events_in trace → put_refusal (stored buffer trace e) e (event_at trace e) ≡ 0

@@ -10,9 +10,9 @@ use Rattle.notes.specs.Line.{pair_line, triple_line, tag_shown}
 use Rattle.notes.specs.Words.{all_of, is_name, is_number, is_value, value_of}
 use Rattle.notes.specs.Laws.{TagMayBeLeftOut}
 
-pub tag_shown : (tag : ℕ) → (tag ≡ 0 → ⊥) → tag_shown tag ≡ tag ∷ []
-tag_shown zero some = absurd (some refl)
-tag_shown (suc n) some = refl
+pub tag_shown_lem : (tag : ℕ) → (tag ≡ 0 → ⊥) → tag_shown tag ≡ tag ∷ []
+tag_shown_lem zero some = absurd (some refl)
+tag_shown_lem (suc n) some = refl
 
 pub tag_may_be_left_out : TagMayBeLeftOut
 unfolding if ascii spelt_after held_after takes_name pair_line triple_line all_of is_name is_number is_value value_of

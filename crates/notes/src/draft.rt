@@ -4,7 +4,7 @@ ghost use Rattle.notes.specs.Draft.{takes_name, blank, amiss, placed, is_letter,
 
 // Where in a line its last byte stands: between fields, within one, in a comment, at a carriage return that may end the line,
 // after one that does not, or where no right line can follow, because of the field that was begun last.
-#[derive(Drop)]
+#[derive(Clone, Copy)]
 pub enum Place {
     Between,
     Within,
@@ -16,7 +16,7 @@ pub enum Place {
 
 // A line so far: how many fields have begun, the letters of the first as digits to the base 256, and what the last field and the two before it are held as:
 // a number, or a name in the same way.
-#[derive(Drop)]
+#[derive(Clone, Copy)]
 pub struct Draft {
     pub place: Place,
     pub fields: u64,

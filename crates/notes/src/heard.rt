@@ -6,7 +6,7 @@ use crate::draft::{Draft, Place, is_digit, is_gap};
 use crate::numbers::fits;
 
 // A field: its first bytes, how many there are, and whether each is a digit. One that is longer than what is kept counts as one byte longer.
-#[derive(Drop)]
+#[derive(Clone, Copy)]
 pub struct Field {
     pub bytes: [u8; Field::KEPT],
     pub len: usize,
@@ -14,7 +14,7 @@ pub struct Field {
 }
 
 // The word of a line, the first of its numbers or names that is wrong, or else the last, and whether the last byte stands in one of them.
-#[derive(Drop)]
+#[derive(Clone, Copy)]
 pub struct Heard {
     pub word: Field,
     pub number: Field,

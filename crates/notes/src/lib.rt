@@ -1,5 +1,7 @@
 // Notes: a session written by hand, a line for each table number, the order if there is one, and a line for each stream and event.
 // They are read byte by byte into a table and a trace; and a line of them is shown.
+#![tactic(auto)]
+
 mod draft;
 mod fault;
 mod heard;
@@ -24,7 +26,7 @@ pub use word::{Value, read_as};
 
 // What has been read of some notes: the number of the line that is being read, how many of the three table numbers there are,
 // the form of the file, which has a third entry where there was an order, and that order, the table so far, how many events there are and in which line the first stands, or 0, the line so far and what a message can quote of it, the number by which an event was refused its place in the trace, or 0, and whether the line is wrong. Then nothing more is read.
-#[derive(Drop)]
+#[derive(Clone, Copy)]
 pub struct Notes {
     pub line: u64,
     pub numbers: u64,
@@ -40,7 +42,7 @@ pub struct Notes {
 }
 
 // What may stand in the next line.
-#[derive(Drop)]
+#[derive(Clone, Copy)]
 pub enum Expected {
     Worst,
     Span,
@@ -52,7 +54,7 @@ pub enum Expected {
 }
 
 // What composing says: how long the file is, that its table has no stream and in which line the first event stands, or 0, which line is wrong and what with it, that the notes end too early, or the refusal of the writer.
-#[derive(Drop)]
+#[derive(Clone, Copy)]
 pub enum Composed {
     Written(usize),
     Streamless {

@@ -11,7 +11,7 @@ use order::Order;
 use table::Table;
 
 // A line: nothing, a number of the table, an order, a stream, an event, or none of these.
-#[derive(Drop)]
+#[derive(Clone, Copy)]
 pub enum Line {
     Blank,
     Worst(u32),

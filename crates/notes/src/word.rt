@@ -5,7 +5,7 @@ ghost use Rattle.notes.specs.Words.{read_as};
 use crate::draft::{lengthens, longer};
 
 // What a word is held as, or that it is no name or number of 64 bits.
-#[derive(Drop)]
+#[derive(Clone, Copy)]
 pub enum Value {
     Right(u64),
     Wrong,

@@ -1,9 +1,11 @@
 // The order in which a turn takes the requests of one deadline.
+#![tactic(auto)]
+
 ghost use Rattle.std.specs.Prelude.{◌≡◌};
 ghost use Rattle.order.specs.Order.{order_number, is_order, order_of, distance, swept_before, goes_before};
 
 // The place nearest the head first; or the places from the head on upwards, and then those below it.
-#[derive(Drop)]
+#[derive(Clone, Copy)]
 pub enum Order {
     Nearest,
     Sweep,

@@ -17,10 +17,10 @@ use Rattle.file.specs.Reading.{events_in, event_at, formed, is_trace, form_in, t
 use Rattle.file.specs.Writing.{is_writable}
 use Rattle.file.specs.declared.form.Form.{Form}
 use Rattle.file.specs.declared.form.Form.TheVariants.{Two}
-use Rattle.file.proofs.Trace.{Trace, trace_of}
+use Rattle.file.proofs.Trace.{Trace, trace_of_lem}
 use Rattle.file.proofs.Traces.{trace_reads_back}
-use Rattle.file.proofs.Accepted.{is_contents, Accepted, accepted_of, answered}
-use Rattle.file.proofs.Writes.{is_writable}
+use Rattle.file.proofs.Accepted.{is_contents_lem, Accepted, accepted_of, answered}
+use Rattle.file.proofs.Writes.{is_writable_lem}
 use Rattle.file.proofs.WriteBack.{length_trace, write_back}
 use Rattle.file.proofs.ReadBack.{table_back, trace_back}
 use Rattle.file.proofs.Round.{table_read_is_trimmed, reads_back, two_means_nearest}
@@ -49,7 +49,7 @@ bytes_trace old = bytes_part (trace_end old - trace_start old) (trace_start old)
 writable : (old : List ℕ) → Bytes old → is_salvageable old ≡ true → is_writable Two Nearest (table_in old) (kept_of events_max (trace_in old)) ≡ true
 unfolding table_at
 writable old bytes fine =
-    is_writable Two Nearest (table_in old) (kept_of events_max (trace_in old))
+    is_writable_lem Two Nearest (table_in old) (kept_of events_max (trace_in old))
     (record { count_high = (outlined old fine).count_high; placed = refl; trace_right = kept_is_trace (trace_in old) (bytes_trace old bytes) })
 
 pub salvaged_is_accepted : SalvagedIsAccepted
@@ -106,27 +106,27 @@ module _ (file : List ℕ) (two : form_in file ≡ Two) (h : is_laid_out file �
   parts = accepted_of file h
 
   trace_right : Trace (trace_in file)
-  trace_right = trace_of (trace_in file) parts.trace_right
+  trace_right = trace_of_lem (trace_in file) parts.trace_right
 
   salvageable : is_salvageable file ≡ true
   unfolding is_salvageable
   salvageable = rw (ap is_two two, le-leb _ _ parts.count_high, le-leb _ _ parts.long)
 
-  contents_stay : contents_stay file ≡ true
+  contents_stay_lem : contents_stay file ≡ true
   unfolding contents_stay has_contents
-  contents_stay =
+  contents_stay_lem =
       let start = table_start Two + table_length (count_in file) in
       let start_is : trace_start file ≡ start = start_two file salvageable in
       let end_is : trace_end file ≡ start + event_size * events_in (trace_in file)
       = omega (arith, parts.long, trace_right.whole, length_trace file parts, start_is) in
       let right : is_contents Two file (trace_start file) (trace_end file) ≡ true
       = ap (λ (f : Form). is_contents f file (trace_start file) (trace_end file)) (sym two)
-      ∙ is_contents (form_in file) file (trace_start file) (trace_end file) parts.contents_right in
+      ∙ is_contents_lem (form_in file) file (trace_start file) (trace_end file) parts.contents_right in
       rw (count_whole (trace_in file) trace_right, le-leb _ _ parts.count_high, le-leb _ _ trace_right.events_high) (rw (start_is, end_is) at right)
 
   nothing_changed : (is_salvageable file ≡ true) × (kept_of events_max (trace_in file) ≡ trace_in file) × (changes_of file ≡ [])
   unfolding changes_of if
-  nothing_changed = (salvageable, kept_whole (trace_in file) trace_right, rw contents_stay (none_listed (trace_in file) trace_right (trace_start file)))
+  nothing_changed = (salvageable, kept_whole (trace_in file) trace_right, rw contents_stay_lem (none_listed (trace_in file) trace_right (trace_start file)))
 
 pub sound_comes_out_equal : SoundComesOutEqual
 unfolding salvaged_file

@@ -15,7 +15,7 @@ use Rattle.file.specs.Reading.{start_in, table_length, trace_in, table_at, table
 use Rattle.file.specs.declared.form.Form.{Form}
 use Rattle.file.specs.declared.form.Form.TheVariants.{Two}
 use Rattle.file.proofs.Lengths.{length_contents, length_table}
-use Rattle.file.proofs.Accepted.{Contents, contents_of, is_contents}
+use Rattle.file.proofs.Accepted.{Contents, contents_of, is_contents_lem}
 use Rattle.file.proofs.WriteBack.{contents_there, table_there}
 use Rattle.file.proofs.ReadBack.{entries_there}
 use Rattle.repair.specs.Salvage.{is_salvageable, count_in, kept_of, kept_count, salvaged_file, contents_stay, changes_of}
@@ -92,7 +92,7 @@ contents_stay_if_same old bytes fine =
             le-leb _ _ (outlined old fine).count_high,
             le-leb _ _ (kept_few events_max (trace_in old)).0,
           )
-          (is_contents Two old start (start + event_size * kept) (same_stay old fine (sym front ∙ same))),
+          (is_contents_lem Two old start (start + event_size * kept) (same_stay old fine (sym front ∙ same))),
     )
 
 -- a test that does not hold fails

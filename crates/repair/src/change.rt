@@ -8,7 +8,7 @@ use listing::Text;
 
 // The contents table rewritten, an event dropped or the tail cut, and the position in the old file.
 #[repr(C)]
-#[derive(Drop)]
+#[derive(Clone, Copy)]
 pub struct Change {
     pub kind: u64,
     pub position: u64,

@@ -1,4 +1,6 @@
 // Salvage of broken session files.
+#![tactic(auto)]
+
 mod change;
 mod events;
 mod pieces;
@@ -16,7 +18,7 @@ use file::{Event, Form, Outline};
 pub use pieces::{Listed, Rest};
 
 // What is taken of an old file: how many streams it has, where its trace starts, and 0; or the refusal, and zeros.
-#[derive(Drop)]
+#[derive(Clone, Copy)]
 pub struct Taken {
     pub number: u64,
     pub count: usize,
@@ -25,7 +27,7 @@ pub struct Taken {
 
 // How long the file is that was written and how many changes are listed, and 0; or the refusal, and zeros.
 #[repr(C)]
-#[derive(Drop)]
+#[derive(Clone, Copy)]
 pub struct Salvaged {
     pub number: u64,
     pub length: usize,

@@ -6,14 +6,14 @@ use crate::events::{kept_in, put_changes};
 use crate::listed_in;
 
 // What is still to come of a trace: where it starts in the old file, and how many of its events may be kept.
-#[derive(Drop)]
+#[derive(Clone, Copy)]
 pub struct Rest {
     pub at: u64,
     pub room: usize,
 }
 
 // How many changes were listed, what is left behind the piece, and 0; or the refusal, and what was there.
-#[derive(Drop)]
+#[derive(Clone, Copy)]
 pub struct Listed {
     pub number: u64,
     pub changes: usize,

@@ -1,4 +1,6 @@
 // Reads a session file from standard input, runs its trace, and prints a line for each event.
+#![tactic(auto)]
+
 ghost use Rattle.listing.specs.Line.{Within};
 
 use file::Reading;

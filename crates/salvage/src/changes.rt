@@ -11,7 +11,7 @@ use repair::{Change, Rest, Taken};
 const PLACES: usize = 4_097;
 
 // What is left of the trace, and whether there may be more of it.
-#[derive(Drop)]
+#[derive(Clone, Copy)]
 struct Printed {
     rest: Rest,
     more: bool,

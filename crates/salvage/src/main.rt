@@ -1,4 +1,6 @@
 // Salvages a broken session file: its arguments name the old file and the new one, which it makes, and it prints what is changed. Of a file that it cannot salvage it prints by which number it is refused, and makes none.
+#![tactic(auto)]
+
 mod changes;
 mod pieces;
 mod say;

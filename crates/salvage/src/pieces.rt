@@ -7,7 +7,7 @@ use file::Event;
 use libc::SEEK_SET;
 
 // How many more events may be kept, whether there may be more of the trace, and whether it could not be read on.
-#[derive(Drop)]
+#[derive(Clone, Copy)]
 pub(crate) struct Gathered {
     pub room: usize,
     pub more: bool,

@@ -11,7 +11,7 @@ use Rattle.session.specs.Calls.{Verdict, refuse, append, send, move, wait, expir
 use Rattle.session.specs.Laws.{CallsKeepSound}
 use Rattle.session.specs.declared.Session.{Session}
 use Rattle.stream.proofs.Slots.{slot_room}
-use Rattle.session.proofs.Sound.{Sound, sound_of, of_sound, looking_ahead, bounded}
+use Rattle.session.proofs.Sound.{Sound, sound_of, of_sound, looking_ahead_lem, bounded}
 use Rattle.stream.proofs.Queues.{arrived_queue, without_queue}
 use Rattle.session.proofs.Grounds.{Grounds, verdict_grounds}
 use Rattle.session.proofs.Changes.{slots_kept, queue_kept, charge_kept, clock_kept, disk_served}
@@ -47,7 +47,7 @@ expire_kept : (s : Session) → Sound s → (i : ℕ) → Grounds s (expire i) �
 unfolding apply lapsed
 expire_kept s q i g =
     let l = g.exists in
-    looking_ahead _ (charge_kept s q i l _ _ (omega (arith, room s q i l g.slot)) (omega (arith, (q.fit.used.each i l).covered)) g.idle)
+    looking_ahead_lem _ (charge_kept s q i l _ _ (omega (arith, room s q i l g.slot)) (omega (arith, (q.fit.used.each i l).covered)) g.idle)
 
 -- a completion: nothing is at the disk any more, so the charge may pass what the slot covers
 finish_kept : (s : Session) → Sound s → (i a : ℕ) → Grounds s (finish i a) → Sound (apply s (finish i a))
@@ -55,7 +55,7 @@ unfolding apply charged sound_disk if
 finish_kept s q i a g =
     let l = g.exists in
     let clock = moment (s.clock.0 + a) in
-    looking_ahead _
+    looking_ahead_lem _
     (charge_kept (with_disk s clock s.head 0 0 0) (clock_kept s q clock s.head 0 0 0 g.in_time refl) i l _ _
     (omega (arith, g.short, room s q i l g.slot)) (omega (arith, (q.fit.used.each i l).covered)) refl)
 
@@ -70,7 +70,7 @@ unfolding apply
 effect_kept s q (refuse n) g = q
 effect_kept s q (append i place tag) g = append_kept s q i place tag g
 effect_kept s q (send i j) g = send_kept s q i j g
-effect_kept s q move g = looking_ahead _ (move_kept s q g)
+effect_kept s q move g = looking_ahead_lem _ (move_kept s q g)
 effect_kept s q wait g = q
 effect_kept s q (expire i) g = expire_kept s q i g
 effect_kept s q (finish i a) g = finish_kept s q i a g

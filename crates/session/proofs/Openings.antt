@@ -35,7 +35,7 @@ use Rattle.calls.specs.declared.Call.{Call}
 use Rattle.calls.specs.declared.Reply.{Reply}
 use Rattle.session.proofs.Rules.{rules}
 use Rattle.stream.proofs.Orderly.{InOrder, fresh_order}
-use Rattle.session.proofs.Sound.{Fit, Sound, sound_of, of_sound, looking_ahead}
+use Rattle.session.proofs.Sound.{Fit, Sound, sound_of, of_sound, looking_ahead_lem}
 use Rattle.session.proofs.Remainders.{remainders_split}
 use Rattle.session.proofs.Latest.{asked_is}
 use Rattle.session.proofs.Grounds.{Grounds, verdict_grounds}
@@ -104,7 +104,7 @@ module _ (t : Table) (order : Order) (admitted : admission_of t ≡ 0) where
 
   fresh_sound : Sound (fresh_session t order)
   unfolding fresh_session
-  fresh_sound = looking_ahead (opened_session t order) opened_fit
+  fresh_sound = looking_ahead_lem (opened_session t order) opened_fit
 
   -- nothing is charged yet, so that the sum of its remainders is the horizon times the shares: the load, less W for each of the shortest periods, of which the horizon is one
   abbrev first : ℕ

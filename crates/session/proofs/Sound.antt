@@ -50,9 +50,9 @@ pub record Sound (s : Session) : Type 0 where
   pub ahead : Ahead s
 
 -- a session that looks ahead anew
-pub looking_ahead : (s : Session) → Fit s → Sound (looking_ahead s)
+pub looking_ahead_lem : (s : Session) → Fit s → Sound (looking_ahead s)
 unfolding horizon remainders_of sound_disk
-looking_ahead s q =
+looking_ahead_lem s q =
     let used = q.used in
     record {
       fit =

@@ -1,4 +1,6 @@
 // A session: one disk, up to eight streams, and the calls that share it among them.
+#![tactic(auto)]
+
 mod arrivals;
 mod completions;
 mod dispatch;
@@ -26,7 +28,7 @@ use table::{Admission, Margin, Table};
 use time::{Charge, Clock, Remainders};
 
 // The first `count` of the eight streams are used. The margin is that of the table; the horizon is the smallest deadline, and the sum of all remainders is scaled by the span. `served` is the stream whose request is at the disk, counted from 1, with its place and its tag, or zeros; the tag stands with the other numbers of 32 bits, so that no byte is left between them.
-#[derive(Drop)]
+#[derive(Clone, Copy)]
 pub struct Session {
     pub order: Order,
     pub worst: u32,
@@ -44,13 +46,13 @@ pub struct Session {
     pub streams: [Stream; Table::STREAMS_MAX],
 }
 
-#[derive(Drop)]
+#[derive(Clone, Copy)]
 pub struct Answer {
     pub session: Session,
     pub reply: Reply,
 }
 
-#[derive(Drop)]
+#[derive(Clone, Copy)]
 pub struct Opened {
     pub session: Session,
     pub admission: Admission,

@@ -9,7 +9,7 @@ use stream::{Lapse, Pick, better, consider};
 use time::Clock;
 
 // Whether a session is sound, its horizon and its latest safe moment, or zeros where it is not.
-#[derive(Drop)]
+#[derive(Clone, Copy)]
 pub struct Outlook {
     pub sound: bool,
     pub horizon: Clock,
@@ -17,7 +17,7 @@ pub struct Outlook {
 }
 
 // What a turn without a request to send goes by: whether a stream has a slot and which would lose one, and whether a move would close a job past the session's end.
-#[derive(Drop)]
+#[derive(Clone, Copy)]
 pub struct Survey {
     pub found: bool,
     pub expiring: usize,

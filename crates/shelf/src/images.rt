@@ -10,7 +10,7 @@ use time::{Clock, Remainders};
 
 // A session. The order is a number, 0 nearest or 1 sweep; another one stands for none. The four numbers of 32 bits come first, so that no byte is padding.
 #[repr(C)]
-#[derive(Drop)]
+#[derive(Clone, Copy)]
 pub struct Image {
     pub worst: u32,
     pub span: u32,
@@ -30,7 +30,7 @@ pub struct Image {
 
 // A reply: its number, the stream that it is about, its value, and the tag of the request sent or done.
 #[repr(C)]
-#[derive(Drop)]
+#[derive(Clone, Copy)]
 pub struct Told {
     pub number: u64,
     pub stream: u64,
@@ -39,7 +39,7 @@ pub struct Told {
 }
 
 // What a call comes to.
-#[derive(Drop)]
+#[derive(Clone, Copy)]
 pub struct Answered {
     pub session: Image,
     pub reply: Told,
@@ -47,7 +47,7 @@ pub struct Answered {
 
 // A session that was opened, and 0, with its margin; or the refusal, with the margin where it is 7 and else 0, and the all-zero session.
 #[repr(C)]
-#[derive(Drop)]
+#[derive(Clone, Copy)]
 pub struct Opening {
     pub number: u64,
     pub margin: Margin,
@@ -56,7 +56,7 @@ pub struct Opening {
 
 // The latest safe moment, and 0; or the refusal, and 0.
 #[repr(C)]
-#[derive(Drop)]
+#[derive(Clone, Copy)]
 pub struct Moment {
     pub number: u64,
     pub at: u64,
@@ -64,7 +64,7 @@ pub struct Moment {
 
 // The parts of a session file, its order and the length of its third body, and 0; or the refusal, and zeros.
 #[repr(C)]
-#[derive(Drop)]
+#[derive(Clone, Copy)]
 pub struct Filed {
     pub number: u64,
     pub count: usize,
@@ -77,7 +77,7 @@ pub struct Filed {
 
 // How long the file is that was written, and 0; or the refusal, and 0.
 #[repr(C)]
-#[derive(Drop)]
+#[derive(Clone, Copy)]
 pub struct Wrote {
     pub number: u64,
     pub length: usize,

@@ -1,4 +1,6 @@
 // What products in C and Rust link. A session crosses as an image of numbers, since an enum cannot; a booking table crosses as it is.
+#![tactic(auto)]
+
 mod answers;
 mod images;
 

@@ -1,4 +1,6 @@
 // Reads a session file from standard input, and prints it as notes. It says on standard error what it cannot read.
+#![tactic(auto)]
+
 ghost use Rattle.listing.specs.Line.{Within};
 
 use file::{Form, Reading};

@@ -7,7 +7,7 @@ use table::{Margin, Table};
 use time::{Clock, Remainders};
 
 // W, H, k and the horizon that the session keeps, whether all is in order so far, and, of the used streams that were passed, the smallest deadline, the sums of charges and parts, the sum of the shares and the smallest period.
-#[derive(Drop)]
+#[derive(Clone, Copy)]
 pub struct Census {
     pub worst: u32,
     pub span: u32,

@@ -10,14 +10,14 @@ use order::Order;
 use time::Clock;
 
 // A request of a queue, and its place.
-#[derive(Drop)]
+#[derive(Clone, Copy)]
 pub struct Lead {
     pub index: usize,
     pub place: u64,
 }
 
 // The request that would be sent of the streams passed so far, if they have one.
-#[derive(Drop)]
+#[derive(Clone, Copy)]
 pub struct Pick {
     pub found: bool,
     pub stream: usize,

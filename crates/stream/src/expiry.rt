@@ -9,7 +9,7 @@ use crate::Stream;
 use time::Clock;
 
 // The stream that loses a slot, counted from 0, where one was found.
-#[derive(Drop)]
+#[derive(Clone, Copy)]
 pub struct Lapse {
     pub found: bool,
     pub stream: usize,

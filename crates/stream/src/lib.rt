@@ -1,4 +1,6 @@
 // One stream of a session, and the record of its last closed job.
+#![tactic(auto)]
+
 mod census;
 mod choice;
 mod expiry;
@@ -20,7 +22,7 @@ pub use sums::Sums;
 use time::{Charge, Clock};
 
 #[repr(C)]
-#[derive(Drop)]
+#[derive(Clone, Copy)]
 pub struct Job {
     pub charge: Charge,
     pub closed: Clock,
@@ -31,7 +33,7 @@ pub struct Job {
 
 // The first `queued` of the sixteen places are used, in order of arrival, and each place has its tag at the same index.
 #[repr(C)]
-#[derive(Drop)]
+#[derive(Clone, Copy)]
 pub struct Stream {
     pub reserved: u32,
     pub period: u32,
@@ -48,7 +50,7 @@ pub struct Stream {
 }
 
 // The rows of a queue: its places, and their tags.
-#[derive(Drop)]
+#[derive(Clone, Copy)]
 struct Rows {
     places: [u64; Stream::QUEUE_MAX],
     tags: [u32; Stream::QUEUE_MAX],

@@ -9,7 +9,7 @@ use crate::Stream;
 use time::{Charge, Clock, Remainders};
 
 // What the streams passed so far were charged, and what they may use up to the horizon, times the span.
-#[derive(Drop)]
+#[derive(Clone, Copy)]
 pub struct Sums {
     pub charges: Charge,
     pub parts: u64,

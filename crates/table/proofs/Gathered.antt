@@ -20,7 +20,7 @@ use Rattle.table.proofs.Tests.{le_or_lt}
 use Rattle.table.proofs.Folds.{sum_part, largest_le}
 use Rattle.table.proofs.Lists.{filled_on, filled_all}
 use Rattle.table.proofs.Judged.{numbers_of, streams_of, shares_high}
-use Rattle.table.proofs.Grouped.{first_with_low, first_with_same, group_high, group_own, group_past, group_share, grouped_shares, smallest_most}
+use Rattle.table.proofs.Grouped.{first_with_low, first_with_same, group_high, group_own, group_past, group_share, grouped_shares_lem, smallest_most}
 
 -- of the first i places those of streams are so many
 pub used_passed : (i n : ℕ) → i < n → (min i n ≡ i) × (min (i + 1) n ≡ suc i)
@@ -137,7 +137,7 @@ module _ (t : Table) (streams : streams_refusal t ≡ 0) where
   pub group_shares_high : numbers_refusal t ≡ 0 → (n : ℕ) → n ≤ t.count → sum_to (group_share_at t) n ≤ streams_max * span_max
   unfolding grouped_shares
   group_shares_high numbers n le =
-      omega (arith, sum_part (group_share_at t) n t.count le, grouped_shares t, shares_high t numbers streams)
+      omega (arith, sum_part (group_share_at t) n t.count le, grouped_shares_lem t, shares_high t numbers streams)
 
 pub smallest_has_largest_quotient : SmallestHasLargestQuotient
 unfolding smallest_period

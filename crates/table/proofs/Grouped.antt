@@ -83,15 +83,15 @@ group_share t j =
     (λ e. omega (arith, ap (λ g. g * quotient_at t j) (eqb-true (group_at t j) 0 e))) (λ _. refl)
 
 -- the shares by groups are the shares
-pub grouped_shares : (t : Table) → grouped_shares t ≡ shares_of t
+pub grouped_shares_lem : (t : Table) → grouped_shares t ≡ shares_of t
 unfolding grouped_shares shares_of share_of
-grouped_shares t =
+grouped_shares_lem t =
     sum_agree (group_share_at t) (λ j. group_at t j * quotient_at t j) t.count (λ j _. group_share t j)
     ∙ groups_add_up (granted_at t) (period_at t) (λ p. t.span / p) t.count
 
 pub load_by_groups : LoadByGroups
 unfolding grouped_load load_of
-load_by_groups t = ap (λ n. n + t.worst * (t.span / smallest_period t)) (grouped_shares t)
+load_by_groups t = ap (λ n. n + t.worst * (t.span / smallest_period t)) (grouped_shares_lem t)
 
 -- streams with one period are of one group
 one_group : (period : ℕ → ℕ) (i j : ℕ) → period i ≡ period j → first_with period i ≡ first_with period j

@@ -104,13 +104,13 @@ pub parts_none : (t : Table) → parts_refusal t ≡ 0 → (numbers_refusal t �
 unfolding parts_refusal
 parts_none t = or_next_none (numbers_refusal t) (streams_refusal t)
 
-pub judged_load : (t : Table) → numbers_refusal t ≡ 0 → streams_refusal t ≡ 0 → judged_load t ≡ load_of t
+pub judged_load_lem : (t : Table) → numbers_refusal t ≡ 0 → streams_refusal t ≡ 0 → judged_load t ≡ load_of t
 unfolding judged_load parts_refusal ◌or_next◌ if
-judged_load t n s = rw (n, s)
+judged_load_lem t n s = rw (n, s)
 
-pub judged_shares : (t : Table) → parts_refusal t ≡ 0 → judged_shares t ≡ shares_of t
+pub judged_shares_lem : (t : Table) → parts_refusal t ≡ 0 → judged_shares t ≡ shares_of t
 unfolding judged_shares if
-judged_shares t none = rw none
+judged_shares_lem t none = rw none
 
 -- a table that is admitted passes each judgement
 pub record Admits (t : Table) : Type 0 where

@@ -10,8 +10,5 @@ pub mod Others
 pub mod Gathered
 pub mod Paddings
 pub mod LentTables
-pub mod Parameters
-pub mod Taking
-pub mod Lending
 pub mod Loops
 pub mod Determined

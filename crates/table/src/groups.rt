@@ -9,7 +9,7 @@ ghost use Rattle.table.specs.Groups.{first_with, group_at, grouped_shares, group
 use crate::{Table, granted};
 
 // The sum of the groups' shares, and the largest of their quotients.
-#[derive(Drop)]
+#[derive(Clone, Copy)]
 struct Sums {
     shares: u64,
     largest: u64,

@@ -1,4 +1,6 @@
 // Reservation tables: their numbers, the ranges of these, and which are admitted.
+#![tactic(auto)]
+
 mod groups;
 mod margin;
 mod reservations;
@@ -15,7 +17,7 @@ pub use signed::{above_zero, below_zero};
 
 // The numbers of a table, as booked. Of its eight places for streams the first `count` are used.
 #[repr(C)]
-#[derive(Drop)]
+#[derive(Clone, Copy)]
 pub struct Table {
     pub worst: u32,
     pub span: u32,
@@ -26,7 +28,7 @@ pub struct Table {
 }
 
 // What is said of a table: it is admitted, with what is left of the span; refused by a number of 1 to 6; or refused by 7, since its load is over the span.
-#[derive(Drop)]
+#[derive(Clone, Copy)]
 pub enum Admission {
     Admitted(Margin),
     Refused(u64),
@@ -120,7 +122,7 @@ impl Table {
 }
 
 // How many worst-case requests a granted budget holds beside the reserved time.
-#[derive(Drop)]
+#[derive(Clone, Copy)]
 pub struct Padding(pub u32);
 
 impl Padding {

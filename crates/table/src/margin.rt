@@ -7,7 +7,7 @@ use crate::signed::{above_zero, below_zero};
 
 // Microseconds of the span. It is below 0 where the load is above the span.
 #[repr(C)]
-#[derive(Drop)]
+#[derive(Clone, Copy)]
 pub struct Margin(pub i64);
 
 impl Margin {

@@ -6,7 +6,7 @@ use crate::Table;
 
 // What is booked for one stream.
 #[repr(C)]
-#[derive(Drop)]
+#[derive(Clone, Copy)]
 pub struct Reservation {
     pub reserved: u32,
     pub period: u32,
@@ -14,7 +14,7 @@ pub struct Reservation {
 
 // What is taken of a lent slice: its first eight records, zeros past its end, and its true length.
 #[repr(C)]
-#[derive(Drop)]
+#[derive(Clone, Copy)]
 pub struct Records {
     pub rows: [Reservation; Table::STREAMS_MAX],
     pub count: usize,

@@ -6,14 +6,14 @@ use counts::Counts;
 use libc::STDIN_FILENO;
 
 // The names so far: how much of the next one is in its buffer, and what was counted of the files before it.
-#[derive(Drop)]
+#[derive(Clone, Copy)]
 pub(crate) struct Names {
     pub len: usize,
     pub totals: Counts,
 }
 
 // The names so far, and whether there may be more of them.
-#[derive(Drop)]
+#[derive(Clone, Copy)]
 pub(crate) struct Input {
     pub names: Names,
     pub more: bool,

@@ -1,4 +1,6 @@
 // Reads session files, whose names are the arguments or the lines of standard input, and prints what is counted of each and of all.
+#![tactic(auto)]
+
 mod input;
 mod one_file;
 mod print;

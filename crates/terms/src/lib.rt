@@ -1,4 +1,6 @@
 // What a card may say of a table: the terms of each stream and how far it could change alone, and whether the table is admitted, or which number of it is beyond which limit.
+#![tactic(auto)]
+
 ghost use Rattle.std.specs.Prelude.{◌≡◌, ◌-◌, ◌/◌, ◌≤◌, ◌<◌, min};
 ghost use Rattle.table.specs.Ranges.{streams_max};
 ghost use Rattle.terms.specs.Terms.{terms_of, change_of, hundredths_of, beyond, numbers_finding, period_finding, budget_finding, stream_finding, refused_stream, stream_verdict, load_verdict, verdict_of};
@@ -7,7 +9,7 @@ ghost use Rattle.table.specs.Admission.{numbers_refusal, streams_refusal};
 use table::{Margin, Padding, Table};
 
 // The terms of a stream: the padding that k stands for, the granted budget, the disk time that each period gets more than, and the least number of requests.
-#[derive(Drop)]
+#[derive(Clone, Copy)]
 pub struct Terms {
     pub padding: u32,
     pub granted: u64,
@@ -16,7 +18,7 @@ pub struct Terms {
 }
 
 // How far the reserved time of one stream could change alone, while the others stay as they are: it may grow by so much at most; it has to shrink by so much at least; or it alone is not enough.
-#[derive(Drop)]
+#[derive(Clone, Copy)]
 pub enum Change {
     Grow(u64),
     Shrink(u64),
@@ -24,14 +26,14 @@ pub enum Change {
 }
 
 // A number of the table, or one that is worked out from it, and the limit that it is held to.
-#[derive(Drop)]
+#[derive(Clone, Copy)]
 pub struct Finding {
     pub value: u64,
     pub limit: u64,
 }
 
 // What opening says of a table: the number is 0 or its refusal, and the stream 0 where it speaks of none.
-#[derive(Drop)]
+#[derive(Clone, Copy)]
 pub struct Verdict {
     pub number: u64,
     pub stream: u64,

@@ -1,4 +1,6 @@
 // Whole microseconds of two kinds that are counted apart: when it is, and how much disk time was had.
+#![tactic(auto)]
+
 mod remainders;
 
 ghost use Rattle.std.specs.Prelude.{◌≡◌, ◌+◌, ◌-◌, ◌*◌, ◌/◌, ◌≤◌, ◌<◌, min, leb, ltb, eqb};
@@ -11,16 +13,16 @@ use table::{above_zero, below_zero};
 
 // A moment of clock time.
 #[repr(C)]
-#[derive(Drop)]
+#[derive(Clone, Copy)]
 pub struct Clock(u64);
 
 // An amount of disk time.
 #[repr(C)]
-#[derive(Drop)]
+#[derive(Clone, Copy)]
 pub struct Charge(u64);
 
 // An exact moment of clock time, which is not rounded: whole microseconds, and a rest over `below`.
-#[derive(Drop)]
+#[derive(Clone, Copy)]
 pub struct Exact {
     whole: u64,
     rest: u64,

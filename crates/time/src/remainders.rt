@@ -8,11 +8,11 @@ use crate::{Charge, Clock};
 
 // The sum of all remainders, times the span: a whole number, below 0 where the streams have had more than they may use up to the horizon.
 #[repr(C)]
-#[derive(Drop)]
+#[derive(Clone, Copy)]
 pub struct Remainders(pub i64);
 
 // The latest safe moment, or 31.
-#[derive(Drop)]
+#[derive(Clone, Copy)]
 pub enum Latest {
     At(Clock),
     Refused(u64),

@@ -1,4 +1,6 @@
 // A trace run through a session: each event is a call, and its answer a printed line.
+#![tactic(auto)]
+
 ghost use Rattle.std.specs.Prelude.{◌≡◌};
 ghost use Rattle.listing.specs.Line.{Within};
 ghost use Rattle.trace.specs.Trace.{called, applied, handed};
@@ -9,7 +11,7 @@ use listing::Text;
 use session::Session;
 
 // The session after an event, and the line that is printed for it.
-#[derive(Drop)]
+#[derive(Clone, Copy)]
 pub struct Stepped {
     pub session: Session,
     pub text: Text,

@@ -1,4 +1,6 @@
 // What a session shows of itself. Nothing is shown of one that is not sound.
+#![tactic(auto)]
+
 ghost use Rattle.std.specs.Prelude.{◌≡◌};
 ghost use Rattle.view.specs.View.{view_of, state_of, closing_of};
 
@@ -9,7 +11,7 @@ use time::Clock;
 
 // The number is 0, or 31 beside zeros.
 #[repr(C)]
-#[derive(Drop)]
+#[derive(Clone, Copy)]
 pub struct View {
     pub number: u64,
     pub clock: Clock,
@@ -20,7 +22,7 @@ pub struct View {
 
 // One stream. The number is 0, or 31 or 8 beside zeros.
 #[repr(C)]
-#[derive(Drop)]
+#[derive(Clone, Copy)]
 pub struct State {
     pub number: u64,
     pub stream: Stream,
@@ -28,7 +30,7 @@ pub struct State {
 
 // The last job that a stream closed. The number is 0, or 31 or 8 beside zeros.
 #[repr(C)]
-#[derive(Drop)]
+#[derive(Clone, Copy)]
 pub struct Closing {
     pub number: u64,
     pub job: Job,

@@ -10,7 +10,7 @@ use Rattle.file.proofs.Forms.{start_low, third_low}
 use Rattle.file.proofs.Lengths.{length_file}
 use Rattle.file.proofs.Stores.{file_stored}
 use Rattle.file.proofs.Heads.{head_there}
-use Rattle.file.proofs.Trace.{trace_of}
+use Rattle.file.proofs.Trace.{trace_of_lem}
 use Rattle.file.proofs.Writes.{Writable, writable_parts, writable_of, write_refused, write_done}
 use Rattle.file.proofs.write.Statement.{statement}
 use Rattle.file.proofs.write.Tie as tie
@@ -50,7 +50,7 @@ short : (c : tie.After-table-length)
 short c =
     let e = c.before.before.before in
     let form = e.before.before.before.before.args.form in
-    let right = trace_of _ (ready e).trace_right in
+    let right = trace_of_lem _ (ready e).trace_right in
     record {
       start-short = rw c.before.table-start.ensures (start_low form);
       body-short = omega (arith, c.table-length.ensures, (ready e).count_high);
@@ -106,7 +106,7 @@ returns-2 c =
     let unrefused = sym e.before.write-refusal.ensures ∙ e.if1.false in
     let done = write_done a.form a.order t a.trace.now a.out.now unrefused in
     let room = (writable_of a.form a.order t a.trace.now (length a.out.now) unrefused).1 in
-    let right = trace_of _ (ready e).trace_right in
+    let right = trace_of_lem _ (ready e).trace_right in
     let start = n.before.table-start.ensures in
     let body = n.table-length.ensures in
     let size : n.before.table-start.result + n.table-length.result + length a.trace.now + n.before.before.third.result

@@ -6,7 +6,7 @@ use lib.Dec.{ltb}
 use Rattle.table.specs.Refusal.{given}
 use Rattle.table.proofs.Tests.{both}
 use Rattle.file.specs.Writing.{write_refusal}
-use Rattle.file.proofs.Trace.{trace_of}
+use Rattle.file.proofs.Trace.{trace_of_lem}
 use Rattle.file.proofs.Writes.{count_refused, rest_refused, room_decides}
 use Rattle.file.proofs.write_refusal.Statement.{statement}
 use Rattle.file.proofs.write_refusal.Tie as tie
@@ -26,7 +26,7 @@ file-length-requires : tie.Need-file-length-requires
 file-length-requires c κs =
     let b = c.before in
     let a = b.before.before.before.before.before.args in
-    let right = trace_of a.trace.now (sym b.is-trace.ensures ∙ (both b.before.has-place.result b.is-trace.result c.if2.true).1) in
+    let right = trace_of_lem a.trace.now (sym b.is-trace.ensures ∙ (both b.before.has-place.result b.is-trace.result c.if2.true).1) in
     (b.before.before.if1.false, omega (arith, right.whole, right.events_high))
 
 -- past the other tests the room decides

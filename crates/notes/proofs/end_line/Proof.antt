@@ -35,7 +35,7 @@ after-requires c κs = tt
 returns : tie.Need-returns
 returns c =
     let a = c.before.before.before.before.before.args in
-    let e : c.before.after.result ≡ next a.notes a.trace.now = c.before.after.ensures ∙ ap (after a.notes) c.before.before.line_of.ensures in
+    let e : c.before.after.result ≡ next a.notes a.trace.now = c.before.after.ensures ∙ ap (after a.notes) c.before.before.line-of.ensures in
     let whole = ends-wrong a.notes a.trace.now (ap (λ (m : Notes). m.wrong) (sym e) ∙ c.if1.true) in
     (e ∙ sym (ap (λ (r : Read). r.notes) whole), sym (ap (λ (r : Read). r.trace) whole))
 
@@ -51,7 +51,7 @@ same_length c = search rules
 returns-2 : tie.Need-returns-2
 returns-2 c =
     let a = c.before.before.before.before.before.before.before.before.before.before.args in
-    let line = c.before.before.before.before.before.before.before.line_of.ensures in
+    let line = c.before.before.before.before.before.before.before.line-of.ensures in
     let put = c.before.before.before.put-line in
     let e : c.before.before.before.before.before.before.after.result ≡ next a.notes a.trace.now = c.before.before.before.before.before.before.after.ensures ∙ ap (after a.notes) line in
     let whole = ends-right a.notes a.trace.now (ap (λ (m : Notes). m.wrong) (sym e) ∙ c.before.before.before.before.before.if1.false) in (

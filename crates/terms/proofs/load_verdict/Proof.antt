@@ -3,7 +3,7 @@ use Rattle.terms.specs.Terms.{load_verdict}
 use mathlib.Core.Path.{◌≡◌, sym, ◌∙◌}
 use Rattle.table.specs.Refusal.{given}
 use Rattle.table.specs.Admission.{load_of}
-use Rattle.table.proofs.Judged.{judged_load}
+use Rattle.table.proofs.Judged.{judged_load_lem}
 use borrow.Author.Tests.{lt-ltb, le-ltb}
 use borrow.Author.Rules.{rules}
 use Rattle.terms.proofs.load_verdict.Statement.{statement}
@@ -17,7 +17,7 @@ cast-span c = search rules
 
 -- the load that was asked is the one that is judged
 load_is : (c : tie.After-load) → load_of c.before.args.t ≡ c.load.result
-load_is c = sym (c.load.ensures ∙ judged_load c.before.args.t c.before.requires.0 c.before.requires.1)
+load_is c = sym (c.load.ensures ∙ judged_load_lem c.before.args.t c.before.requires.0 c.before.requires.1)
 
 returns : tie.Need-returns
 unfolding load_verdict given

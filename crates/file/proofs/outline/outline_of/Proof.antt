@@ -7,7 +7,7 @@ use Rattle.file.specs.File.{third_length}
 use Rattle.file.specs.Reading.{form_in, start_in, count_at, trace_start}
 use Rattle.file.proofs.Forms.{start_low, third_low}
 use Rattle.file.proofs.Bounds.{place_fits}
-use Rattle.file.proofs.Outlines.{count_unfit, length_unfit, is_outlined}
+use Rattle.file.proofs.Outlines.{count_unfit, length_unfit, is_outlined_lem}
 use Rattle.file.proofs.outline.outline_of.Statement.{statement}
 use Rattle.file.proofs.outline.outline_of.Tie as tie
 
@@ -76,7 +76,7 @@ returns-3 c =
     let n = counted e.before.before.before.before in
     let count = rw n at e.before.before.before.if1.false in
     rw (n, s.0, s.1, e.before.before.before.before.before.before.form_in.ensures)
-    (sym (is_outlined file count (rw (s.0, s.1) at e.if2.false)))
+    (sym (is_outlined_lem file count (rw (s.0, s.1) at e.if2.false)))
 
 pub outline-of-spec : {M : Type 1} → statement M
 outline-of-spec =

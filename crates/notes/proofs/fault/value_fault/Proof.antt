@@ -29,14 +29,14 @@ right-fault-requires c κs = tt
 
 returns-2 : tie.Need-returns-2
 unfolding value_fault if
-returns-2 c = rw (rw (c.before.before.before.before.before.fits2.ensures, c.before.before.before.before.before.before.is-amiss.ensures) at c.before.before.before.before.if1.false, sym (rw c.before.before.before.line_of.ensures at c.before.before.is_right.ensures) ∙ c.before.if2.true) (c.right-fault.ensures ∙ ap (right_fault c.before.before.before.before.before.before.before.args.numbers c.before.before.before.before.before.before.before.args.events) c.before.before.before.line_of.ensures)
+returns-2 c = rw (rw (c.before.before.before.before.before.fits2.ensures, c.before.before.before.before.before.before.is-amiss.ensures) at c.before.before.before.before.if1.false, sym (rw c.before.before.before.line-of.ensures at c.before.before.is_right.ensures) ∙ c.before.if2.true) (c.right-fault.ensures ∙ ap (right_fault c.before.before.before.before.before.before.before.args.numbers c.before.before.before.before.before.before.before.args.events) c.before.before.before.line-of.ensures)
 
 count-fault-requires : tie.Need-count-fault-requires
 count-fault-requires c κs = tt
 
 returns-3 : tie.Need-returns-3
 unfolding value_fault if
-returns-3 c = rw (rw (c.before.before.before.before.before.fits2.ensures, c.before.before.before.before.before.before.is-amiss.ensures) at c.before.before.before.before.if1.false, sym (rw c.before.before.before.line_of.ensures at c.before.before.is_right.ensures) ∙ c.before.if2.false) c.count-fault.ensures
+returns-3 c = rw (rw (c.before.before.before.before.before.fits2.ensures, c.before.before.before.before.before.before.is-amiss.ensures) at c.before.before.before.before.if1.false, sym (rw c.before.before.before.line-of.ensures at c.before.before.is_right.ensures) ∙ c.before.if2.false) c.count-fault.ensures
 
 pub value-fault-spec : {M : Type 1} → statement M
 value-fault-spec =

@@ -5,7 +5,7 @@ use Prim.Native.Nat.{ℕ}
 use Rattle.listing.specs.Line.{ascii, worded_fields, text_of}
 use Rattle.file.specs.declared.event.Event.TheVariants.{Arrival}
 use Rattle.notes.specs.Line.{event_shown}
-use Rattle.notes.proofs.Tags.{tag_shown}
+use Rattle.notes.proofs.Tags.{tag_shown_lem}
 use Rattle.notes.proofs.line.arrival_shown.Statement.{statement}
 use Rattle.notes.proofs.line.arrival_shown.Tie as tie
 
@@ -32,7 +32,7 @@ returns-2 : tie.Need-returns-2
 unfolding ascii
 returns-2 c =
     let a = c.before.before.before.args in
-    let shown = tag_shown a.tag c.before.before.if1.false in
+    let shown = tag_shown_lem a.tag c.before.before.if1.false in
     (c.with-three.ensures.0 ∙ ap (λ (tags : List ℕ). text_of (worded_fields (ascii "arrival") (a.stream ∷ a.place ∷ tags))) (sym shown), c.with-three.ensures.1)
 
 pub arrival-shown-spec : {M : Type 1} → statement M

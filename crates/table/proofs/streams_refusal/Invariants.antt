@@ -1,0 +1,15 @@
+-- `streams_refusal` gives the first stream's refusal: the loop goes on only while no stream was refused.
+use Rattle.table.specs.Refusal.{first_to, ◌or_next◌}
+use Rattle.table.specs.Admission.{stream_refusal_at, streams_refusal}
+use Rattle.table.proofs.Folds.{first_at}
+use native.Mathlib.Omega.{arith}
+use mathlib.Core.Path.{◌≡◌, refl, sym, ap, ◌∙◌}
+use native.Mathlib.Numerals.{add-one}
+use Prim.Native.Nat.{◌≤◌, ◌-◌}
+use Rattle.table.proofs.streams_refusal.Given as goal
+
+abbrev pub invariant-loop-i : goal.invariant-loop-i
+invariant-loop-i l = (l.i ≤ l.t.count) × (first_to (stream_refusal_at l.t) l.i ≡ 0)
+
+abbrev pub decreases-loop-i : goal.decreases-loop-i
+decreases-loop-i l = l.t.count - l.i

@@ -1,5 +1,4 @@
 use mathlib.Core.List.{List}
-use mathlib.Core.Logic.{⊎_elim}
 use mathlib.Core.Path.{◌≡◌, sym, ◌∙◌, ap, subst}
 use Prim.Native.Nat.{ℕ, suc, ◌+◌, ◌-◌, ◌*◌, ◌/◌, min, max, ◌≤◌, ◌<◌}
 use native.Mathlib.Nat.{div-le_self}
@@ -15,6 +14,7 @@ use Rattle.table.proofs.Judged.{numbers_of, streams_of}
 use Rattle.table.proofs.Grouped.{group_share}
 use Rattle.table.proofs.Gathered.{used_passed, Passed, passed_none, passed_group, passed_by, grouped_used, group_shares_high, smallest_has_largest_quotient}
 use Rattle.table.proofs.groups.add_up.Goals as goal
+use Rattle.table.proofs.groups.add_up.Goals.{then-group-j-ne0, else-group-j-ne0}
 
 -- at a place of the eight
 module _ (t : Table) (xs : List ℕ) (e : xs ≡ list_to (group_at t) streams_max) (j : ℕ) (l : j < 8) where
@@ -88,10 +88,10 @@ loop-j-preserved c =
     let at = c.loop-j in
     let e = c.budgets-group.ensures in (
       omega arith,
-      ⊎_elim
-          (λ w. more t _ e at.j (omega arith) at.shares at.largest c.if-group-j-ne0.shares c.if-group-j-ne0.largest w.2.result w.0.taken w.2.ensures w.3 w.4 at.invariant.1)
-          (λ w. same t _ e at.j (omega arith) at.shares at.largest c.if-group-j-ne0.shares c.if-group-j-ne0.largest c.requires.1 w.0.left w.1 w.2 at.invariant.1)
-          c.if-group-j-ne0.branch,
+      elim c.if-group-j-ne0.branch [
+        then-group-j-ne0 w ↦ more t _ e at.j (omega arith) at.shares at.largest c.if-group-j-ne0.shares c.if-group-j-ne0.largest w.larger-largest.result w.if-group-j-ne0.true w.larger-largest.ensures w.shares-is w.largest-is at.invariant.1
+      | else-group-j-ne0 w ↦ same t _ e at.j (omega arith) at.shares at.largest c.if-group-j-ne0.shares c.if-group-j-ne0.largest c.requires.1 w.if-group-j-ne0.false w.shares-is w.largest-is at.invariant.1
+      ],
     )
 
 pub returns : goal.returns

@@ -1,5 +1,4 @@
 use mathlib.Core.List.{List}
-use mathlib.Core.Logic.{⊎_elim}
 use mathlib.Core.Path.{◌≡◌, subst}
 use Prim.Native.Nat.{ℕ, ◌+◌, ◌-◌, min, ◌≤◌, ◌<◌}
 use native.Mathlib.Omega.{arith}
@@ -10,6 +9,7 @@ use Rattle.table.specs.declared.Table.{Table}
 use Rattle.table.proofs.Grouped.{first_with_low}
 use Rattle.table.proofs.Gathered.{used_passed, unused_passed, Added, added_none, added_more, added_all, budgets_fit}
 use Rattle.table.proofs.groups.budgets.Goals as goal
+use Rattle.table.proofs.groups.budgets.Goals.{then-i-t, else-i-t}
 
 -- where a group stands is one of the eight places
 placed : (t : Table) (i first : ℕ) → i < 8 → first ≡ first_with (period_at t) i → first < 8
@@ -55,10 +55,10 @@ loop-i-preserved c =
     let t = c.args.t in
     let at = c.loop-i in (
       omega arith,
-      ⊎_elim
-          (λ w. joined t at.budget c.if-i-t.budget at.i w.1.result w.2.result (omega arith) w.0.taken w.1.ensures w.2.ensures w.3 at.invariant.1)
-          (λ w. passed_over t at.budget c.if-i-t.budget at.i w.0.left w.1 at.invariant.1)
-          c.if-i-t.branch,
+      elim c.if-i-t.branch [
+        then-i-t w ↦ joined t at.budget c.if-i-t.budget at.i w.first_with-first.result w.granted.result (omega arith) w.if-i-t.true w.first_with-first.ensures w.granted.ensures w.budget-is at.invariant.1
+      | else-i-t w ↦ passed_over t at.budget c.if-i-t.budget at.i w.if-i-t.false w.budget-is at.invariant.1
+      ],
     )
 
 pub returns : goal.returns

@@ -1,0 +1,79 @@
+-- `Stream::is_sound` gives the document's test: each part is what its function ensures. The charge is small once it is known to be near the budget.
+use mathlib.Core.Bool.{Bool, true, ◌&&◌}
+use mathlib.Core.Path.{◌≡◌, sym, ◌∙◌}
+use Prim.Native.Nat.{ℕ, ◌+◌, ◌≤◌}
+use native.Mathlib.Omega.{arith}
+use lib.Dec.{leb, eqb}
+use borrow.Author.Tests.{leb-true, eqb-true}
+use Rattle.table.specs.Ranges.{period_max}
+use Rattle.table.specs.Admission.{granted_of}
+use Rattle.table.proofs.Tests.{both}
+use Rattle.time.specs.Time.{session_end, duration_max}
+use Rattle.stream.specs.Stream.{sound_cells}
+use Rattle.stream.specs.declared.Stream.{Stream}
+use Rattle.stream.proofs.Stream.is_sound.Goals as goal
+
+-- the tests of the budget, the dates and the charge
+abbrev first : ℕ → ℕ → Stream → Bool
+first worst k x =
+    eqb x.granted.0 (granted_of worst k x.reserved)
+    && eqb x.deadline.0 (x.release.0 + x.period)
+    && leb x.deadline.0 session_end
+    && leb x.charge.0 (x.granted.0 + duration_max)
+
+pub returns-then-not-budget-due : goal.returns-then-not-budget-due
+unfolding sound_cells
+returns-then-not-budget-due c =
+    let tested : let a = c.args in
+    (c.is-budget.result && c.is_later_by-due.result && c.is_by-in_session.result && c.is_near-charge.result) ≡ first a.worst a.k a.self =
+    rw (
+      c.is_near-charge.ensures,
+      c.is_by-in_session.ensures,
+      c.at.ensures,
+      c.is_later_by-due.ensures,
+      c.is-budget.ensures,
+      c.of.ensures,
+      c.granted.ensures,
+    ) in
+    rw (sym tested ∙ c.if-not-budget-due.true)
+
+charge-small : (worst k : ℕ) (x : Stream) → granted_of worst k x.reserved ≤ period_max → first worst k x ≡ true → x.charge.0 ≤ session_end
+charge-small worst k x high t =
+    let budget = eqb x.granted.0 (granted_of worst k x.reserved) in
+    let due = eqb x.deadline.0 (x.release.0 + x.period) in
+    let a = both (budget && due && leb x.deadline.0 session_end) (leb x.charge.0 (x.granted.0 + duration_max)) t in
+    let b = both budget due (both (budget && due) (leb x.deadline.0 session_end) a.0).0 in
+    omega (arith, high, leb-true x.charge.0 (x.granted.0 + duration_max) a.1, eqb-true x.granted.0 (granted_of worst k x.reserved) b.0)
+
+pub covers-covered-requires : goal.covers-covered-requires
+covers-covered-requires c =
+    let tested : let a = c.args in
+    (c.is-budget.result && c.is_later_by-due.result && c.is_by-in_session.result && c.is_near-charge.result) ≡ first a.worst a.k a.self =
+    rw (
+      c.is_near-charge.ensures,
+      c.is_by-in_session.ensures,
+      c.at.ensures,
+      c.is_later_by-due.ensures,
+      c.is-budget.ensures,
+      c.of.ensures,
+      c.granted.ensures,
+    ) in
+    let passed : let a = c.args in first a.worst a.k a.self ≡ true = sym tested ∙ c.if-not-budget-due.false in
+    (c.requires.0, omega (arith, c.requires.1), charge-small c.args.worst c.args.k c.args.self c.requires.2 passed)
+
+pub returns : goal.returns
+unfolding sound_cells
+returns c =
+    let tested : let a = c.args in
+    (c.is-budget.result && c.is_later_by-due.result && c.is_by-in_session.result && c.is_near-charge.result) ≡ first a.worst a.k a.self =
+    rw (
+      c.is_near-charge.ensures,
+      c.is_by-in_session.ensures,
+      c.at.ensures,
+      c.is_later_by-due.ensures,
+      c.is-budget.ensures,
+      c.of.ensures,
+      c.granted.ensures,
+    ) in
+    let passed : let a = c.args in first a.worst a.k a.self ≡ true = sym tested ∙ c.if-not-budget-due.false in
+    rw (passed, c.covers-covered.ensures, c.queue_is_sound-queue.ensures)

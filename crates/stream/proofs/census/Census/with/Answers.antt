@@ -1,0 +1,61 @@
+-- `Census::with` takes in one more stream: one in order has a share of at most the span.
+use mathlib.Core.Bool.{true}
+use mathlib.Core.Path.{◌≡◌, sym, ◌∙◌}
+use Prim.Native.Nat.{ℕ, ◌≤◌, ◌*◌, ◌/◌}
+use native.Mathlib.Nat.{div-le_self}
+use native.Mathlib.Omega.{arith}
+use Rattle.table.specs.Fold.{if}
+use Rattle.table.proofs.Judged.{share_high}
+use Rattle.stream.specs.Search.{counted, in_order}
+use Rattle.stream.specs.declared.Stream.{Stream}
+use Rattle.stream.proofs.Orderly.{order_fits, order_share, order_bounded}
+use Rattle.stream.proofs.census.Census.with.Goals as goal
+
+pub is_in_order-requires : goal.is_in_order-requires
+is_in_order-requires c = (c.requires.worst_low, c.requires.worst_high)
+
+pub returns-then-not-is_in_order : goal.returns-then-not-is_in_order
+unfolding counted if
+returns-then-not-is_in_order c =
+    let bad = sym c.is_in_order.ensures ∙ c.if-not-is_in_order.true in
+    rw bad
+
+share-small : (worst span k h : ℕ) (x : Stream) → in_order worst span k h x ≡ true → x.granted.0 * (span / x.period) ≤ span
+share-small worst span k h x t = rw (order_share worst span k h x t) (share_high worst span k x.reserved x.period (order_fits worst span k h x t))
+
+pub with-sums-requires : goal.with-sums-requires
+with-sums-requires c =
+    let good : let a = c.args in in_order a.self.worst a.self.span a.self.padding a.self.horizon.0 a.x ≡ true = sym c.is_in_order.ensures ∙ c.if-not-is_in_order.false in
+    let p = c.requires in
+    (p.summable, p.span_high, (_, order_bounded _ _ _ _ _ good p.worst_low p.worst_high))
+
+pub nonzero_div-self : goal.nonzero_div-self
+nonzero_div-self c =
+    let good : let a = c.args in in_order a.self.worst a.self.span a.self.padding a.self.horizon.0 a.x ≡ true = sym c.is_in_order.ensures ∙ c.if-not-is_in_order.false in
+    let low = (order_fits _ _ _ _ _ good).period_low in omega arith
+
+pub overflow_cast-self : goal.overflow_cast-self
+overflow_cast-self c = let a = c.args in omega (arith, div-le_self a.self.span a.x.period)
+
+pub times-share-requires : goal.times-share-requires
+times-share-requires c =
+    let good : let a = c.args in in_order a.self.worst a.self.span a.self.padding a.self.horizon.0 a.x ≡ true = sym c.is_in_order.ensures ∙ c.if-not-is_in_order.false in
+    omega (arith, share-small _ _ _ _ _ good)
+
+pub overflow_add-next : goal.overflow_add-next
+overflow_add-next c =
+    let good : let a = c.args in in_order a.self.worst a.self.span a.self.padding a.self.horizon.0 a.x ≡ true = sym c.is_in_order.ensures ∙ c.if-not-is_in_order.false in
+    rw c.times-share.ensures
+    (omega (arith, share-small _ _ _ _ _ good, c.requires.shares_high))
+
+pub returns : goal.returns
+unfolding counted if
+returns c =
+    let good : let a = c.args in in_order a.self.worst a.self.span a.self.padding a.self.horizon.0 a.x ≡ true = sym c.is_in_order.ensures ∙ c.if-not-is_in_order.false in
+    rw (
+      good,
+      c.smaller.ensures,
+      c.times-share.ensures,
+      c.with-sums.ensures,
+      c.earlier-soonest.ensures,
+    )

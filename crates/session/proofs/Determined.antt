@@ -34,5 +34,5 @@ module _ {M : Type 1} {𝓤 : Ura M} (𝓛 : Logic 𝓤) (mem : Memory → SProp
   lent_as_by_value κs a r e answer e' =
       both_say 𝓤 _ _
       (λ lent value.
-      let session : e.0.now ≡ (answer_to a.0.now Call.Turn).session = lent .1 in
-      (lent .0 ∙ sym (ap (λ (x : Answer). x.reply) value), session ∙ sym (ap (λ (x : Answer). x.session) value)))
+      let session : e.0.now ≡ (answer_to a.0.now Call.Turn).session = lent.1 in
+      (lent.0 ∙ sym (ap (λ (x : Answer). x.reply) value), session ∙ sym (ap (λ (x : Answer). x.session) value)))

@@ -1,6 +1,5 @@
 -- What an effect rests on: the grounds of its verdict, which some call of the sound session comes to. Its stream is one of the eight, and its numbers are small.
-use borrow.Author.Tests.{not-true, not-false}
-use mathlib.Core.Bool.{Bool, true, false, not}
+use mathlib.Core.Bool.{Bool, true, false}
 use mathlib.Core.Path.{◌≡◌, sym, subst, ◌∙◌}
 use Prim.Native.Nat.{ℕ, ◌*◌, ◌≤◌, ◌<◌}
 use native.Mathlib.Nat.{mul-le-mul}
@@ -54,8 +53,8 @@ can_charge s ok c short =
     (omega (arith, sum.0), omega (arith, sum.1), omega (arith, mul-le-mul {n₂ = duration_max} {m₂ = span_max} short (admits s q).numbers.span_high))
 
 -- what was judged: a session that is refused by 31 is not sound, and past 31 it is
-pub by_31 : (s : Session) (b : Bool) → b ≡ sound s → not b ≡ true → sound s ≡ false
-by_31 s b e bad = sym e ∙ not-true _ bad
+pub by_31 : (s : Session) (b : Bool) → b ≡ sound s → b ≡ false → sound s ≡ false
+by_31 s b e bad = sym e ∙ bad
 
-pub past_31 : (s : Session) (b : Bool) → b ≡ sound s → not b ≡ false → sound s ≡ true
-past_31 s b e good = sym e ∙ not-false _ good
+pub past_31 : (s : Session) (b : Bool) → b ≡ sound s → b ≡ true → sound s ≡ true
+past_31 s b e good = sym e ∙ good

@@ -17,7 +17,7 @@ use Rattle.table.proofs.Judged.{numbers_of}
 use Rattle.time.specs.Time.{session_end}
 use Rattle.stream.specs.Stream.{slots, unused_stream}
 use Rattle.stream.specs.Bounds.{Bounded}
-use Rattle.session.specs.Session.{stream_at, horizon, table_of, sound_disk, sound}
+use Rattle.session.specs.Session.{stream_at, table_of, sound_disk, sound}
 use Rattle.stream.specs.Search.{begun, with_sound, counted, Countable, load_so, says, Judgeable}
 use Rattle.time.specs.declared.Clock.{Clock}
 use Rattle.stream.specs.declared.census.Census.{Census}

@@ -2,7 +2,6 @@
 use mathlib.Core.Path.{refl, sym, subst}
 use Prim.Native.Nat.{ℕ, ◌+◌, ◌≤◌, ◌<◌}
 use native.Mathlib.Omega.{arith}
-use lib.ListN.{get_or}
 use Rattle.table.specs.Fold.{if}
 use Rattle.time.specs.Time.{moment}
 use Rattle.stream.specs.Stream.{filled, arrived, without, charged, lapsed}

@@ -32,5 +32,4 @@ pub mod Requests
 pub mod HandedBack
 pub mod Untagged
 pub mod PromiseMet
-pub mod Answering
 pub mod Dues

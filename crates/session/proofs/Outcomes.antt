@@ -4,7 +4,6 @@ use mathlib.Core.Path.{◌≡◌, refl, ◌∙◌, ap, ap₂}
 use Prim.Native.Nat.{ℕ, ◌+◌, ◌*◌, ◌<◌}
 use lib.Dec.{ltb}
 use lib.IntN.{pos, ◌-ℤ◌}
-use lib.ListN.{get_or}
 use Rattle.table.specs.Fold.{if}
 use Rattle.time.specs.Time.{moment, disk_time}
 use Rattle.time.specs.Latest.{remainders}

@@ -1,0 +1,8 @@
+-- `accepted` is the line of its word and no number.
+use mathlib.Core.Path.{refl}
+use Rattle.listing.specs.Line.{ascii}
+use Rattle.listing.proofs.accepted.Goals as goal
+
+pub returns : goal.returns
+unfolding ascii
+returns c = c.worded.ensures

@@ -1,0 +1,7 @@
+-- `place` is the line of its number, and no other.
+use native.Mathlib.Omega.{arith}
+use mathlib.Core.Path.{refl}
+use Rattle.listing.proofs.place.Goals as goal
+
+pub returns : goal.returns
+returns c = c.numbered.ensures

@@ -1,5 +1,4 @@
 -- `accepted` is the line of its word and no number.
-use mathlib.Core.Path.{refl}
 use Rattle.listing.specs.Line.{ascii}
 use Rattle.listing.proofs.accepted.Goals as goal
 

@@ -1,10 +1,8 @@
 -- `digit_count` counts the digits that the rest has lost.
 use Prim.Native.Nat.{◌+◌}
-use native.Mathlib.Omega.{arith}
 use mathlib.Core.Path.{◌≡◌}
 use lib.ListN.{length}
 use Rattle.listing.specs.Line.{decimal}
-use Rattle.listing.proofs.Decimal.{decimal_is_short, decimal_small_length, decimal_more_length}
 use Rattle.listing.proofs.digit_count.Given as goal
 
 abbrev pub invariant-loop-rest : goal.invariant-loop-rest

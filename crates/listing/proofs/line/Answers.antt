@@ -1,6 +1,4 @@
 -- `line` is the line of an event: its number, and the others behind it.
-use native.Mathlib.Omega.{arith}
-use mathlib.Core.Path.{refl}
 use Rattle.listing.specs.Line.{event_fields}
 use Rattle.listing.proofs.line.Goals as goal
 

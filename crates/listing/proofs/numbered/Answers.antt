@@ -1,6 +1,4 @@
 -- `numbered` stores the first number, and then the others behind it.
-use borrow.Author.Rules.{rules}
-use mathlib.Core.Path.{refl}
 use native.Mathlib.Omega.{arith}
 use mathlib.Core.List.{◌∷◌, map}
 use lib.ListN.{replicate}
@@ -20,10 +18,10 @@ put_onward-len-requires c =
     let first = c.put_decimal-end in
     omega (
       arith,
-      numbered_room a.first a.others.now c.ranges.first.fits (λ j. (c.shared_slice_known-1.given j).fits) (omega arith),
+      numbered_room a.first a.others.now c.ranges.first.fits (λ j. (c.type_inv.others j).fits) (omega arith),
       rendered_length (decimal a.first) (map decimal a.others.now),
-      first.ensures.0,
-      first.auto.0,
+      first.ensures.value,
+      first.auto.out,
     )
 
 pub returns : goal.returns
@@ -32,7 +30,8 @@ returns c =
     let a = c.args in
     let first = c.put_decimal-end in
     let others = c.put_onward-len in
-    let one = wrote_more (decimal a.first) (wrote_none (replicate text_size 0)) first.ensures.0 first.ensures.1 in
-    let all = wrote_more (onward (map decimal a.others.now)) one others.ensures.0 others.ensures.1 in
-    let room = numbered_room a.first a.others.now c.ranges.first.fits (λ j. (c.shared_slice_known-1.given j).fits) (omega arith) in
-    written (map decimal (a.first ∷ a.others.now)) room all
+    let one = wrote_more (decimal a.first) (wrote_none (replicate text_size 0)) first.ensures.value first.ensures.out_after in
+    let all = wrote_more (onward (map decimal a.others.now)) one others.ensures.value others.ensures.out_after in
+    let room = numbered_room a.first a.others.now c.ranges.first.fits (λ j. (c.type_inv.others j).fits) (omega arith) in
+    let both = written (map decimal (a.first ∷ a.others.now)) room all in
+    record { value = both.0; within = both.1 }

@@ -1,6 +1,4 @@
 -- `place` is the line of its number, and no other.
-use native.Mathlib.Omega.{arith}
-use mathlib.Core.Path.{refl}
 use Rattle.listing.proofs.place.Goals as goal
 
 pub returns : goal.returns

@@ -1,8 +1,7 @@
-use Prim.Native.Nat.{◌+◌, ◌-◌, ◌≤◌}
+use Prim.Native.Nat.{◌+◌, ◌-◌}
 use native.Mathlib.Omega.{arith}
 use mathlib.Core.Path.{◌≡◌, refl, ap, ◌∙◌}
 use lib.ListN.{length, length-set}
-use lib.Seq.{sets}
 use Rattle.listing.specs.Line.{decimal}
 use Rattle.listing.proofs.Storing.{last_digits, last_all, digit_more}
 use Rattle.listing.proofs.put_decimal.Goals as goal
@@ -35,4 +34,4 @@ returns c =
     let loop = c.loop-i in
     let a = c.args in
     let none_left : loop.i - a.at ≡ 0 = omega arith in
-    (ap (λ width. a.at + width) c.digit_count.ensures, rw none_left at loop.invariant.3)
+    record { value = ap (λ width. a.at + width) c.digit_count.ensures; out_after = rw none_left at loop.invariant.3 }

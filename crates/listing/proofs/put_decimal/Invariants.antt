@@ -1,11 +1,10 @@
 -- `put_decimal` stores the digits from the last one on: `digit_more` is the turn, `last_all` the start.
-use Prim.Native.Nat.{◌+◌, ◌-◌, ◌≤◌}
-use native.Mathlib.Omega.{arith}
-use mathlib.Core.Path.{◌≡◌, refl, ap, ◌∙◌}
-use lib.ListN.{length, length-set}
+use Prim.Native.Nat.{◌-◌, ◌≤◌}
+use mathlib.Core.Path.{◌≡◌}
+use lib.ListN.{length}
 use lib.Seq.{sets}
 use Rattle.listing.specs.Line.{decimal}
-use Rattle.listing.proofs.Storing.{last_digits, last_all, digit_more}
+use Rattle.listing.proofs.Storing.{last_digits}
 use Rattle.listing.proofs.put_decimal.Given as goal
 
 abbrev pub invariant-loop-i : goal.invariant-loop-i

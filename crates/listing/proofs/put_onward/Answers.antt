@@ -1,10 +1,9 @@
-use Prim.Native.Nat.{◌+◌, ◌-◌, ◌≤◌, ◌<◌}
+use Prim.Native.Nat.{◌<◌}
 use native.Mathlib.Omega.{arith}
-use mathlib.Core.Path.{◌≡◌, refl, ap, ◌∙◌}
+use mathlib.Core.Path.{refl, ap, ◌∙◌}
 use mathlib.Core.List.{map}
 use lib.ListN.{length, drop, length-set}
-use lib.Seq.{sets}
-use Rattle.listing.specs.Line.{decimal, onward}
+use Rattle.listing.specs.Line.{decimal}
 use Rattle.listing.proofs.Storing.{onward_some, onward_none, onward_length, onward_more}
 use Rattle.listing.proofs.put_onward.Goals as goal
 
@@ -29,9 +28,9 @@ loop-i-preserved c =
     let put = c.put_decimal-end in
     let here : loop.i < length numbers = omega arith in (
       omega arith,
-      put.auto.0 ∙ length-set loop.out loop.end _ ∙ loop.invariant.1,
-      omega (arith, put.ensures.0, onward_length numbers loop.i here, loop.invariant.2),
-      onward_more numbers loop.i here loop.out put.new.0 loop.end put.result put.ensures.0 put.ensures.1 ∙ loop.invariant.3,
+      put.auto.out ∙ length-set loop.out loop.end _ ∙ loop.invariant.1,
+      omega (arith, put.ensures.value, onward_length numbers loop.i here, loop.invariant.2),
+      onward_more numbers loop.i here loop.out put.new.out loop.end put.result put.ensures.value put.ensures.out_after ∙ loop.invariant.3,
     )
 
 pub bounds-out-end-2 : goal.bounds-out-end-2
@@ -44,4 +43,4 @@ returns c =
     let loop = c.loop-i in
     let numbers = c.args.numbers.now in
     let end = onward_none numbers loop.i (omega arith) in
-    (omega (arith, ap length end, loop.invariant.2), rw end at loop.invariant.3)
+    record { value = omega (arith, ap length end, loop.invariant.2); out_after = rw end at loop.invariant.3 }

@@ -1,12 +1,10 @@
 -- `put_onward` stores number after number: what is left to store is that of the numbers left, `onward_more` is the turn.
-use Prim.Native.Nat.{◌+◌, ◌-◌, ◌≤◌, ◌<◌}
-use native.Mathlib.Omega.{arith}
-use mathlib.Core.Path.{◌≡◌, refl, ap, ◌∙◌}
+use Prim.Native.Nat.{◌+◌, ◌-◌, ◌≤◌}
+use mathlib.Core.Path.{◌≡◌}
 use mathlib.Core.List.{map}
-use lib.ListN.{length, drop, length-set}
+use lib.ListN.{length, drop}
 use lib.Seq.{sets}
 use Rattle.listing.specs.Line.{decimal, onward}
-use Rattle.listing.proofs.Storing.{onward_some, onward_none, onward_length, onward_more}
 use Rattle.listing.proofs.put_onward.Given as goal
 
 abbrev pub invariant-loop-i : goal.invariant-loop-i

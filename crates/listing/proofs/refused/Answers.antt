@@ -1,5 +1,5 @@
 -- `refused` is the line of its word and the number, and of the amount over where there is one.
-use mathlib.Core.Path.{◌≡◌, refl, sym, ap, ◌∙◌}
+use mathlib.Core.Path.{◌≡◌, sym, ap, ◌∙◌}
 use Rattle.listing.specs.Line.{ascii, refused_fields, text_of}
 use Rattle.listing.proofs.Words.{refused_with}
 use Rattle.listing.proofs.refused.Goals as goal
@@ -9,10 +9,10 @@ unfolding ascii refused_fields
 returns-then-over-eq0 c =
     let a = c.args in
     let alone : a.over ≡ 0 = c.if-over-eq0.true in
-    (c.worded.ensures.0 ∙ ap (λ n. text_of (refused_fields a.number n)) (sym alone), c.worded.ensures.1)
+    record { value = c.worded.ensures.value ∙ ap (λ n. text_of (refused_fields a.number n)) (sym alone); within = c.worded.ensures.within }
 
 pub returns : goal.returns
 unfolding ascii
 returns c =
     let a = c.args in
-    (c.worded-2.ensures.0 ∙ ap text_of (sym (refused_with a.number a.over c.if-over-eq0.false)), c.worded-2.ensures.1)
+    record { value = c.worded-2.ensures.value ∙ ap text_of (sym (refused_with a.number a.over c.if-over-eq0.false)); within = c.worded-2.ensures.within }

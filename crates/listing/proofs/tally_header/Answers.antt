@@ -1,5 +1,4 @@
 -- `tally_header` holds the words as they stand in the code: they are the header's fields, rendered.
-use native.Mathlib.Omega.{arith}
 use Rattle.listing.specs.Line.{ascii, onward, rendered, tally_header_fields, text_of}
 use Rattle.listing.proofs.tally_header.Goals as goal
 

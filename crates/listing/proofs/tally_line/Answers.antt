@@ -1,6 +1,4 @@
 -- `tally_line` is the line of a stream: its number, and the others behind it.
-use native.Mathlib.Omega.{arith}
-use mathlib.Core.Path.{refl}
 use Rattle.listing.specs.Line.{tally_fields}
 use Rattle.listing.proofs.tally_line.Goals as goal
 

@@ -1,5 +1,4 @@
 -- `total` is the line of its word and no number.
-use mathlib.Core.Path.{refl}
 use Rattle.listing.specs.Line.{ascii}
 use Rattle.listing.proofs.total.Goals as goal
 

@@ -1,7 +1,6 @@
 -- `worded` stores the word, and then the numbers behind it.
-use borrow.Author.Rules.{rules}
 use native.Mathlib.Omega.{arith}
-use mathlib.Core.Path.{refl, ap}
+use mathlib.Core.Path.{ap}
 use mathlib.Core.List.{map}
 use lib.ListN.{length, take, replicate}
 use Rattle.cells.proofs.Runs.{wrote_none, wrote_more}
@@ -24,10 +23,10 @@ put_onward-len-requires c =
     rw (taken 5 numbers c.smaller-few.ensures)
     (omega (
       arith,
-      numbers_room word numbers (λ j. (c.shared_slice_known-2-1.given j).fits),
+      numbers_room word numbers (λ j. (c.type_inv.numbers j).fits),
       taken_length 20 word end,
       ap length (taken 20 word end),
-      c.put_bytes.auto.0,
+      c.put_bytes.auto.out,
     ))
 
 pub returns : goal.returns
@@ -40,5 +39,6 @@ returns c =
     let first = taken 20 word end in
     let few = taken 5 numbers c.smaller-few.ensures in
     let begun = wrote_more (take 20 word) {place2 = c.smaller-end.result} (wrote_none (replicate text_size 0)) (omega (arith, taken_length 20 word end, ap length first)) (rw first at c.put_bytes.ensures) in
-    let all = wrote_more (onward (map decimal (take 5 numbers))) begun (rw few at put.ensures.0) (rw few at put.ensures.1) in
-    written (worded_fields word numbers) (worded_room word numbers (λ j. (c.shared_slice_known-2-1.given j).fits)) all
+    let all = wrote_more (onward (map decimal (take 5 numbers))) begun (rw few at put.ensures.value) (rw few at put.ensures.out_after) in
+    let both = written (worded_fields word numbers) (worded_room word numbers (λ j. (c.type_inv.numbers j).fits)) all in
+    record { value = both.0; within = both.1 }

@@ -4,7 +4,6 @@ pub mod Cells
 pub mod Desks
 pub mod Sound
 pub mod Refusals
-pub mod Answering
 pub mod Loads
 pub mod Adding
 pub mod Withdrawing

@@ -1,0 +1,16 @@
+-- `Book::table` gives the table of all streams.
+use mathlib.Core.Path.{◌∙◌, ap}
+use Rattle.table.specs.Reservations.{table_of_records}
+use Rattle.table.specs.declared.reservations.Records.{Records}
+use Rattle.table.proofs.LentTables.{taken_table}
+use Rattle.booking.proofs.Book.table.Goals as goal
+
+pub records-records-requires : goal.records-records-requires
+records-records-requires c = c.requires
+
+pub returns : goal.returns
+returns c =
+    let b = c.args.self in
+    c.of.ensures
+    ∙ ap (λ (r : Records). table_of_records b.worst b.span b.padding r.rows r.count) c.records-records.ensures
+    ∙ taken_table b.worst b.span b.padding _

@@ -1,0 +1,13 @@
+-- `with` keeps the first bytes.
+use borrow.Author.Tests.{lt-ltb, le-ltb}
+use Rattle.table.specs.Fold.{if}
+use Rattle.notes.specs.Heard.{kept, field_with}
+use Rattle.notes.proofs.heard.Field.with.Goals as goal
+
+pub returns-then-len-ge-KEPT : goal.returns-then-len-ge-KEPT
+unfolding field_with if
+returns-then-len-ge-KEPT c = rw (le-ltb _ kept c.if-len-ge-KEPT.true, c.is_digit.ensures)
+
+pub returns : goal.returns
+unfolding field_with if
+returns c = rw (lt-ltb _ kept c.if-len-ge-KEPT.false, c.is_digit.ensures)

@@ -11,7 +11,7 @@ use Rattle.file.specs.Reading.{trace_start, trace_in, table_in, has_contents}
 use Rattle.file.specs.declared.form.Form.TheVariants.{Two}
 use Rattle.repair.specs.Salvage.{is_salvageable, count_in, kept_of, kept_count, salvaged_file, contents_stay, trace_changes, changes_of}
 use Rattle.repair.specs.Pieces.{table_end_max, taken_of}
-use Rattle.repair.specs.Laws.{Pieces, joined, kept_by, count_by, listed_by, InPiecesAsWhole}
+use Rattle.repair.specs.Laws.{joined, kept_by, count_by, listed_by, InPiecesAsWhole}
 use Rattle.repair.specs.declared.pieces.Rest.{Rest}
 use Rattle.repair.proofs.Kept.{trace_rest}
 use Rattle.repair.proofs.Taking.{found_is}

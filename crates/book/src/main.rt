@@ -7,117 +7,128 @@ ghost use Rattle.listing.specs.Line.{Within};
 use booking::{Book, Receipt};
 use file::Form;
 use ledger::{Entry, Judged};
-use libc::{STDERR_FILENO, STDIN_FILENO, STDOUT_FILENO};
 use listing::Text;
 use order::Order;
+use std::io;
+use std::io::Read;
 use table::Table;
 
 // How much of a wrong line is quoted.
 const QUOTED: usize = 40;
 
-// The buffer holds 65,536 bytes. Where a read failed, at once or later, one more read fails too, and shows it; where a byte is left, it is read.
-fn main() {
-    let mut buffer = io::large_buffer();
-    let len = io::read_full(STDIN_FILENO, &mut buffer);
+// The buffer holds 65,536 bytes. Where a byte is left behind them, it is read.
+fn main(rt: HostRuntime) -> io::Result<()> {
+    let mut input = rt.stdin();
+    let err = rt.stderr();
+    let mut buffer = given::large_buffer();
+    let Ok(len) = given::read_full(&mut input, &mut buffer) else {
+        return unread(&err);
+    };
     let mut one = [0u8; 1];
-    let more = libc::read(STDIN_FILENO, &mut one);
-    if more < 0 {
-        say(b"book: cannot read standard input\n");
-        return;
-    }
+    let Ok(more) = input.read(&mut one) else {
+        return unread(&err);
+    };
     if more > 0 {
-        say(b"book: more than 65536 bytes\n");
-        return;
+        return say(&err, b"book: more than 65536 bytes\n");
     }
-    answer(&buffer[..len]);
+    answer(&rt, &err, &buffer[..len])
+}
+
+fn unread(err: &impl Print) -> io::Result<()> {
+    say(err, b"book: cannot read standard input\n")
 }
 
 // The whole file is judged first.
-fn answer(file: &[u8]) {
+fn answer(rt: &impl Print, err: &impl Print, file: &[u8]) -> io::Result<()> {
     let judged = ledger::judge(file);
     match judged {
-        Judged::Right => print_notes(print_replies(file)),
-        Judged::Unbegun => say(b"end: no table is begun; expected \"begin W H K LIMIT1 LIMIT2\"\n"),
-        Judged::Amiss { line, begun } => say_amiss(file, line, begun),
+        Judged::Right => print_notes(rt, print_replies(rt, file)?),
+        Judged::Unbegun => say(
+            err,
+            b"end: no table is begun; expected \"begin W H K LIMIT1 LIMIT2\"\n",
+        ),
+        Judged::Amiss { line, begun } => say_amiss(err, file, line, begun),
     }
 }
 
 // Prints the reply to each line, and answers the table after the last. There is nothing behind a newline that is the last byte.
-fn print_replies(file: &[u8]) -> Book {
+fn print_replies(rt: &impl Print, file: &[u8]) -> io::Result<Book> {
     let mut book = Book::zero();
     let mut start: usize = 0;
     while start < file.len() {
         let end = ledger::line_end(file, start);
-        book = print_reply(book, &file[start..end]);
+        book = print_reply(rt, book, &file[start..end])?;
         if end == file.len() {
-            return book;
+            return Ok(book);
         }
         start = end + 1;
     }
-    book
+    Ok(book)
 }
 
 // Takes a line, and prints the reply to it; a blank line has none.
-fn print_reply(book: Book, line: &[u8]) -> Book {
+fn print_reply(rt: &impl Print, book: Book, line: &[u8]) -> io::Result<Book> {
     let entry = ledger::entry_of(line);
     let taken = ledger::taken(book, entry);
     let receipt = taken.receipt;
     match entry {
         Entry::Blank => {}
-        Entry::Begin { .. } => print_receipt(receipt),
-        Entry::Call(_) => print_receipt(receipt),
+        Entry::Begin { .. } => print_receipt(rt, receipt)?,
+        Entry::Call(_) => print_receipt(rt, receipt)?,
         Entry::Wrong => {}
     }
-    taken.book
+    Ok(taken.book)
 }
 
-fn print_receipt(receipt: Receipt) {
-    print(listing::receipt(receipt.number, receipt.value));
+fn print_receipt(rt: &impl Print, receipt: Receipt) -> io::Result<()> {
+    print(rt, listing::receipt(receipt.number, receipt.value))
 }
 
 // Prints the finished table, unless its beginning was refused.
-fn print_notes(book: Book) {
+fn print_notes(rt: &impl Print, book: Book) -> io::Result<()> {
     let closed = book.finish();
     let finished = closed.finished;
     if finished.number == 0 {
         let records = finished.records;
-        print_table(Table::of(book.worst, book.span, book.padding, records));
+        print_table(rt, Table::of(book.worst, book.span, book.padding, records))?;
     }
+    Ok(())
 }
 
 // The notes of a table without events.
-fn print_table(table: Table) {
+fn print_table(rt: &impl Print, table: Table) -> io::Result<()> {
     let trace = [0u8; 0];
     let lines = notes::head_lines(Form::Two) + smaller(table.count, Table::STREAMS_MAX);
     let mut i: usize = 0;
     while i < lines {
         let line = notes::line_at(Form::Two, Order::Nearest, table, &trace, i);
-        print(notes::shown(line));
+        print(rt, notes::shown(line))?;
         i += 1;
     }
+    Ok(())
 }
 
-fn print(text: Text)
+fn print(rt: &impl Print, text: Text) -> io::Result<()>
     requires { Within text }
 {
     let bytes = text.bytes;
     let len = text.len;
-    io::write_all(STDOUT_FILENO, &bytes[..len]);
+    rt.write_all(&bytes[..len])
 }
 
 // Says which line is amiss, and what was expected.
-fn say_amiss(file: &[u8], line: u64, begun: bool) {
+fn say_amiss(err: &impl Print, file: &[u8], line: u64, begun: bool) -> io::Result<()> {
     let start = line_start(file, line);
     let end = ledger::line_end(file, start);
-    say(b"line ");
-    io::print_decimal(STDERR_FILENO, line);
-    say(b": ");
-    say_quoted(&file[start..end]);
-    say(b" is no booking");
+    say(err, b"line ")?;
+    err.print(line)?;
+    say(err, b": ")?;
+    say_quoted(err, &file[start..end])?;
+    say(err, b" is no booking")?;
     if begun {
-        say(b"; expected \"add DESK E P\" or \"withdraw DESK N\"\n");
+        say(err, b"; expected \"add DESK E P\" or \"withdraw DESK N\"\n")
     } else {
-        say(b"; expected \"begin W H K LIMIT1 LIMIT2\"\n");
+        say(err, b"; expected \"begin W H K LIMIT1 LIMIT2\"\n")
     }
 }
 
@@ -139,7 +150,7 @@ fn line_start(file: &[u8], line: u64) -> usize
 }
 
 // Quotes the start of a line.
-fn say_quoted(line: &[u8]) {
+fn say_quoted(err: &impl Print, line: &[u8]) -> io::Result<()> {
     let end = smaller(line.len(), QUOTED);
     let mut text = [0u8; QUOTED];
     let mut i: usize = 0;
@@ -147,12 +158,12 @@ fn say_quoted(line: &[u8]) {
         text[i] = plain(line[i]);
         i += 1;
     }
-    say(b"\"");
-    say(&text[..end]);
+    say(err, b"\"")?;
+    say(err, &text[..end])?;
     if QUOTED < line.len() {
-        say(b"...");
+        say(err, b"...")?;
     }
-    say(b"\"");
+    say(err, b"\"")
 }
 
 // A byte that is no plain text is shown as a question mark.
@@ -164,8 +175,8 @@ fn plain(byte: u8) -> u8 {
     }
 }
 
-fn say(words: &[u8]) {
-    io::write_all(STDERR_FILENO, words);
+fn say(err: &impl Print, words: &[u8]) -> io::Result<()> {
+    err.write_all(words)
 }
 
 fn smaller(a: usize, b: usize) -> usize

@@ -3,8 +3,9 @@
 
 ghost use Rattle.std.specs.Prelude.{◌≤◌};
 
-use libc::{STDERR_FILENO, STDIN_FILENO, STDOUT_FILENO};
 use notes::{Composed, Expected, Fault, Field, Heard, Notes};
+use std::io;
+use std::io::Read;
 
 // The notes so far, and whether there may be more of them.
 #[derive(Clone, Copy)]
@@ -15,114 +16,131 @@ struct Input {
 }
 
 // Each buffer holds more than the longest trace and the longest file.
-fn main() {
-    let mut trace = io::large_buffer();
-    let input = read_notes(&mut trace);
+fn main(rt: HostRuntime) -> io::Result<()> {
+    let mut trace = given::large_buffer();
+    let input = read_notes(&mut rt.stdin(), &mut trace);
+    let err = rt.stderr();
     if input.failed {
-        say(b"compose: cannot read standard input\n");
-        return;
+        return say(&err, b"compose: cannot read standard input\n");
     }
-    let mut out = io::large_buffer();
+    let mut out = given::large_buffer();
     let notes = input.notes;
     let heard = notes.heard;
     let composed = notes::finish(notes, &mut trace, &mut out);
-    answer(composed, heard, &out);
+    answer(&rt, &err, composed, heard, &out)
 }
 
 // Writes the file, or says what is wrong; what was heard of the last line is quoted.
-fn answer(composed: Composed, heard: Heard, out: &[u8]) {
+fn answer(
+    rt: &impl Print,
+    err: &impl Print,
+    composed: Composed,
+    heard: Heard,
+    out: &[u8],
+) -> io::Result<()> {
     match composed {
-        Composed::Written(len) => write_file(len, out),
+        Composed::Written(len) => write_file(rt, len, out),
         Composed::Streamless { len, event } => {
-            write_file(len, out);
-            say_streamless(event);
+            write_file(rt, len, out)?;
+            say_streamless(err, event)
         }
         Composed::Wrong {
             line,
             fault,
             expected,
         } => {
-            say(b"line ");
-            io::print_decimal(STDERR_FILENO, line);
-            say(b": ");
-            say_fault(fault, heard);
-            say_expected(expected);
+            say(err, b"line ")?;
+            err.print(line)?;
+            say(err, b": ")?;
+            say_fault(err, fault, heard)?;
+            say_expected(err, expected)
         }
         Composed::Unfinished(expected) => {
-            say(b"end: the notes end too early");
-            say_expected(expected);
+            say(err, b"end: the notes end too early")?;
+            say_expected(err, expected)
         }
         Composed::Refused(number) => {
-            say(b"refused ");
-            io::print_decimal(STDERR_FILENO, number);
-            say(b"\n");
+            say(err, b"refused ")?;
+            err.print(number)?;
+            say(err, b"\n")
         }
     }
 }
 
-fn write_file(len: usize, out: &[u8]) {
+fn write_file(rt: &impl Print, len: usize, out: &[u8]) -> io::Result<()> {
     // the file ends within the buffer
     let end = smaller(len, out.len());
-    io::write_all(STDOUT_FILENO, &out[..end]);
+    rt.write_all(&out[..end])
 }
 
 // The file is written all the same: it is a session file, and opening says what it lacks.
-fn say_streamless(event: u64) {
+fn say_streamless(err: &impl Print, event: u64) -> io::Result<()> {
     if event == 0 {
-        say(b"end: no stream");
+        say(err, b"end: no stream")?;
     } else {
-        say(b"line ");
-        io::print_decimal(STDERR_FILENO, event);
-        say(b": no stream before the first event");
+        say(err, b"line ")?;
+        err.print(event)?;
+        say(err, b": no stream before the first event")?;
     }
-    say(b"; the file is written, and opening refuses a table without streams by 1\n");
+    say(
+        err,
+        b"; the file is written, and opening refuses a table without streams by 1\n",
+    )
 }
 
-fn say_fault(fault: Fault, heard: Heard) {
+fn say_fault(err: &impl Print, fault: Fault, heard: Heard) -> io::Result<()> {
     let word = heard.word;
     let number = heard.number;
     match fault {
-        Fault::Return => say(b"a carriage return within the line"),
-        Fault::Mark => say(b"a byte order mark, the bytes EF BB BF, which notes do not have"),
-        Fault::Word => say_of(word, b" is not a word of notes"),
-        Fault::Numbers(takes) => say_count(word, takes),
-        Fault::OneWord => say_of(word, b" takes one word"),
-        Fault::NoNumber => say_of(number, b" is not a number"),
-        Fault::TooLarge(bits) => say_limit(number, bits),
-        Fault::NoOrder => say_of(number, b" is not an order"),
-        Fault::Misplaced => say_of(word, b" may not stand here"),
-        Fault::NinthStream => say(b"a ninth stream, and a table has at most 8"),
-        Fault::LateEvent => say(b"an event after 4000 of them"),
+        Fault::Return => say(err, b"a carriage return within the line"),
+        Fault::Mark => say(
+            err,
+            b"a byte order mark, the bytes EF BB BF, which notes do not have",
+        ),
+        Fault::Word => say_of(err, word, b" is not a word of notes"),
+        Fault::Numbers(takes) => say_count(err, word, takes),
+        Fault::OneWord => say_of(err, word, b" takes one word"),
+        Fault::NoNumber => say_of(err, number, b" is not a number"),
+        Fault::TooLarge(bits) => say_limit(err, number, bits),
+        Fault::NoOrder => say_of(err, number, b" is not an order"),
+        Fault::Misplaced => say_of(err, word, b" may not stand here"),
+        Fault::NinthStream => say(err, b"a ninth stream, and a table has at most 8"),
+        Fault::LateEvent => say(err, b"an event after 4000 of them"),
     }
 }
 
-fn say_count(word: Field, takes: u64) {
+fn say_count(err: &impl Print, word: Field, takes: u64) -> io::Result<()> {
     if takes == 0 {
-        say_of(word, b" takes no number");
+        say_of(err, word, b" takes no number")
     } else if takes == 1 {
-        say_of(word, b" takes one number");
+        say_of(err, word, b" takes one number")
     } else if takes == 2 {
-        say_of(word, b" takes two numbers");
+        say_of(err, word, b" takes two numbers")
     } else {
-        say_of(word, b" takes two or three numbers");
+        say_of(err, word, b" takes two or three numbers")
     }
 }
 
-fn say_limit(number: Field, bits: u64) {
+fn say_limit(err: &impl Print, number: Field, bits: u64) -> io::Result<()> {
     if bits == 8 {
-        say_of(number, b" is too large, and has to be below 256");
+        say_of(err, number, b" is too large, and has to be below 256")
     } else if bits == 32 {
-        say_of(number, b" is too large, and has to be below 4294967296");
+        say_of(
+            err,
+            number,
+            b" is too large, and has to be below 4294967296",
+        )
     } else {
         say_of(
+            err,
             number,
             b" is too large, and has to be below 18446744073709551616",
-        );
+        )
     }
 }
 
 // Quotes a field, and says something of it.
-fn say_of(field: Field, words: &[u8]) {
+fn say_of(err: &impl Print, field: Field, words: &[u8]) -> io::Result<()> {
     let bytes = field.bytes;
     let end = smaller(field.len, Field::KEPT);
     let mut text = [0u8; Field::KEPT];
@@ -131,13 +149,13 @@ fn say_of(field: Field, words: &[u8]) {
         text[i] = plain(bytes[i]);
         i += 1;
     }
-    say(b"\"");
-    say(&text[..end]);
+    say(err, b"\"")?;
+    say(err, &text[..end])?;
     if Field::KEPT < field.len {
-        say(b"...");
+        say(err, b"...")?;
     }
-    say(b"\"");
-    say(words);
+    say(err, b"\"")?;
+    say(err, words)
 }
 
 // A byte that is no plain text is shown as a question mark.
@@ -149,48 +167,51 @@ fn plain(byte: u8) -> u8 {
     }
 }
 
-fn say_expected(expected: Expected) {
+fn say_expected(err: &impl Print, expected: Expected) -> io::Result<()> {
     match expected {
-        Expected::Worst => say(b"; expected \"worst N\", a number below 4294967296\n"),
-        Expected::Span => say(b"; expected \"span N\", a number below 4294967296\n"),
-        Expected::Padding => say(b"; expected \"padding N\", a number below 4294967296\n"),
+        Expected::Worst => say(err, b"; expected \"worst N\", a number below 4294967296\n"),
+        Expected::Span => say(err, b"; expected \"span N\", a number below 4294967296\n"),
+        Expected::Padding => say(
+            err,
+            b"; expected \"padding N\", a number below 4294967296\n",
+        ),
         Expected::OrderStreamOrEvent => say(
+            err,
             b"; expected \"order nearest\", \"order sweep\", \"stream E P\" or an event\n",
         ),
-        Expected::StreamOrEvent => say(b"; expected \"stream E P\" or an event\n"),
-        Expected::Event => say(b"; expected an event\n"),
-        Expected::NoMore => say(b"; expected no more than 4000 events\n"),
+        Expected::StreamOrEvent => say(err, b"; expected \"stream E P\" or an event\n"),
+        Expected::Event => say(err, b"; expected an event\n"),
+        Expected::NoMore => say(err, b"; expected no more than 4000 events\n"),
     }
 }
 
-// A proved loop has to end, and nothing says that an input does. So the loop counts its turns down, from a number that no run uses up.
-fn read_notes(trace: &mut [u8]) -> Input {
+// A proved loop has to end, and nothing says that an input does. So the loop counts its turns, up to a number that no run comes to.
+fn read_notes(from: &mut impl Read, trace: &mut [u8]) -> Input {
     let mut input = Input {
         notes: Notes::start(),
         more: true,
         failed: false,
     };
-    let mut turns = u64::MAX;
-    while turns > 0 && input.more {
+    for _ in 0..u64::MAX {
+        if !input.more {
+            break;
+        }
         let notes = input.notes;
-        input = read_piece(notes, trace);
-        turns -= 1;
+        input = read_piece(from, notes, trace);
     }
     input
 }
 
 // Reads a piece of the notes.
-fn read_piece(notes: Notes, trace: &mut [u8]) -> Input {
-    let mut piece = io::buffer();
-    let got = libc::read(STDIN_FILENO, &mut piece);
-    if got < 0 {
+fn read_piece(from: &mut impl Read, notes: Notes, trace: &mut [u8]) -> Input {
+    let mut piece = given::buffer();
+    let Ok(n) = from.read(&mut piece) else {
         return Input {
             notes,
             more: false,
             failed: true,
         };
-    }
-    let n = io::count(got, &piece);
+    };
     if n == 0 {
         return Input {
             notes,
@@ -206,8 +227,8 @@ fn read_piece(notes: Notes, trace: &mut [u8]) -> Input {
     }
 }
 
-fn say(words: &[u8]) {
-    io::write_all(STDERR_FILENO, words);
+fn say(err: &impl Print, words: &[u8]) -> io::Result<()> {
+    err.write_all(words)
 }
 
 fn smaller(a: usize, b: usize) -> usize

@@ -1,9 +1,8 @@
 // The listing, which is read and followed piece by piece.
 ghost use Rattle.std.specs.Prelude.{◌+◌, ◌≤◌, length};
-ghost use Rattle.io.specs.Counts.{IsPrefixLen as LengthIn};
 
-use libc::STDIN_FILENO;
 use logs::Follower;
+use std::io::Read;
 
 // How far a listing was read: what was followed of it, how many bytes of its last line are held at the start of the buffer, whether there may be more, and whether it could not be read on.
 #[derive(Clone, Copy)]
@@ -15,9 +14,14 @@ pub(crate) struct Listing {
 }
 
 // Reads a listing to its end, or as far as it follows.
-// A proved loop has to end, and nothing says that an input does. So the loop counts its turns down, from a number that no run uses up.
-pub(crate) fn follow_input(follower: Follower, file: &[u8], buffer: &mut [u8]) -> Listing
-    ensures { LengthIn result.held buffer.new }
+// A proved loop has to end, and nothing says that an input does. So the loop counts its turns, up to a number that no run comes to.
+pub(crate) fn follow_input(
+    from: &mut impl Read,
+    follower: Follower,
+    file: &[u8],
+    buffer: &mut [u8],
+) -> Listing
+    ensures { result.held ≤ length buffer.new }
 {
     let mut listing = Listing {
         follower,
@@ -25,31 +29,30 @@ pub(crate) fn follow_input(follower: Follower, file: &[u8], buffer: &mut [u8]) -
         more: true,
         failed: false,
     };
-    let mut turns = u64::MAX;
-    while turns > 0 && listing.more {
-        listing = follow_piece(listing, file, buffer);
-        turns -= 1;
+    for _ in 0..u64::MAX {
+        if !listing.more {
+            break;
+        }
+        listing = follow_piece(from, listing, file, buffer);
     }
     listing
 }
 
 // Reads a piece behind what is held, and follows the lines that end in it. There is no more where nothing was read.
-fn follow_piece(listing: Listing, file: &[u8], buffer: &mut [u8]) -> Listing
+fn follow_piece(from: &mut impl Read, listing: Listing, file: &[u8], buffer: &mut [u8]) -> Listing
     requires { listing.held ≤ length buffer.old }
     ensures { result.held ≤ length buffer.old }
 {
     let held = listing.held;
     let follower = listing.follower;
-    let got = libc::read(STDIN_FILENO, &mut buffer[held..]);
-    if got < 0 {
+    let Ok(read) = from.read(&mut buffer[held..]) else {
         return Listing {
             follower,
             held,
             more: false,
             failed: true,
         };
-    }
-    let read = io::count(got, &buffer[held..]);
+    };
     follow_lines(follower, file, buffer, held + read, read > 0)
 }
 

@@ -4,12 +4,13 @@
 mod input;
 mod print;
 
-ghost use Rattle.io.specs.Counts.{IsPrefixLen as LengthIn};
+ghost use Rattle.std.specs.Prelude.{◌≤◌, length};
 
 use input::follow_input;
-use libc::STDERR_FILENO;
 use logs::Follower;
 use print::print_report;
+use std::fs::Files;
+use std::io;
 
 // What was read of a file: how many bytes, and whether it could not be read on.
 #[derive(Clone, Copy)]
@@ -19,67 +20,66 @@ struct Read {
 }
 
 // The buffer holds more than the longest file, so that a longer one is refused without being read to its end.
-fn main() {
-    if os::arg_count() != 2 {
-        say(b"follow: name one session file; the listing is read from standard input\n");
-        return;
+fn main(rt: HostRuntime) -> io::Result<()> {
+    let err = rt.stderr();
+    if given::word_count(&rt) != 2 {
+        return say(
+            &err,
+            b"follow: name one session file; the listing is read from standard input\n",
+        );
     }
-    let mut name = io::buffer();
-    let len = os::arg(1, &mut name);
-    if os::errno() != 0 {
-        follow(&name);
-        return;
-    }
-    follow(&name[..len]);
+    let mut name = given::buffer();
+    let len = given::word(&rt, 1, &mut name);
+    follow(&rt, &err, &mut rt.stdin(), &name[..len])
 }
 
 // A name has 4,095 bytes at most. One that its buffer has no room for is cut, and is then still too long to be opened.
-fn follow(name: &[u8]) {
-    let mut file = io::large_buffer();
-    let read = read_file(name, &mut file);
+fn follow<R: Files + Print>(
+    rt: &R,
+    err: &impl Print,
+    from: &mut impl io::Read,
+    name: &[u8],
+) -> io::Result<()> {
+    let mut file = given::large_buffer();
+    let read = read_file(rt, name, &mut file);
     if read.failed {
-        say(b"follow: cannot read ");
-        say(name);
-        say(b"\n");
-        return;
+        say(err, b"follow: cannot read ")?;
+        say(err, name)?;
+        return say(err, b"\n");
     }
     let len = read.len;
-    follow_listing(&file[..len]);
+    follow_listing(rt, err, from, &file[..len])
 }
 
 // Follows the listing of a file, and prints what is said of it. The buffer has room for many lines; one that is longer is none of ours.
-fn follow_listing(file: &[u8]) {
-    let mut buffer = io::large_buffer();
-    let listing = follow_input(Follower::begin(file), file, &mut buffer);
+fn follow_listing(
+    rt: &impl Print,
+    err: &impl Print,
+    from: &mut impl io::Read,
+    file: &[u8],
+) -> io::Result<()> {
+    let mut buffer = given::large_buffer();
+    let listing = follow_input(from, Follower::begin(file), file, &mut buffer);
     if listing.failed {
-        say(b"follow: cannot read standard input\n");
-        return;
+        return say(err, b"follow: cannot read standard input\n");
     }
     let held = listing.held;
-    print_report(listing.follower, file, &buffer[..held]);
+    print_report(rt, listing.follower, file, &buffer[..held])
 }
 
-// Reads a file. Where a read failed, at once as of a folder or later, one more read fails too, and shows it.
-fn read_file(name: &[u8], file: &mut [u8]) -> Read
-    ensures { LengthIn result.len file.new }
+// Reads a file. One that cannot be read, as a folder, has failed.
+fn read_file(rt: &impl Files, name: &[u8], file: &mut [u8]) -> Read
+    ensures { result.len ≤ length file.new }
 {
-    let fd = os::open_read(name);
-    if fd < 0 {
-        return Read {
+    match given::read_file(rt, name, file) {
+        Ok(len) => Read { len, failed: false },
+        Err(_) => Read {
             len: 0,
             failed: true,
-        };
-    }
-    let len = io::read_full(fd, file);
-    let mut one = [0u8; 1];
-    let next = libc::read(fd, &mut one);
-    libc::close(fd);
-    Read {
-        len,
-        failed: next < 0,
+        },
     }
 }
 
-fn say(words: &[u8]) {
-    io::write_all(STDERR_FILENO, words);
+fn say(err: &impl Print, words: &[u8]) -> io::Result<()> {
+    err.write_all(words)
 }

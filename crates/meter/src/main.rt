@@ -9,6 +9,7 @@ use file::{Event, Reading};
 use listing::Text;
 use order::Order;
 use session::Session;
+use std::io;
 use table::Table;
 
 const TIMES_BYTES: usize = 8;
@@ -20,16 +21,17 @@ struct Tally {
     mixed: u64,
 }
 
-fn main() {
-    let mut buffer = io::large_buffer();
-    let len = io::read_full(0, &mut buffer);
+fn main(rt: HostRuntime) -> io::Result<()> {
+    let mut buffer = given::large_buffer();
+    let len = given::read_full(&mut rt.stdin(), &mut buffer)?;
     if TIMES_BYTES <= len {
         let times = cells::number_at(&buffer, 0, TIMES_BYTES);
-        meter(times, &buffer[TIMES_BYTES..len]);
+        meter(&rt, times, &buffer[TIMES_BYTES..len])?;
     }
+    Ok(())
 }
 
-fn meter(times: u64, file: &[u8]) {
+fn meter(rt: &impl Print, times: u64, file: &[u8]) -> io::Result<()> {
     let reading = file::read(file);
     let Reading::LaidOut {
         order,
@@ -39,37 +41,44 @@ fn meter(times: u64, file: &[u8]) {
         ..
     } = reading
     else {
-        print_unread(reading);
-        return;
+        return print_unread(rt, reading);
     };
     measure(
+        rt,
         file::table_of(file),
         order,
         &file[start..end],
         events,
         times,
-    );
+    )
 }
 
-fn print_unread(reading: Reading) {
+fn print_unread(rt: &impl Print, reading: Reading) -> io::Result<()> {
     match reading {
-        Reading::LaidOut { .. } => {}
-        Reading::Refused(number) => print(listing::refused(number, 0)),
+        Reading::LaidOut { .. } => Ok(()),
+        Reading::Refused(number) => print(rt, listing::refused(number, 0)),
     }
 }
 
-fn measure(table: Table, order: Order, trace: &[u8], events: usize, times: u64) {
+fn measure(
+    rt: &impl Print,
+    table: Table,
+    order: Order,
+    trace: &[u8],
+    events: usize,
+    times: u64,
+) -> io::Result<()> {
     if events == 0 {
-        tell(times, openings(table, order, times));
-        return;
+        return tell(rt, times, openings(table, order, times));
     }
     let last = events - 1;
     let opened = Session::open(table, order);
     let prepared = run(opened.session, trace, last);
     tell(
+        rt,
         times,
         repeated(prepared, file::event_at(trace, last), times),
-    );
+    )
 }
 
 // The session after the first events of a trace.
@@ -210,14 +219,14 @@ fn clock_reports(session: Session, time: u64, times: u64) -> Tally {
     Tally { number, mixed }
 }
 
-fn tell(times: u64, tally: Tally) {
-    print(listing::line(times, tally.number, 0, 0, tally.mixed, 0));
+fn tell(rt: &impl Print, times: u64, tally: Tally) -> io::Result<()> {
+    print(rt, listing::line(times, tally.number, 0, 0, tally.mixed, 0))
 }
 
-fn print(text: Text)
+fn print(rt: &impl Print, text: Text) -> io::Result<()>
     requires { Within text }
 {
     let bytes = text.bytes;
     let len = text.len;
-    io::write_all(1, &bytes[..len]);
+    rt.write_all(&bytes[..len])
 }

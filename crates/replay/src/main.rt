@@ -6,23 +6,21 @@ ghost use Rattle.listing.specs.Line.{Within};
 use file::Reading;
 use listing::Text;
 use session::Session;
+use std::io;
 use table::Admission;
 
 // The buffer holds more than the longest file, so that a longer one is refused without being read to its end.
-// Of an input that cannot be read it says so, and prints nothing: to read no byte fails then.
-fn main() {
-    let mut none = [0u8; 0];
-    if libc::read(0, &mut none) < 0 {
-        io::write_all(2, b"replay: cannot read standard input\n");
-        return;
-    }
-    let mut buffer = io::large_buffer();
-    let len = io::read_full(0, &mut buffer);
-    replay(&buffer[..len]);
+// Of an input that cannot be read it says so, and prints nothing.
+fn main(rt: HostRuntime) -> io::Result<()> {
+    let mut buffer = given::large_buffer();
+    let Ok(len) = given::read_full(&mut rt.stdin(), &mut buffer) else {
+        return rt.eprint("replay: cannot read standard input\n");
+    };
+    replay(&rt, &buffer[..len])
 }
 
 // Prints what document 01 says of a file: its listing, or the number that refuses it.
-fn replay(file: &[u8]) {
+fn replay(rt: &impl Print, file: &[u8]) -> io::Result<()> {
     let reading = file::read(file);
     let Reading::LaidOut {
         order,
@@ -32,42 +30,41 @@ fn replay(file: &[u8]) {
         ..
     } = reading
     else {
-        print_unread(reading);
-        return;
+        return print_unread(rt, reading);
     };
     let opened = Session::open(file::table_of(file), order);
     let admission = opened.admission;
     let Admission::Admitted(_) = admission else {
-        print(listing::refused(admission.number(), admission.over()));
-        return;
+        return print(rt, listing::refused(admission.number(), admission.over()));
     };
-    print(listing::header());
-    run(opened.session, &file[start..end], events);
+    print(rt, listing::header())?;
+    run(rt, opened.session, &file[start..end], events)
 }
 
-fn print_unread(reading: Reading) {
+fn print_unread(rt: &impl Print, reading: Reading) -> io::Result<()> {
     match reading {
-        Reading::LaidOut { .. } => {}
-        Reading::Refused(number) => print(listing::refused(number, 0)),
+        Reading::LaidOut { .. } => Ok(()),
+        Reading::Refused(number) => print(rt, listing::refused(number, 0)),
     }
 }
 
 // Runs the events of a trace, and prints a line for each.
-fn run(opened: Session, trace: &[u8], events: usize) {
+fn run(rt: &impl Print, opened: Session, trace: &[u8], events: usize) -> io::Result<()> {
     let mut session = opened;
     let mut i: usize = 0;
     while i < events {
         let stepped = trace::step(session, i as u64 + 1, file::event_at(trace, i));
-        print(stepped.text);
+        print(rt, stepped.text)?;
         session = stepped.session;
         i += 1;
     }
+    Ok(())
 }
 
-fn print(text: Text)
+fn print(rt: &impl Print, text: Text) -> io::Result<()>
     requires { Within text }
 {
     let bytes = text.bytes;
     let len = text.len;
-    io::write_all(1, &bytes[..len]);
+    rt.write_all(&bytes[..len])
 }

@@ -14,107 +14,127 @@ use order::Order;
 use pieces::{gather, is_at_end};
 use repair::Taken;
 use say::{print, say, unmade, unread, unwritten};
+use std::env::Env;
+use std::fs::{Files, OpenFile};
+use std::io;
+use std::io::Write;
 
-fn main() {
-    if os::arg_count() != 3 {
-        say(b"salvage: name the old file and the new one\n");
-        return;
+fn main(rt: HostRuntime) -> io::Result<()> {
+    let err = rt.stderr();
+    if given::word_count(&rt) != 3 {
+        return say(&err, b"salvage: name the old file and the new one\n");
     }
-    let mut name = io::buffer();
-    let len = os::arg(1, &mut name);
-    if os::errno() != 0 {
-        salvage(&name);
-        return;
-    }
-    salvage(&name[..len]);
+    let mut name = given::buffer();
+    let len = given::word(&rt, 1, &mut name);
+    salvage(&rt, &err, &name[..len])
 }
 
 // A name has 4,095 bytes at most. One that its buffer has no room for is cut, and is then still too long to be opened.
-fn salvage(old: &[u8]) {
-    let mut name = io::buffer();
-    let len = os::arg(2, &mut name);
-    if os::errno() != 0 {
-        salvage_as(old, &name);
-        return;
-    }
-    salvage_as(old, &name[..len]);
+fn salvage<R: Env + Files + Print + Alloc>(rt: &R, err: &impl Print, old: &[u8]) -> io::Result<()> {
+    let mut name = given::buffer();
+    let len = given::word(rt, 2, &mut name);
+    salvage_as(rt, err, old, &name[..len])
 }
 
-fn salvage_as(old: &[u8], new: &[u8]) {
-    let fd = os::open_read(old);
-    if fd < 0 {
-        unread(old);
-        return;
+fn salvage_as<R: Files + Print + Alloc>(
+    rt: &R,
+    err: &impl Print,
+    old: &[u8],
+    new: &[u8],
+) -> io::Result<()> {
+    let Ok(mut file) = given::open(rt, old) else {
+        return unread(err, old);
+    };
+    if !salvage_open(rt, err, &mut file, new)? {
+        unread(err, old)?;
     }
-    if !salvage_open(fd, new) {
-        unread(old);
-    }
-    libc::close(fd);
+    Ok(())
 }
 
 // Salvages a file that is open, and answers whether it could be read. The first bytes tell where the trace starts.
-fn salvage_open(fd: i32, new: &[u8]) -> bool {
-    let mut head = io::buffer();
-    let len = io::read_full(fd, &mut head);
+fn salvage_open<R: Files + Print + Alloc>(
+    rt: &R,
+    err: &impl Print,
+    file: &mut R::File,
+    new: &[u8],
+) -> io::Result<bool> {
+    let mut head = given::buffer();
+    let Ok(len) = given::read_full(file, &mut head) else {
+        return Ok(false);
+    };
     if len < head.len() {
-        if !is_at_end(fd) {
-            return false;
+        if !is_at_end(file) {
+            return Ok(false);
         }
     }
     let taken = repair::take(&head[..len]);
     if taken.number != 0 {
-        print(listing::refused(taken.number, 0));
-        return true;
+        print(rt, listing::refused(taken.number, 0))?;
+        return Ok(true);
     }
-    salvage_taken(fd, new, &head[..len], taken)
+    salvage_taken(rt, err, file, new, &head[..len], taken)
 }
 
 // Goes over the trace twice: what is kept of it is written, and then what is not is printed.
-fn salvage_taken(fd: i32, new: &[u8], head: &[u8], taken: Taken) -> bool
+fn salvage_taken<R: Files + Print + Alloc>(
+    rt: &R,
+    err: &impl Print,
+    file: &mut R::File,
+    new: &[u8],
+    head: &[u8],
+    taken: Taken,
+) -> io::Result<bool>
     requires { taken.start ≤ table_end_max }
 {
-    let mut trace = io::large_buffer();
-    let gathered = gather(fd, taken.start, &mut trace);
+    let mut trace = given::large_buffer();
+    let gathered = gather(file, taken.start, &mut trace);
     if gathered.failed {
-        return false;
+        return Ok(false);
     }
     let kept = Event::MOST - gathered.room;
     let end = Event::SIZE * kept;
-    if !make(new, head, &trace[..end]) {
-        return true;
+    if !make(rt, err, new, head, &trace[..end])? {
+        return Ok(true);
     }
-    if print_changes(fd, head, taken, kept) {
-        return true;
+    if print_changes(rt, file, head, taken, kept)? {
+        return Ok(true);
     }
-    os::unlink(new);
-    false
+    let _ = given::remove(rt, new);
+    Ok(false)
 }
 
 // Makes the new file, and answers whether it is there. The buffer holds more than the longest file.
-fn make(new: &[u8], head: &[u8], trace: &[u8]) -> bool {
-    let mut file = io::large_buffer();
+fn make<R: Files + Print + Alloc>(
+    rt: &R,
+    err: &impl Print,
+    new: &[u8],
+    head: &[u8],
+    trace: &[u8],
+) -> io::Result<bool> {
+    let mut file = given::large_buffer();
     let table = file::table_of(head);
     match file::write(table, Form::Two, Order::Nearest, trace, &mut file) {
-        Writing::Written(len) => put(new, &file[..len]),
+        Writing::Written(len) => put(rt, err, new, &file[..len]),
         Writing::Refused(number) => {
-            print(listing::refused(number, 0));
-            false
+            print(rt, listing::refused(number, 0))?;
+            Ok(false)
         }
     }
 }
 
 // Puts bytes into a file that was not there, or leaves none.
-fn put(new: &[u8], bytes: &[u8]) -> bool {
-    let fd = os::create(new);
-    if fd < 0 {
-        unmade(new);
-        return false;
+fn put<R: Files + Alloc>(rt: &R, err: &impl Print, new: &[u8], bytes: &[u8]) -> io::Result<bool> {
+    let mut file = match given::create(rt, new) {
+        Ok(file) => file,
+        Err(error) => {
+            unmade(rt, err, new, error)?;
+            return Ok(false);
+        }
+    };
+    if file.write_all(bytes).is_ok() && file.sync_all().is_ok() {
+        return Ok(true);
     }
-    let written = io::write_all(fd, bytes);
-    if (libc::close(fd) == 0) & written {
-        return true;
-    }
-    unwritten(new);
-    os::unlink(new);
-    false
+    let _ = given::remove(rt, new);
+    unwritten(err, new)?;
+    Ok(false)
 }

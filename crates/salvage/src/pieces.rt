@@ -4,7 +4,7 @@ ghost use Rattle.file.specs.File.{events_max, event_size};
 ghost use Rattle.repair.specs.Pieces.{table_end_max};
 
 use file::Event;
-use libc::SEEK_SET;
+use std::io::{Read, Seek, SeekFrom};
 
 // How many more events may be kept, whether there may be more of the trace, and whether it could not be read on.
 #[derive(Clone, Copy)]
@@ -15,39 +15,46 @@ pub(crate) struct Gathered {
 }
 
 // Keeps what is sound of a trace that starts at an index of the file, up to 4,000 events.
-// A proved loop has to end, and nothing says that a file does. So the loop counts its turns down, from a number that no run uses up.
-pub(crate) fn gather(fd: i32, start: usize, trace: &mut [u8]) -> Gathered
+// A proved loop has to end, and nothing says that a file does. So the loop counts its turns, up to a number that no run comes to.
+pub(crate) fn gather<F: Read + Seek>(old: &mut F, start: usize, trace: &mut [u8]) -> Gathered
     requires start_le_table_end_max { start ≤ table_end_max }
     requires events_max_in_bounds { event_size * events_max ≤ length trace.old }
     ensures { result.room ≤ events_max }
 {
     let mut gathered = Gathered {
         room: Event::MOST,
-        more: go_to(fd, start),
+        more: go_to(old, start),
         failed: false,
     };
     if !gathered.more {
         gathered.failed = true;
         return gathered;
     }
-    let mut turns = u64::MAX;
-    while turns > 0 && gathered.more {
-        gathered = gather_piece(fd, gathered.room, trace);
-        turns -= 1;
+    for _ in 0..u64::MAX {
+        if !gathered.more {
+            break;
+        }
+        gathered = gather_piece(old, gathered.room, trace);
     }
-    let ended = is_at_end(fd);
-    gathered.failed = (gathered.room > 0) & !ended;
+    let ended = is_at_end(old);
+    gathered.failed = gathered.failed | ((gathered.room > 0) & !ended);
     gathered
 }
 
 // Reads a piece, and keeps what is sound in it behind what was kept before.
-fn gather_piece(fd: i32, room: usize, trace: &mut [u8]) -> Gathered
+fn gather_piece(old: &mut impl Read, room: usize, trace: &mut [u8]) -> Gathered
     requires room_le_events_max { room ≤ events_max }
     requires events_max_in_bounds { event_size * events_max ≤ length trace.old }
     ensures { result.room ≤ room }
 {
-    let mut piece = io::large_buffer();
-    let len = io::read_full(fd, &mut piece);
+    let mut piece = given::large_buffer();
+    let Ok(len) = given::read_full(old, &mut piece) else {
+        return Gathered {
+            room,
+            more: false,
+            failed: true,
+        };
+    };
     let filled = Event::SIZE * (Event::MOST - room);
     let kept = repair::keep(&piece[..len], room, &mut trace[filled..]);
     let left = room - kept;
@@ -59,14 +66,17 @@ fn gather_piece(fd: i32, room: usize, trace: &mut [u8]) -> Gathered
 }
 
 // Whether the file could be set to an index, from which it is read on.
-pub(crate) fn go_to(fd: i32, start: usize) -> bool
+pub(crate) fn go_to(old: &mut impl Seek, start: usize) -> bool
     requires { start ≤ table_end_max }
 {
-    libc::lseek(fd, start as i64, SEEK_SET) >= 0
+    old.seek(SeekFrom::Start(start as u64)).is_ok()
 }
 
-// Whether the file was read to its end: one more read has nothing. Where a read failed, at once as of a folder or later, one more fails too or reads on.
-pub(crate) fn is_at_end(fd: i32) -> bool {
+// Whether the file was read to its end: one more read has nothing.
+pub(crate) fn is_at_end(old: &mut impl Read) -> bool {
     let mut one = [0u8; 1];
-    libc::read(fd, &mut one) == 0
+    match old.read(&mut one) {
+        Ok(n) => n == 0,
+        Err(_) => false,
+    }
 }

@@ -1,35 +1,47 @@
 // What is printed, and what is said on standard error.
 ghost use Rattle.listing.specs.Line.{Within};
 
-use libc::{STDERR_FILENO, STDOUT_FILENO};
 use listing::Text;
+use std::io;
 
-pub(crate) fn print(text: Text)
+pub(crate) fn print(rt: &impl Print, text: Text) -> io::Result<()>
     requires { Within text }
 {
     let bytes = text.bytes;
     let len = text.len;
-    io::write_all(STDOUT_FILENO, &bytes[..len]);
+    rt.write_all(&bytes[..len])
 }
 
-pub(crate) fn say(words: &[u8]) {
-    io::write_all(STDERR_FILENO, words);
+pub(crate) fn say(err: &impl Print, words: &[u8]) -> io::Result<()> {
+    err.write_all(words)
 }
 
-pub(crate) fn unread(name: &[u8]) {
-    say(b"salvage: cannot read ");
-    say(name);
-    say(b"\n");
+pub(crate) fn unread(err: &impl Print, name: &[u8]) -> io::Result<()> {
+    say(err, b"salvage: cannot read ")?;
+    say(err, name)?;
+    say(err, b"\n")
 }
 
-// Says why the new file cannot be made, as where there is one of that name.
-pub(crate) fn unmade(name: &[u8]) {
-    say(b"salvage: cannot make ");
-    os::fail(name);
+// Says why the new file cannot be made, as where there is one of that name. The system's words come with its number behind them, which is left out.
+pub(crate) fn unmade(
+    rt: &impl Alloc,
+    err: &impl Print,
+    name: &[u8],
+    error: io::Error,
+) -> io::Result<()> {
+    say(err, b"salvage: cannot make ")?;
+    say(err, name)?;
+    say(err, b": ")?;
+    let text = error.to_string(rt.alloc())?;
+    match text.as_str().rsplit_once(" (os error ") {
+        Some((words, _)) => err.print(words)?,
+        None => err.print(text.as_str())?,
+    }
+    say(err, b"\n")
 }
 
-pub(crate) fn unwritten(name: &[u8]) {
-    say(b"salvage: cannot write ");
-    say(name);
-    say(b"\n");
+pub(crate) fn unwritten(err: &impl Print, name: &[u8]) -> io::Result<()> {
+    say(err, b"salvage: cannot write ")?;
+    say(err, name)?;
+    say(err, b"\n")
 }

@@ -4,26 +4,23 @@
 ghost use Rattle.listing.specs.Line.{Within};
 
 use file::{Form, Reading};
-use libc::{STDERR_FILENO, STDIN_FILENO, STDOUT_FILENO};
 use listing::Text;
 use order::Order;
+use std::io;
 use table::Table;
 
 // The buffer holds more than the longest file, so that a longer one is refused without being read to its end.
-// Of an input that cannot be read it says so, and prints nothing: to read no byte fails then.
-fn main() {
-    let mut none = [0u8; 0];
-    if libc::read(STDIN_FILENO, &mut none) < 0 {
-        io::write_all(STDERR_FILENO, b"show: cannot read standard input\n");
-        return;
-    }
-    let mut buffer = io::large_buffer();
-    let len = io::read_full(STDIN_FILENO, &mut buffer);
-    show(&buffer[..len]);
+// Of an input that cannot be read it says so, and prints nothing.
+fn main(rt: HostRuntime) -> io::Result<()> {
+    let mut buffer = given::large_buffer();
+    let Ok(len) = given::read_full(&mut rt.stdin(), &mut buffer) else {
+        return rt.eprint("show: cannot read standard input\n");
+    };
+    show(&rt, &rt.stderr(), &buffer[..len])
 }
 
 // Prints the notes of a file, or says by which number it is refused.
-fn show(file: &[u8]) {
+fn show(rt: &impl Print, err: &impl Print, file: &[u8]) -> io::Result<()> {
     let reading = file::read(file);
     let Reading::LaidOut {
         form,
@@ -34,34 +31,48 @@ fn show(file: &[u8]) {
         events,
     } = reading
     else {
-        tell_unread(reading);
-        return;
+        return tell_unread(err, reading);
     };
     let lines = notes::head_lines(form) + count + events;
-    print_lines(form, order, file::table_of(file), &file[start..end], lines);
+    print_lines(
+        rt,
+        form,
+        order,
+        file::table_of(file),
+        &file[start..end],
+        lines,
+    )
 }
 
-fn tell_unread(reading: Reading) {
+fn tell_unread(err: &impl Print, reading: Reading) -> io::Result<()> {
     match reading {
-        Reading::LaidOut { .. } => {}
-        Reading::Refused(number) => print(STDERR_FILENO, listing::refused(number, 0)),
+        Reading::LaidOut { .. } => Ok(()),
+        Reading::Refused(number) => print(err, listing::refused(number, 0)),
     }
 }
 
 // Prints the first lines of the notes of a file.
-fn print_lines(form: Form, order: Order, table: Table, trace: &[u8], lines: usize) {
+fn print_lines(
+    rt: &impl Print,
+    form: Form,
+    order: Order,
+    table: Table,
+    trace: &[u8],
+    lines: usize,
+) -> io::Result<()> {
     let mut i: usize = 0;
     while i < lines {
         let line = notes::line_at(form, order, table, trace, i);
-        print(STDOUT_FILENO, notes::shown(line));
+        print(rt, notes::shown(line))?;
         i += 1;
     }
+    Ok(())
 }
 
-fn print(to: i32, text: Text)
+fn print(to: &impl Print, text: Text) -> io::Result<()>
     requires { Within text }
 {
     let bytes = text.bytes;
     let len = text.len;
-    io::write_all(to, &bytes[..len]);
+    to.write_all(&bytes[..len])
 }

@@ -1,9 +1,11 @@
 // The names of standard input, one a line.
-ghost use Rattle.std.specs.Prelude.{◌≤◌, length};
+ghost use Rattle.std.specs.Prelude.{◌≤◌, length, IfOk};
 
 use crate::one_file::tally_file;
 use counts::Counts;
-use libc::STDIN_FILENO;
+use std::fs::Files;
+use std::io;
+use std::io::Read;
 
 // The names so far: how much of the next one is in its buffer, and what was counted of the files before it.
 #[derive(Clone, Copy)]
@@ -21,9 +23,14 @@ pub(crate) struct Input {
 }
 
 // Tallies the files that standard input names.
-// A proved loop has to end, and nothing says that an input does. So the loop counts its turns down, from a number that no run uses up.
-pub(crate) fn tally_input(file: &mut [u8]) -> Input {
-    let mut name = io::buffer();
+// A proved loop has to end, and nothing says that an input does. So the loop counts its turns, up to a number that no run comes to.
+pub(crate) fn tally_input<R: Files + Print>(
+    rt: &R,
+    err: &impl Print,
+    from: &mut impl Read,
+    file: &mut [u8],
+) -> io::Result<Input> {
+    let mut name = given::buffer();
     let totals = Counts::none();
     let names = Names { len: 0, totals };
     let mut input = Input {
@@ -31,80 +38,100 @@ pub(crate) fn tally_input(file: &mut [u8]) -> Input {
         more: true,
         failed: false,
     };
-    let mut turns = u64::MAX;
-    while turns > 0 && input.more {
+    for _ in 0..u64::MAX {
+        if !input.more {
+            break;
+        }
         let names = input.names;
-        input = tally_piece(names, &mut name, file);
-        turns -= 1;
+        input = tally_piece(rt, err, from, names, &mut name, file)?;
     }
-    input
+    Ok(input)
 }
 
 // Reads a piece of the names, and tallies the files of those that end in it. The last name ends with the input.
-fn tally_piece(names: Names, name: &mut [u8], file: &mut [u8]) -> Input
+fn tally_piece<R: Files + Print>(
+    rt: &R,
+    err: &impl Print,
+    from: &mut impl Read,
+    names: Names,
+    name: &mut [u8],
+    file: &mut [u8],
+) -> io::Result<Input>
     requires { names.len ≤ length name.old }
-    ensures { result.names.len ≤ length name.old }
+    ensures { IfOk result (λ input. input.names.len ≤ length name.old) }
 {
-    let mut piece = io::buffer();
-    let got = libc::read(STDIN_FILENO, &mut piece);
-    if got < 0 {
-        return Input {
+    let mut piece = given::buffer();
+    let Ok(n) = from.read(&mut piece) else {
+        return Ok(Input {
             names,
             more: false,
             failed: true,
-        };
-    }
-    let n = io::count(got, &piece);
+        });
+    };
     if n == 0 {
-        let names = tally_byte(names, b'\n', name, file);
-        return Input {
+        let names = tally_byte(rt, err, names, b'\n', name, file)?;
+        return Ok(Input {
             names,
             more: false,
             failed: false,
-        };
+        });
     }
-    let names = tally_bytes(names, &piece[..n], name, file);
-    Input {
+    let names = tally_bytes(rt, err, names, &piece[..n], name, file)?;
+    Ok(Input {
         names,
         more: true,
         failed: false,
-    }
+    })
 }
 
 // Goes over the bytes of a piece.
-fn tally_bytes(before: Names, bytes: &[u8], name: &mut [u8], file: &mut [u8]) -> Names
+fn tally_bytes<R: Files + Print>(
+    rt: &R,
+    err: &impl Print,
+    before: Names,
+    bytes: &[u8],
+    name: &mut [u8],
+    file: &mut [u8],
+) -> io::Result<Names>
     requires { before.len ≤ length name.old }
-    ensures { result.len ≤ length name.old }
+    ensures { IfOk result (λ names. names.len ≤ length name.old) }
 {
     let mut names = before;
     let mut i: usize = 0;
     while i < bytes.len() {
-        names = tally_byte(names, bytes[i], name, file);
+        names = tally_byte(rt, err, names, bytes[i], name, file)?;
         i += 1;
     }
-    names
+    Ok(names)
 }
 
 // Puts a byte behind those of a name, as long as there is room; at a newline, tallies the file of that name. An empty line is no name.
-fn tally_byte(names: Names, byte: u8, name: &mut [u8], file: &mut [u8]) -> Names
+fn tally_byte<R: Files + Print>(
+    rt: &R,
+    err: &impl Print,
+    names: Names,
+    byte: u8,
+    name: &mut [u8],
+    file: &mut [u8],
+) -> io::Result<Names>
     requires { names.len ≤ length name.old }
-    ensures { result.len ≤ length name.old }
+    ensures { IfOk result (λ after. after.len ≤ length name.old) }
 {
     let len = names.len;
     let totals = names.totals;
     if byte == b'\n' {
         if len == 0 {
-            return names;
+            return Ok(names);
         }
-        let totals = tally_file(totals, &name[..len], file);
-        return Names { len: 0, totals };
+        let totals = tally_file(rt, err, totals, &name[..len], file)?;
+        return Ok(Names { len: 0, totals });
     }
     if len < name.len() {
         name[len] = byte;
-        return Names {
+        return Ok(Names {
             len: len + 1,
             totals,
-        };
+        });
     }
-    names
+    Ok(names)
 }

@@ -9,41 +9,51 @@ use counts::Counts;
 use input::tally_input;
 use one_file::tally_file;
 use print::{print_totals, say};
+use std::env::Env;
+use std::fs::Files;
+use std::io;
 
 // The buffer holds more than the longest file, so that a longer one is refused without being read to its end.
-fn main() {
-    let mut file = io::large_buffer();
-    if 1 < os::arg_count() {
-        print_totals(tally_arguments(&mut file));
-        return;
+fn main(rt: HostRuntime) -> io::Result<()> {
+    let err = rt.stderr();
+    let mut file = given::large_buffer();
+    if 1 < given::word_count(&rt) {
+        let totals = tally_arguments(&rt, &err, &mut file)?;
+        return print_totals(&rt, &err, totals);
     }
-    let input = tally_input(&mut file);
+    let input = tally_input(&rt, &err, &mut rt.stdin(), &mut file)?;
     if input.failed {
-        say(b"tally: cannot read standard input\n");
-        return;
+        return say(&err, b"tally: cannot read standard input\n");
     }
     let names = input.names;
-    print_totals(names.totals);
+    print_totals(&rt, &err, names.totals)
 }
 
 // Tallies the files that the arguments name.
-fn tally_arguments(file: &mut [u8]) -> Counts {
-    let count = os::arg_count();
+fn tally_arguments<R: Env + Files + Print>(
+    rt: &R,
+    err: &impl Print,
+    file: &mut [u8],
+) -> io::Result<Counts> {
+    let count = given::word_count(rt);
     let mut totals = Counts::none();
     let mut i: usize = 1;
     while i < count {
-        totals = tally_argument(totals, i, file);
+        totals = tally_argument(rt, err, totals, i, file)?;
         i += 1;
     }
-    totals
+    Ok(totals)
 }
 
 // A name has 4,095 bytes at most. One that its buffer has no room for is cut, and is then still too long to be opened.
-fn tally_argument(totals: Counts, i: usize, file: &mut [u8]) -> Counts {
-    let mut name = io::buffer();
-    let len = os::arg(i, &mut name);
-    if os::errno() != 0 {
-        return tally_file(totals, &name, file);
-    }
-    tally_file(totals, &name[..len], file)
+fn tally_argument<R: Env + Files + Print>(
+    rt: &R,
+    err: &impl Print,
+    totals: Counts,
+    i: usize,
+    file: &mut [u8],
+) -> io::Result<Counts> {
+    let mut name = given::buffer();
+    let len = given::word(rt, i, &mut name);
+    tally_file(rt, err, totals, &name[..len], file)
 }

@@ -1,51 +1,50 @@
 // One file: what is counted of it.
-ghost use Rattle.std.specs.Prelude.{◌≡◌};
-ghost use Rattle.io.specs.Counts.{IsPrefixLen as LengthIn};
+ghost use Rattle.std.specs.Prelude.{◌≡◌, IfOk};
+ghost use Rattle.std.specs.Io.{ReadsAtMost};
 
 use crate::print::{print, print_counts, say};
 use counts::Counts;
-use libc::STDOUT_FILENO;
+use std::fs::Files;
+use std::io;
 
 // Prints what is counted of a file, and adds it to the totals.
-pub(crate) fn tally_file(totals: Counts, name: &[u8], file: &mut [u8]) -> Counts {
-    io::write_all(STDOUT_FILENO, b"file ");
-    io::write_all(STDOUT_FILENO, name);
-    io::write_all(STDOUT_FILENO, b"\n");
-    let len = read_file(name, file);
+pub(crate) fn tally_file<R: Files + Print>(
+    rt: &R,
+    err: &impl Print,
+    totals: Counts,
+    name: &[u8],
+    file: &mut [u8],
+) -> io::Result<Counts> {
+    rt.write_all(b"file ")?;
+    rt.write_all(name)?;
+    rt.write_all(b"\n")?;
+    let len = read_file(rt, err, name, file)?;
     let filed = counts::of_file(&file[..len]);
     let counts = filed.counts;
     if filed.refusal == 0 {
-        print_counts(counts, filed.count);
+        print_counts(rt, counts, filed.count)?;
     } else {
-        print(listing::refused(filed.refusal, filed.over));
+        print(rt, listing::refused(filed.refusal, filed.over))?;
     }
-    totals.and(counts)
+    Ok(totals.and(counts))
 }
 
-// Reads a file, and answers how many bytes it has. Where a read failed, at once as of a folder or later, one more read fails too, and shows it.
-fn read_file(name: &[u8], file: &mut [u8]) -> usize
-    ensures { LengthIn result file.new }
+// Reads a file, and answers how many bytes it has. One that cannot be read, as a folder, has none.
+fn read_file(rt: &impl Files, err: &impl Print, name: &[u8], file: &mut [u8]) -> io::Result<usize>
+    ensures { ReadsAtMost result file.new }
 {
-    let fd = os::open_read(name);
-    if fd < 0 {
-        return unread(name);
+    match given::read_file(rt, name, file) {
+        Ok(len) => Ok(len),
+        Err(_) => unread(err, name),
     }
-    let len = io::read_full(fd, file);
-    let mut one = [0u8; 1];
-    let next = libc::read(fd, &mut one);
-    libc::close(fd);
-    if next < 0 {
-        return unread(name);
-    }
-    len
 }
 
 // Says that a file cannot be read, and answers 0: it is refused by 16, as one that has no bytes.
-fn unread(name: &[u8]) -> usize
-    ensures { result ≡ 0 }
+fn unread(err: &impl Print, name: &[u8]) -> io::Result<usize>
+    ensures { IfOk result (λ n. n ≡ 0) }
 {
-    say(b"tally: cannot read ");
-    say(name);
-    say(b"\n");
-    0
+    say(err, b"tally: cannot read ")?;
+    say(err, name)?;
+    say(err, b"\n")?;
+    Ok(0)
 }

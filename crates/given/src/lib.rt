@@ -1,0 +1,94 @@
+// What a program is given: the words that it is started with, the files that they name, and bytes that are read until a buffer is full.
+#![tactic(auto)]
+
+ghost use Rattle.std.specs.Prelude.{◌≤◌, length};
+ghost use Rattle.std.specs.Io.{ReadsAtMost};
+
+use std::env::{Env, FillError};
+use std::fs::{Files, OpenOptions};
+use std::io::{ErrorKind, Read};
+use std::{fs, io, str};
+
+// 4,096 zeros, which hold any name of a file.
+pub fn buffer() -> [u8; 4096] {
+    [0; 4096]
+}
+
+// 65,536 zeros, which are more than the longest session file.
+pub fn large_buffer() -> [u8; 65536] {
+    [0; 65536]
+}
+
+// How many words a program was started with, its own name among them.
+pub fn word_count(env: &impl Env) -> usize {
+    let mut none = [0u8; 0];
+    for i in 0..usize::MAX {
+        if let Err(FillError::NotPresent) = env.arg(i, &mut none) {
+            return i;
+        }
+    }
+    usize::MAX
+}
+
+// Puts a word at the start of a buffer, and answers how many bytes of it are there. One that the buffer has no room for is cut; one that is missing has none.
+pub fn word(env: &impl Env, index: usize, buffer: &mut [u8]) -> usize
+    ensures { result ≤ length buffer.new }
+{
+    match env.arg(index, buffer) {
+        Ok(n) => n,
+        Err(FillError::TooLong) => buffer.len(),
+        Err(FillError::NotPresent) => 0,
+    }
+}
+
+// Opens a file for reading.
+pub fn open<R: Files>(files: &R, name: &[u8]) -> io::Result<R::File> {
+    fs::open(files, path(name)?)
+}
+
+// Makes a file that was not there, and opens it for writing.
+pub fn create<R: Files>(files: &R, name: &[u8]) -> io::Result<R::File> {
+    let path = path(name)?;
+    OpenOptions::new()
+        .write(true)
+        .create_new(true)
+        .open(files, path)
+}
+
+pub fn remove(files: &impl Files, name: &[u8]) -> io::Result<()> {
+    fs::remove_file(files, path(name)?)
+}
+
+// A name as text: one that is none in UTF-8 cannot be handed to the system.
+fn path(name: &[u8]) -> io::Result<&str> {
+    match str::from_utf8(name) {
+        Ok(path) => Ok(path),
+        Err(_) => Err(io::Error::from(ErrorKind::InvalidFilename)),
+    }
+}
+
+// Reads until the buffer is full or there is no more, and answers how many bytes it put at its start.
+pub fn read_full(from: &mut impl Read, buffer: &mut [u8]) -> io::Result<usize>
+    ensures { ReadsAtMost result buffer.new }
+{
+    let mut done: usize = 0;
+    while done < buffer.len() {
+        let got = from.read(&mut buffer[done..])?;
+        if got == 0 {
+            break;
+        }
+        done += got;
+    }
+    Ok(done)
+}
+
+// Reads a file, as far as the buffer goes. One more read shows of a file that fills it whether it could be read on.
+pub fn read_file(files: &impl Files, name: &[u8], buffer: &mut [u8]) -> io::Result<usize>
+    ensures { ReadsAtMost result buffer.new }
+{
+    let mut file = open(files, name)?;
+    let len = read_full(&mut file, buffer)?;
+    let mut one = [0u8; 1];
+    file.read(&mut one)?;
+    Ok(len)
+}

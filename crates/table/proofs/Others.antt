@@ -1,5 +1,4 @@
 -- A table with another reserved time for one stream: when it is admitted, and how far its load is from that of the first.
-use mathlib.Core.Bool.{not}
 use mathlib.Core.Logic.{◌↔◌}
 use mathlib.Core.Path.{◌≡◌, refl, sym, ◌∙◌, ap}
 use Prim.Native.Nat.{ℕ, ◌+◌, ◌-◌, ◌*◌, ◌/◌, ◌%◌, ◌≤◌, ◌<◌}

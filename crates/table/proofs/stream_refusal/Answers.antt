@@ -1,5 +1,4 @@
 -- `stream_refusal` gives the refusals 5 and 6 of a stream: each way out rewrites the tests that led there.
-use borrow.Author.Rules.{rules}
 use borrow.Author.Tests.{eq-eqb, ne_eqb}
 use mathlib.Core.Bool.{Bool, true, false, ◌||◌}
 use mathlib.Core.Path.{◌≡◌, subst}

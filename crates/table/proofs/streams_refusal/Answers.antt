@@ -4,7 +4,6 @@ use Rattle.table.proofs.Folds.{first_at}
 use native.Mathlib.Omega.{arith}
 use mathlib.Core.Path.{◌≡◌, refl, sym, ap, ◌∙◌}
 use native.Mathlib.Numerals.{add-one}
-use Prim.Native.Nat.{◌≤◌, ◌-◌}
 use Rattle.table.proofs.streams_refusal.Goals as goal
 
 pub loop-i-init : goal.loop-i-init

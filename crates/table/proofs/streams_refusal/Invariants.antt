@@ -1,10 +1,7 @@
 -- `streams_refusal` gives the first stream's refusal: the loop goes on only while no stream was refused.
-use Rattle.table.specs.Refusal.{first_to, ◌or_next◌}
-use Rattle.table.specs.Admission.{stream_refusal_at, streams_refusal}
-use Rattle.table.proofs.Folds.{first_at}
-use native.Mathlib.Omega.{arith}
-use mathlib.Core.Path.{◌≡◌, refl, sym, ap, ◌∙◌}
-use native.Mathlib.Numerals.{add-one}
+use Rattle.table.specs.Refusal.{first_to}
+use Rattle.table.specs.Admission.{stream_refusal_at}
+use mathlib.Core.Path.{◌≡◌}
 use Prim.Native.Nat.{◌≤◌, ◌-◌}
 use Rattle.table.proofs.streams_refusal.Given as goal
 

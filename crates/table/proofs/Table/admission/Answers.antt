@@ -1,7 +1,6 @@
 -- `Table::admission` gives the first refusal of 1 to 6, and where there is none the margin, with 7 where the load is over the span.
 use mathlib.Core.Path.{◌≡◌, sym, subst, ◌∙◌, ap}
 use Prim.Native.Nat.{◌≤◌, ◌<◌}
-use borrow.Author.Rules.{rules}
 use Rattle.table.specs.Admission.{parts_refusal}
 use Rattle.table.specs.Margin.{less_load, margin, margin_of}
 use Rattle.table.specs.declared.Admission.TheVariants.{Admitted, Refused, Over}

@@ -1,11 +1,7 @@
 -- `Table::of` fills both columns: those places that the loop has passed are as the definition says.
-use mathlib.Core.Path.{◌≡◌, refl, subst}
-use mathlib.Core.List.{List}
-use Prim.Native.Nat.{ℕ, ◌≤◌, ◌-◌}
-use native.Mathlib.Omega.{arith}
-use Rattle.table.specs.Fold.{list_to}
-use Rattle.table.specs.Reservations.{record_at, table_of_records}
-use Rattle.table.proofs.Lists.{Filled, filled_more, filled_all}
+use Prim.Native.Nat.{◌≤◌, ◌-◌}
+use Rattle.table.specs.Reservations.{record_at}
+use Rattle.table.proofs.Lists.{Filled}
 use Rattle.table.proofs.Table.of.Given as goal
 
 abbrev pub invariant-loop-i : goal.invariant-loop-i

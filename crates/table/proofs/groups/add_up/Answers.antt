@@ -1,6 +1,6 @@
 use mathlib.Core.List.{List}
 use mathlib.Core.Path.{◌≡◌, sym, ◌∙◌, ap, subst}
-use Prim.Native.Nat.{ℕ, suc, ◌+◌, ◌-◌, ◌*◌, ◌/◌, min, max, ◌≤◌, ◌<◌}
+use Prim.Native.Nat.{ℕ, suc, ◌+◌, ◌*◌, ◌/◌, min, max, ◌≤◌, ◌<◌}
 use native.Mathlib.Nat.{div-le_self}
 use native.Mathlib.Omega.{arith}
 use lib.ListN.{get_or}
@@ -89,8 +89,8 @@ loop-j-preserved c =
     let e = c.budgets-group.ensures in (
       omega arith,
       elim c.if-group-j-ne0.branch [
-        then-group-j-ne0 w ↦ more t _ e at.j (omega arith) at.shares at.largest c.if-group-j-ne0.shares c.if-group-j-ne0.largest w.larger-largest.result w.if-group-j-ne0.true w.larger-largest.ensures w.shares-is w.largest-is at.invariant.1
-      | else-group-j-ne0 w ↦ same t _ e at.j (omega arith) at.shares at.largest c.if-group-j-ne0.shares c.if-group-j-ne0.largest c.requires.1 w.if-group-j-ne0.false w.shares-is w.largest-is at.invariant.1
+        | then-group-j-ne0 w ↦ more t _ e at.j (omega arith) at.shares at.largest c.if-group-j-ne0.shares c.if-group-j-ne0.largest w.larger-largest.result w.if-group-j-ne0.true w.larger-largest.ensures w.shares-is w.largest-is at.invariant.1
+        | else-group-j-ne0 w ↦ same t _ e at.j (omega arith) at.shares at.largest c.if-group-j-ne0.shares c.if-group-j-ne0.largest c.requires.1 w.if-group-j-ne0.false w.shares-is w.largest-is at.invariant.1
       ],
     )
 

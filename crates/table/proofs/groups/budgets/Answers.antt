@@ -1,6 +1,6 @@
 use mathlib.Core.List.{List}
 use mathlib.Core.Path.{◌≡◌, subst}
-use Prim.Native.Nat.{ℕ, ◌+◌, ◌-◌, min, ◌≤◌, ◌<◌}
+use Prim.Native.Nat.{ℕ, ◌+◌, min, ◌≤◌, ◌<◌}
 use native.Mathlib.Omega.{arith}
 use lib.ListN.{get_or, set}
 use Rattle.table.specs.Admission.{period_at}
@@ -56,8 +56,8 @@ loop-i-preserved c =
     let at = c.loop-i in (
       omega arith,
       elim c.if-i-t.branch [
-        then-i-t w ↦ joined t at.budget c.if-i-t.budget at.i w.first_with-first.result w.granted.result (omega arith) w.if-i-t.true w.first_with-first.ensures w.granted.ensures w.budget-is at.invariant.1
-      | else-i-t w ↦ passed_over t at.budget c.if-i-t.budget at.i w.if-i-t.false w.budget-is at.invariant.1
+        | then-i-t w ↦ joined t at.budget c.if-i-t.budget at.i w.first_with-first.result w.granted.result (omega arith) w.if-i-t.true w.first_with-first.ensures w.granted.ensures w.budget-is at.invariant.1
+        | else-i-t w ↦ passed_over t at.budget c.if-i-t.budget at.i w.if-i-t.false w.budget-is at.invariant.1
       ],
     )
 

@@ -1,10 +1,7 @@
 -- `first_with` gives the first stream with that period: the loop goes on only while no stream has it.
-use mathlib.Core.Path.{◌≡◌, refl, sym}
+use mathlib.Core.Path.{◌≡◌}
 use Prim.Native.Nat.{ℕ, ◌≤◌, ◌<◌, ◌-◌}
-use native.Mathlib.Omega.{arith}
 use lib.ListN.{get_or}
-use Rattle.table.proofs.Folds.{at_or_below}
-use Rattle.table.proofs.Grouped.{first_with_at}
 use Rattle.table.proofs.groups.first_with.Given as goal
 
 abbrev pub invariant-loop-j : goal.invariant-loop-j

@@ -3,7 +3,6 @@ use mathlib.Core.Path.{◌≡◌}
 use Prim.Native.Nat.{ℕ, ◌+◌, ◌*◌, ◌/◌, ◌≤◌}
 use native.Mathlib.Nat.{mul-le-mul, div-le_self, le_trans}
 use native.Mathlib.Omega.{arith}
-use borrow.Author.Rules.{rules}
 use Rattle.table.specs.Ranges.{streams_max, worst_max, span_max}
 use Rattle.table.specs.Admission.{smallest_period, numbers_refusal, streams_refusal}
 use Rattle.table.specs.Groups.{grouped_shares, grouped_load}

@@ -20,7 +20,7 @@ const QUOTED: usize = 40;
 fn main(rt: HostRuntime) -> io::Result<()> {
     let mut input = rt.stdin();
     let err = rt.stderr();
-    let mut buffer = given::large_buffer();
+    let mut buffer = [0u8; given::FILE_ROOM];
     let Ok(len) = given::read_full(&mut input, &mut buffer) else {
         return unread(&err);
     };

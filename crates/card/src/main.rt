@@ -10,7 +10,7 @@ use terms::{Change, Finding, Terms, Verdict};
 
 // Of an input that cannot be read it says so, and prints nothing.
 fn main(rt: HostRuntime) -> io::Result<()> {
-    let mut buffer = given::large_buffer();
+    let mut buffer = [0u8; given::FILE_ROOM];
     let Ok(len) = given::read_full(&mut rt.stdin(), &mut buffer) else {
         return rt.eprint("card: cannot read standard input\n");
     };

@@ -17,13 +17,13 @@ struct Input {
 
 // Each buffer holds more than the longest trace and the longest file.
 fn main(rt: HostRuntime) -> io::Result<()> {
-    let mut trace = given::large_buffer();
+    let mut trace = [0u8; given::FILE_ROOM];
     let input = read_notes(&mut rt.stdin(), &mut trace);
     let err = rt.stderr();
     if input.failed {
         return say(&err, b"compose: cannot read standard input\n");
     }
-    let mut out = given::large_buffer();
+    let mut out = [0u8; given::FILE_ROOM];
     let notes = input.notes;
     let heard = notes.heard;
     let composed = notes::finish(notes, &mut trace, &mut out);
@@ -204,7 +204,7 @@ fn read_notes(from: &mut impl Read, trace: &mut [u8]) -> Input {
 
 // Reads a piece of the notes.
 fn read_piece(from: &mut impl Read, notes: Notes, trace: &mut [u8]) -> Input {
-    let mut piece = given::buffer();
+    let mut piece = [0u8; given::NAME_ROOM];
     let Ok(n) = from.read(&mut piece) else {
         return Input {
             notes,

@@ -28,7 +28,7 @@ fn main(rt: HostRuntime) -> io::Result<()> {
             b"follow: name one session file; the listing is read from standard input\n",
         );
     }
-    let mut name = given::buffer();
+    let mut name = [0u8; given::NAME_ROOM];
     let len = given::word(&rt, 1, &mut name);
     follow(&rt, &err, &mut rt.stdin(), &name[..len])
 }
@@ -40,7 +40,7 @@ fn follow<R: Files + Print>(
     from: &mut impl io::Read,
     name: &[u8],
 ) -> io::Result<()> {
-    let mut file = given::large_buffer();
+    let mut file = [0u8; given::FILE_ROOM];
     let read = read_file(rt, name, &mut file);
     if read.failed {
         say(err, b"follow: cannot read ")?;
@@ -58,7 +58,7 @@ fn follow_listing(
     from: &mut impl io::Read,
     file: &[u8],
 ) -> io::Result<()> {
-    let mut buffer = given::large_buffer();
+    let mut buffer = [0u8; given::FILE_ROOM];
     let listing = follow_input(from, Follower::begin(file), file, &mut buffer);
     if listing.failed {
         return say(err, b"follow: cannot read standard input\n");

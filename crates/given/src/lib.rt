@@ -9,15 +9,11 @@ use std::fs::{Files, OpenOptions};
 use std::io::{ErrorKind, Read};
 use std::{fs, io, str};
 
-// 4,096 zeros, which hold any name of a file.
-pub fn buffer() -> [u8; 4096] {
-    [0; 4096]
-}
+// Room for any name of a file, which has 4,095 bytes at most.
+pub const NAME_ROOM: usize = 4_096;
 
-// 65,536 zeros, which are more than the longest session file.
-pub fn large_buffer() -> [u8; 65536] {
-    [0; 65536]
-}
+// Room for more than the longest session file.
+pub const FILE_ROOM: usize = 65_536;
 
 // How many words a program was started with, its own name among them.
 pub fn word_count(env: &impl Env) -> usize {

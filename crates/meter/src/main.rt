@@ -22,7 +22,7 @@ struct Tally {
 }
 
 fn main(rt: HostRuntime) -> io::Result<()> {
-    let mut buffer = given::large_buffer();
+    let mut buffer = [0u8; given::FILE_ROOM];
     let len = given::read_full(&mut rt.stdin(), &mut buffer)?;
     if TIMES_BYTES <= len {
         let times = cells::number_at(&buffer, 0, TIMES_BYTES);

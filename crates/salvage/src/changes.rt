@@ -58,7 +58,7 @@ pub(crate) fn print_changes<F: Read + Seek>(
 
 // Reads a piece, and prints what is changed of it.
 fn print_piece(rt: &impl Print, old: &mut impl Read, rest: Rest) -> io::Result<Printed> {
-    let mut piece = given::large_buffer();
+    let mut piece = [0u8; given::FILE_ROOM];
     let Ok(len) = given::read_full(old, &mut piece) else {
         return Ok(Printed {
             rest,

@@ -24,14 +24,14 @@ fn main(rt: HostRuntime) -> io::Result<()> {
     if given::word_count(&rt) != 3 {
         return say(&err, b"salvage: name the old file and the new one\n");
     }
-    let mut name = given::buffer();
+    let mut name = [0u8; given::NAME_ROOM];
     let len = given::word(&rt, 1, &mut name);
     salvage(&rt, &err, &name[..len])
 }
 
 // A name has 4,095 bytes at most. One that its buffer has no room for is cut, and is then still too long to be opened.
 fn salvage<R: Env + Files + Print + Alloc>(rt: &R, err: &impl Print, old: &[u8]) -> io::Result<()> {
-    let mut name = given::buffer();
+    let mut name = [0u8; given::NAME_ROOM];
     let len = given::word(rt, 2, &mut name);
     salvage_as(rt, err, old, &name[..len])
 }
@@ -58,7 +58,7 @@ fn salvage_open<R: Files + Print + Alloc>(
     file: &mut R::File,
     new: &[u8],
 ) -> io::Result<bool> {
-    let mut head = given::buffer();
+    let mut head = [0u8; given::NAME_ROOM];
     let Ok(len) = given::read_full(file, &mut head) else {
         return Ok(false);
     };
@@ -86,7 +86,7 @@ fn salvage_taken<R: Files + Print + Alloc>(
 ) -> io::Result<bool>
     requires { taken.start ≤ table_end_max }
 {
-    let mut trace = given::large_buffer();
+    let mut trace = [0u8; given::FILE_ROOM];
     let gathered = gather(file, taken.start, &mut trace);
     if gathered.failed {
         return Ok(false);
@@ -111,7 +111,7 @@ fn make<R: Files + Print + Alloc>(
     head: &[u8],
     trace: &[u8],
 ) -> io::Result<bool> {
-    let mut file = given::large_buffer();
+    let mut file = [0u8; given::FILE_ROOM];
     let table = file::table_of(head);
     match file::write(table, Form::Two, Order::Nearest, trace, &mut file) {
         Writing::Written(len) => put(rt, err, new, &file[..len]),

@@ -47,7 +47,7 @@ fn gather_piece(old: &mut impl Read, room: usize, trace: &mut [u8]) -> Gathered
     requires events_max_in_bounds { event_size * events_max ≤ length trace.old }
     ensures { result.room ≤ room }
 {
-    let mut piece = given::large_buffer();
+    let mut piece = [0u8; given::FILE_ROOM];
     let Ok(len) = given::read_full(old, &mut piece) else {
         return Gathered {
             room,

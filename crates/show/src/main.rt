@@ -12,7 +12,7 @@ use table::Table;
 // The buffer holds more than the longest file, so that a longer one is refused without being read to its end.
 // Of an input that cannot be read it says so, and prints nothing.
 fn main(rt: HostRuntime) -> io::Result<()> {
-    let mut buffer = given::large_buffer();
+    let mut buffer = [0u8; given::FILE_ROOM];
     let Ok(len) = given::read_full(&mut rt.stdin(), &mut buffer) else {
         return rt.eprint("show: cannot read standard input\n");
     };

@@ -30,7 +30,7 @@ pub(crate) fn tally_input<R: Files + Print>(
     from: &mut impl Read,
     file: &mut [u8],
 ) -> io::Result<Input> {
-    let mut name = given::buffer();
+    let mut name = [0u8; given::NAME_ROOM];
     let totals = Counts::none();
     let names = Names { len: 0, totals };
     let mut input = Input {
@@ -60,7 +60,7 @@ fn tally_piece<R: Files + Print>(
     requires { names.len ≤ length name.old }
     ensures { IfOk result (λ input. input.names.len ≤ length name.old) }
 {
-    let mut piece = given::buffer();
+    let mut piece = [0u8; given::NAME_ROOM];
     let Ok(n) = from.read(&mut piece) else {
         return Ok(Input {
             names,

@@ -16,7 +16,7 @@ use std::io;
 // The buffer holds more than the longest file, so that a longer one is refused without being read to its end.
 fn main(rt: HostRuntime) -> io::Result<()> {
     let err = rt.stderr();
-    let mut file = given::large_buffer();
+    let mut file = [0u8; given::FILE_ROOM];
     if 1 < given::word_count(&rt) {
         let totals = tally_arguments(&rt, &err, &mut file)?;
         return print_totals(&rt, &err, totals);
@@ -53,7 +53,7 @@ fn tally_argument<R: Env + Files + Print>(
     i: usize,
     file: &mut [u8],
 ) -> io::Result<Counts> {
-    let mut name = given::buffer();
+    let mut name = [0u8; given::NAME_ROOM];
     let len = given::word(rt, i, &mut name);
     tally_file(rt, err, totals, &name[..len], file)
 }

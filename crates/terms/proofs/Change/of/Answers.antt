@@ -1,0 +1,49 @@
+-- `Change::of` is its definition, whose quotients and differences are those of numbers that are never negative; nothing passes 64 bits, since a quotient is at most what is divided.
+use mathlib.Core.Path.{◌≡◌, refl, sym, ◌∙◌}
+use Prim.Native.Nat.{◌+◌, ◌-◌, ◌≤◌, ◌<◌}
+use native.Mathlib.Nat.{div-le_self}
+use native.Mathlib.Omega.{arith}
+use borrow.Author.Tests.{eq-eqb, ne_eqb, lt-ltb, le-ltb}
+use Rattle.table.specs.Fold.{if}
+use Rattle.table.specs.Margin.{over_of}
+use Rattle.terms.specs.Terms.{room_of, shrink_of, change_of}
+use Rattle.terms.proofs.Change.of.Goals as goal
+use Rattle.terms.proofs.Change.of.Goals.{After-quotient-by}
+
+pub returns-then-over-eq0 : goal.returns-then-over-eq0
+unfolding change_of room_of if
+returns-then-over-eq0 c =
+    let fits = sym c.over-over.ensures ∙ c.if-over-eq0.true in
+    rw (
+      eq-eqb _ 0 fits,
+      c.smaller.ensures,
+      c.less-by_period.ensures,
+      c.granted.ensures,
+      c.quotient-by_load.ensures,
+      c.left.ensures,
+      c.quotient-times.ensures,
+    )
+
+pub overflow_add-by : goal.overflow_add-by
+overflow_add-by c = omega (arith, c.quotient-by.ensures, div-le_self (c.over-over.result - 1) c.quotient-times.result)
+
+-- past the first test the load is over the span, by the amount that is asked for
+exceeds : (c : After-quotient-by) → (over_of c.args.margin.0 ≡ 0 → ⊥)
+exceeds c z = c.if-over-eq0.false (c.over-over.ensures ∙ z)
+
+-- and what has to be taken off is what the definition says
+by-is : (c : After-quotient-by) → let a = c.args in c.quotient-by.result + 1 ≡ shrink_of a.margin.0 a.span a.p
+unfolding shrink_of
+by-is c = rw (c.quotient-by.ensures, c.over-over.ensures, c.quotient-times.ensures) refl
+
+pub returns-then-by-e : goal.returns-then-by-e
+unfolding change_of if
+returns-then-by-e c =
+    let less : shrink_of c.args.margin.0 _ _ < c.args.e = rw (by-is c.before) at c.if-by-e.true in
+    rw (ne_eqb _ 0 (exceeds c.before), lt-ltb _ _ less, by-is c.before)
+
+pub returns-else-by-e : goal.returns-else-by-e
+unfolding change_of if
+returns-else-by-e c =
+    let more : c.args.e ≤ shrink_of c.args.margin.0 _ _ = rw (by-is c.before) at c.if-by-e.false in
+    rw (ne_eqb _ 0 (exceeds c.before), le-ltb _ _ more)

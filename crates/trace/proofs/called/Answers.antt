@@ -1,0 +1,20 @@
+-- `called` makes the call and renders its answer: each number of the line is what the definitions say of the reply.
+use Rattle.session.specs.Calls.{line_of}
+use Rattle.trace.specs.Trace.{called, handed}
+use Rattle.trace.proofs.called.Goals as goal
+
+pub returns : goal.returns
+unfolding called handed line_of
+returns c = record {
+  value =
+      rw (
+        c.line-text.ensures.value,
+        c.tag.ensures,
+        c.micros.ensures,
+        c.value.ensures,
+        c.stream.ensures,
+        c.number.ensures,
+        c.call-answer.ensures,
+      );
+  within = c.line-text.ensures.within;
+}

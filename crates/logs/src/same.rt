@@ -7,7 +7,7 @@ ghost use Rattle.logs.specs.Inner.{only_at};
 use listing::Text;
 
 // Whether two texts have the same bytes.
-pub(crate) fn same_bytes_lem(a: &[u8], b: &[u8]) -> bool
+pub(crate) fn same_bytes(a: &[u8], b: &[u8]) -> bool
     ensures { result ≡ same_bytes a.now b.now }
 {
     if a.len() != b.len() {

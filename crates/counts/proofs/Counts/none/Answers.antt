@@ -1,0 +1,8 @@
+-- `Counts::none` has nothing in its rows.
+use Rattle.table.specs.Fold.{list_to}
+use borrow.Author.Rules.{rules}
+use Rattle.counts.proofs.Counts.none.Goals as goal
+
+pub returns : goal.returns
+unfolding list_to
+returns c = rw c.nothing.ensures

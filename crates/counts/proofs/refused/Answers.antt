@@ -1,0 +1,6 @@
+-- `refused` has the number, and counts of nothing.
+use borrow.Author.Rules.{rules}
+use Rattle.counts.proofs.refused.Goals as goal
+
+pub returns : goal.returns
+returns c = rw c.none.ensures

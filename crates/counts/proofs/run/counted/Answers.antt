@@ -1,0 +1,26 @@
+use native.Mathlib.Omega.{arith}
+use mathlib.Core.Path.{◌≡◌, refl}
+use Prim.Native.Nat.{◌≤◌, ◌-◌}
+use lib.ListN.{get_or}
+use Rattle.table.specs.Fold.{list_to}
+use Rattle.table.proofs.Lists.{Filled, filled_more, filled_all}
+use Rattle.session.specs.Session.{no_stream}
+use Rattle.counts.specs.Inner.{added_by, counts_by}
+use Rattle.counts.proofs.run.counted.Goals as goal
+
+pub loop-i-init : goal.loop-i-init
+unfolding list_to
+loop-i-init c = (omega arith, record { cells = refl; front = refl })
+
+pub loop-i-preserved : goal.loop-i-preserved
+loop-i-preserved c =
+    let at = c.loop-i in
+    (omega arith, rw c.of.ensures (filled_more _ at.rows at.i 8 (omega arith) at.invariant.1))
+
+pub returns : goal.returns
+unfolding counts_by
+returns c =
+    let at = c.loop-i in
+    let all : at.i ≡ 8 = omega arith in
+    let whole = filled_all _ at.rows 8 (rw all at at.invariant.1) in
+    rw (whole, c.by-told.ensures)

@@ -1,0 +1,25 @@
+use native.Mathlib.Omega.{arith}
+use mathlib.Core.Path.{◌≡◌, refl, sym}
+use native.Mathlib.Numerals.{add-one}
+use Prim.Native.Nat.{◌≤◌, ◌-◌}
+use Rattle.counts.specs.Counts.{calls_to}
+use Rattle.counts.specs.Inner.{steps_by}
+use Rattle.counts.proofs.Runs.{runs_from, steps_join}
+use Rattle.counts.proofs.run.run.Goals as goal
+
+pub loop-i-init : goal.loop-i-init
+unfolding steps_by calls_to
+loop-i-init c = (omega arith, refl)
+
+pub loop-i-preserved : goal.loop-i-preserved
+unfolding calls_to
+loop-i-preserved c =
+    let at = c.loop-i in
+    (omega arith, rw (c.with_event-step.ensures, c.event_at-event.ensures, add-one, at.invariant.1) (sym (steps_join _ _ _)))
+
+pub returns : goal.returns
+returns c =
+    let at = c.loop-i in
+    let a = c.args in
+    let all : at.i ≡ a.events = omega arith in
+    rw (at.invariant.1, all, c.none.ensures) (runs_from a.opened _)

@@ -17,7 +17,7 @@ use Rattle.session.specs.declared.Session.{Session}
 use Rattle.session.proofs.Sound.{sound_of}
 use Rattle.file.specs.declared.event.Event.{Event}
 use Rattle.counts.specs.Tally.{nothing, together, added, tally_of}
-use Rattle.counts.specs.Counts.{counts, none, both, calls_of, counts_of}
+use Rattle.counts.specs.Counts.{none, both, calls_of, counts_of}
 use Rattle.counts.specs.Inner.{told_by, added_by, counts_by, stepped_by, steps_by}
 use Rattle.counts.specs.declared.Counts.{Counts}
 use Rattle.counts.specs.declared.run.Step.{Step}

@@ -1,5 +1,5 @@
 -- The counts of a session file, and of a list of them: a tally for each of the eight stream numbers. The quotes are document 02's Req 01.
-use Rattle.std.specs.Prelude.{Bool, true, false, ◌&&◌, ◌||◌, List, [], ◌∷◌, ◌++◌, ℕ, zero, suc, ◌+◌, ◌^◌, ltb, eqb, get_or}
+use Rattle.std.specs.Prelude.{Bool, true, false, ◌&&◌, ◌||◌, List, [], ◌∷◌, ◌++◌, ℕ, zero, suc, ◌^◌, ltb, eqb, get_or}
 use Rattle.table.specs.Fold.{if, all_to, list_to}
 use Rattle.table.specs.Ranges.{streams_max}
 use Rattle.table.specs.Admission.{admission_of}

@@ -3,7 +3,6 @@ use Rattle.counts.proofs.Files.{filed_refused, filed_opened, events_of}
 use Rattle.file.proofs.Round.{accepted_is_within}
 use native.Mathlib.Omega.{arith}
 use mathlib.Core.Path.{sym, ◌∙◌}
-use borrow.Author.Rules.{rules}
 use Rattle.counts.proofs.of_file.Goals as goal
 
 pub returns-in_default : goal.returns-in_default
@@ -11,6 +10,10 @@ returns-in_default c = c.refused.ensures ∙ sym (filed_refused _ _ (sym c.read-
 
 pub slice_bounds-of_opened-count : goal.slice_bounds-of_opened-count
 slice_bounds-of_opened-count c =
+    omega (arith, (accepted_is_within _ _ _ _ _ _ _ (sym c.read-reading.ensures ∙ c.in-LaidOut.is)).whole_events)
+
+pub slice_bounds-of_opened-start : goal.slice_bounds-of_opened-start
+slice_bounds-of_opened-start c =
     omega (arith, (accepted_is_within _ _ _ _ _ _ _ (sym c.read-reading.ensures ∙ c.in-LaidOut.is)).whole_events)
 
 pub slice_bounds-of_opened-end : goal.slice_bounds-of_opened-end

@@ -1,6 +1,5 @@
 -- `of_opened` counts a table and its trace, or gives the number of the refusal and the amount over the span.
 use mathlib.Core.Path.{◌≡◌, sym, ap, ◌∙◌}
-use borrow.Author.Rules.{rules}
 use borrow.Author.Tests.{eq-eqb}
 use Rattle.table.specs.Fold.{if}
 use Rattle.table.specs.Admission.{admission_of}

@@ -2,7 +2,6 @@
 use Rattle.counts.proofs.Monoid.{sum_passes}
 use Prim.Native.Nat.{◌<◌, ◌^◌}
 use native.Mathlib.Omega.{arith}
-use borrow.Author.Rules.{rules}
 use Rattle.counts.proofs.passes.Goals as goal
 
 pub returns : goal.returns

@@ -1,5 +1,4 @@
 -- `refused` has the number, and counts of nothing.
-use borrow.Author.Rules.{rules}
 use Rattle.counts.proofs.refused.Goals as goal
 
 pub returns : goal.returns

@@ -1,6 +1,5 @@
 -- `Counts::none` has nothing in its rows.
 use Rattle.table.specs.Fold.{list_to}
-use borrow.Author.Rules.{rules}
 use Rattle.counts.proofs.Counts.none.Goals as goal
 
 pub returns : goal.returns

@@ -1,6 +1,5 @@
 -- `Counts::passed` has nothing in its rows.
 use Rattle.table.specs.Fold.{list_to}
-use borrow.Author.Rules.{rules}
 use Rattle.counts.proofs.Counts.passed.Goals as goal
 
 pub returns : goal.returns

@@ -2,7 +2,6 @@
 use Rattle.counts.proofs.Monoid.{fits_of}
 use Rattle.counts.specs.Tally.{together}
 use native.Mathlib.Omega.{arith}
-use borrow.Author.Rules.{rules}
 use Rattle.counts.proofs.Tally.and.Goals as goal
 
 pub overflow_add-result : goal.overflow_add-result

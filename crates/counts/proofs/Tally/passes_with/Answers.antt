@@ -3,7 +3,6 @@ use Rattle.counts.proofs.Monoid.{one_fails}
 use Prim.Native.Nat.{◌+◌}
 use Rattle.counts.specs.Counts.{fits, small}
 use Rattle.counts.specs.Tally.{together}
-use borrow.Author.Rules.{rules}
 use Rattle.counts.proofs.Tally.passes_with.Goals as goal
 
 pub returns : goal.returns

@@ -1,11 +1,8 @@
 use native.Mathlib.Omega.{arith}
 use mathlib.Core.Path.{◌≡◌, refl}
-use Prim.Native.Nat.{◌≤◌, ◌-◌}
-use lib.ListN.{get_or}
 use Rattle.table.specs.Fold.{list_to}
-use Rattle.table.proofs.Lists.{Filled, filled_more, filled_all}
-use Rattle.session.specs.Session.{no_stream}
-use Rattle.counts.specs.Inner.{added_by, counts_by}
+use Rattle.table.proofs.Lists.{filled_more, filled_all}
+use Rattle.counts.specs.Inner.{counts_by}
 use Rattle.counts.proofs.run.counted.Goals as goal
 
 pub loop-i-init : goal.loop-i-init

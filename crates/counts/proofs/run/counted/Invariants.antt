@@ -1,12 +1,9 @@
 -- `counted` fills a row for each stream.
-use native.Mathlib.Omega.{arith}
-use mathlib.Core.Path.{◌≡◌, refl}
 use Prim.Native.Nat.{◌≤◌, ◌-◌}
 use lib.ListN.{get_or}
-use Rattle.table.specs.Fold.{list_to}
-use Rattle.table.proofs.Lists.{Filled, filled_more, filled_all}
+use Rattle.table.proofs.Lists.{Filled}
 use Rattle.session.specs.Session.{no_stream}
-use Rattle.counts.specs.Inner.{added_by, counts_by}
+use Rattle.counts.specs.Inner.{added_by}
 use Rattle.counts.proofs.run.counted.Given as goal
 
 abbrev pub invariant-loop-i : goal.invariant-loop-i

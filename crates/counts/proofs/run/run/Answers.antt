@@ -1,7 +1,6 @@
 use native.Mathlib.Omega.{arith}
 use mathlib.Core.Path.{◌≡◌, refl, sym}
 use native.Mathlib.Numerals.{add-one}
-use Prim.Native.Nat.{◌≤◌, ◌-◌}
 use Rattle.counts.specs.Counts.{calls_to}
 use Rattle.counts.specs.Inner.{steps_by}
 use Rattle.counts.proofs.Runs.{runs_from, steps_join}

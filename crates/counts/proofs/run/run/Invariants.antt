@@ -1,11 +1,8 @@
 -- `run` has made the steps of the events that it has passed.
-use native.Mathlib.Omega.{arith}
-use mathlib.Core.Path.{◌≡◌, refl, sym}
-use native.Mathlib.Numerals.{add-one}
+use mathlib.Core.Path.{◌≡◌}
 use Prim.Native.Nat.{◌≤◌, ◌-◌}
 use Rattle.counts.specs.Counts.{calls_to}
 use Rattle.counts.specs.Inner.{steps_by}
-use Rattle.counts.proofs.Runs.{runs_from, steps_join}
 use Rattle.counts.proofs.run.run.Given as goal
 
 abbrev pub invariant-loop-i : goal.invariant-loop-i

@@ -2,7 +2,6 @@
 use Rattle.counts.proofs.Runs.{asked}
 use Rattle.counts.specs.Inner.{steps_by}
 use mathlib.Core.Path.{◌∙◌}
-use borrow.Author.Rules.{rules}
 use Rattle.counts.proofs.run.Step.with_event.Goals as goal
 
 pub returns-in-Arrival : goal.returns-in-Arrival

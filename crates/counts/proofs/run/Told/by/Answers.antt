@@ -1,6 +1,5 @@
 -- `Told::by` holds what a call and its answer tell.
 use Rattle.counts.specs.Inner.{told_by}
-use borrow.Author.Rules.{rules}
 use Rattle.counts.proofs.run.Told.by.Goals as goal
 
 pub returns : goal.returns

@@ -1,6 +1,5 @@
 -- `Told::of` has the tests of the definition.
 use Rattle.counts.specs.Inner.{added_by}
-use borrow.Author.Rules.{rules}
 use Rattle.counts.proofs.run.Told.of.Goals as goal
 
 pub returns : goal.returns

@@ -39,7 +39,7 @@ def read(path):
     with open(path, encoding="utf-8") as f:
         text = f.read()
     inside = os.path.relpath(path, os.path.join(ROOT, "crates"))
-    for place, names in LEMMAS.items():
+    for place, names in LEMMAS.items() if path.endswith(".antt") else ():
         if inside == place or inside.startswith(place + "/"):
             for name, new in names.items():
                 text = re.sub(rf"(?<![^\s(){{}},]){re.escape(name)}(?![^\s(){{}},.])", new, text)

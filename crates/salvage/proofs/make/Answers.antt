@@ -11,5 +11,5 @@ slice_bounds-file-end g c =
 pub slice_bounds-put-end : goal.slice_bounds-put-end
 slice_bounds-put-end g c =
     let within : c.in-Written.len ≤ length c.write.new.out =
-        omega (arith, c.write.auto.out, written_is_within _ _ _ _ _ _ (sym c.write.ensures.value ∙ c.in-Written.is)) in
+    omega (arith, c.write.auto.out, written_is_within _ _ _ _ _ _ (sym c.write.ensures.value ∙ c.in-Written.is)) in
     sym (length-take-le _ _ within)

@@ -1,5 +1,5 @@
 // The listing, which is read and followed piece by piece.
-ghost use Rattle.std.specs.Prelude.{◌+◌, ◌≤◌, length};
+ghost use Rattle.std.specs.Prelude.{◌≡◌, ◌+◌, ◌≤◌, length, take};
 
 use logs::Follower;
 use std::io::Read;
@@ -21,7 +21,7 @@ pub(crate) fn follow_input(
     file: &[u8],
     buffer: &mut [u8],
 ) -> Listing
-    ensures { result.held ≤ length buffer.new }
+    ensures { (result.held ≤ length buffer.new) × (result.held ≡ length (take result.held buffer.new)) }
 {
     let mut listing = Listing {
         follower,

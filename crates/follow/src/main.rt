@@ -4,7 +4,7 @@
 mod input;
 mod print;
 
-ghost use Rattle.std.specs.Prelude.{◌≤◌, length};
+ghost use Rattle.std.specs.Prelude.{◌≡◌, ◌≤◌, length, take};
 
 use input::follow_input;
 use logs::Follower;
@@ -69,7 +69,7 @@ fn follow_listing(
 
 // Reads a file. One that cannot be read, as a folder, has failed.
 fn read_file(rt: &impl Files, name: &[u8], file: &mut [u8]) -> Read
-    ensures { result.len ≤ length file.new }
+    ensures { (result.len ≤ length file.new) × (result.len ≡ length (take result.len file.new)) }
 {
     match given::read_file(rt, name, file) {
         Ok(len) => Read { len, failed: false },

@@ -1,4 +1,4 @@
-//! Tells the linker in which folder libshelf.a is: the one that YERBAGUNT_LIB names, or else the one where `rt staticlib shelf` writes it.
+//! Tells the linker in which folder libshelf.a is: the one that YERBAGUNT_LIB names, or else the one where `tools/build shelf` writes it.
 use std::{env, path::Path, process};
 
 fn main() {
@@ -9,7 +9,7 @@ fn main() {
     let archive = folder.join("libshelf.a");
     println!("cargo:rerun-if-changed={}", archive.display());
     if !archive.is_file() {
-        eprintln!("no {}: let YERBAGUNT_LIB name the folder of a release, or run `rt staticlib shelf`", archive.display());
+        eprintln!("no {}: let YERBAGUNT_LIB name the folder of a release, or run `tools/build shelf`", archive.display());
         process::exit(1);
     }
     let target = env::var("CARGO_CFG_TARGET_ARCH").expect("cargo names the target");

@@ -26,6 +26,8 @@ pub struct Survey {
 
 impl Session {
     // The request to send, where some slot is filled, by the order that the session holds.
+    // As a part of a turn it would make that take more than 16 KB of stack.
+    #[inline(never)]
     pub(crate) fn pick(self) -> Pick
         requires { sound self ≡ true }
         ensures { (result.found ≡ some_filled self) × (result.stream ≡ chosen self) × (result.found ≡ true → result.index ≡ leading_at self (chosen self)) }
@@ -50,6 +52,8 @@ impl Session {
     }
 
     // All that is asked of the streams where no slot is filled, in one pass.
+    // As a part of a turn it would make that take more than 16 KB of stack.
+    #[inline(never)]
     pub(crate) fn survey(self) -> Survey
         requires { sound self ≡ true }
         ensures { result ≡ survey_of self }

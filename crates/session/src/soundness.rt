@@ -9,8 +9,6 @@ use time::Clock;
 
 impl Session {
     // Whether the session is sound: its streams and what it keeps of them, then the clock, then the request at the disk.
-    // It is part of each call: called on its own it would have a copy of the session, and a turn would take more than 16 KB of stack.
-    #[inline(always)]
     pub fn is_sound(self) -> bool
         ensures { result ≡ sound self }
     {

@@ -47,7 +47,8 @@ def read(path):
 
 
 def is_proof(path):
-    return os.path.basename(path) in ("Proof.antt", "Answers.antt", "Invariants.antt")
+    """Whether a file is the proof of a function, in a folder of its own; `proofs/Answers.antt` of a crate is a file of lemmas."""
+    return os.path.basename(path) in ("Proof.antt", "Answers.antt", "Invariants.antt") and os.path.basename(os.path.dirname(path)) != "proofs"
 
 
 def words(name):

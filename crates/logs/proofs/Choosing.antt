@@ -22,7 +22,7 @@ use Rattle.session.specs.Calls.{Verdict, refuse, send, wait, expire, no_such_str
 use Rattle.session.specs.declared.Session.{Session}
 use Rattle.session.proofs.Sound.{Sound, sound_of, of_sound}
 use Rattle.session.proofs.Grounds.{Grounds, verdict_grounds, call_refusal_high}
-use Rattle.session.proofs.Answers.{unsound-verdict, refused, accepted, sendable, own-sends}
+use Rattle.session.proofs.Answers.{unsound_verdict, refused, accepted, sendable, own_sends}
 use Rattle.session.proofs.Choices.{sent_goes_first}
 use Rattle.file.specs.declared.event.Event.{Event}
 use Rattle.listing.specs.Line.{rendered, event_fields}
@@ -64,7 +64,7 @@ sent_effect s k e = go (sound s) refl
 
     go : (b : Bool) → sound s ≡ b → (sound s ≡ true) × (verdict s k ≡ effect s k)
     go true ok = (ok, known (call_refusal s k) refl ok)
-    go false off = absurd (never_refused s 31 (λ z. omega arith) (with_it (unsound-verdict s k off)))
+    go false off = absurd (never_refused s 31 (λ z. omega arith) (with_it (unsound_verdict s k off)))
 
 -- a call of a sound session that comes to a send
 pub record Sent (s : Session) (k : Call) (i j : ℕ) : Type 0 where
@@ -118,7 +118,7 @@ unfolding answer_to no_such_stream reply_to
 set_sends s ok idle i j exists among =
     let same : i + 1 - 1 ≡ i = omega arith in
     let own : no_such_stream s (i + 1) ≡ false = rw (ne_eqb (i + 1) 0 (λ z. omega arith), le-ltb s.count (i + 1) (omega arith)) in
-    let is = own-sends s (i + 1) j ok idle own (rw same among) in
+    let is = own_sends s (i + 1) j ok idle own (rw same among) in
     ap (sent_by s) is
 
 pub set_is_sent : SetIsSent

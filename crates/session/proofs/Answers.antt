@@ -26,9 +26,9 @@ use Rattle.stream.proofs.Best.{best_positive}
 use Rattle.session.proofs.Grounds.{Grounds, ruled_by}
 
 module _ (s : Session) (k : Call) where
-  pub unsound-verdict : sound s ≡ false → verdict s k ≡ refuse 31
+  pub unsound_verdict : sound s ≡ false → verdict s k ≡ refuse 31
   unfolding verdict refusal given ◌or_next◌ ruled
-  unsound-verdict e = rw e
+  unsound_verdict e = rw e
 
   -- what the verdict comes to is what the call is answered
   pub answers : {v : Verdict} {r : Answer} → r ≡ outcome s v → verdict s k ≡ v → r ≡ answer_to s k
@@ -45,9 +45,9 @@ module _ (s : Session) (k : Call) where
     accepted e = rw (ok, e)
 
 -- a stream with a filled slot has a slot
-pub filled-has-slot : (s : Session) → some_filled s ≡ true → no_slot s ≡ false
+pub filled_has_slot : (s : Session) → some_filled s ≡ true → no_slot s ≡ false
 unfolding some_filled no_slot filled
-filled-has-slot s some = go (no_slot s) refl
+filled_has_slot s some = go (no_slot s) refl
   where
     best : (first_best (λ i. leb 1 (filled_at s i)) (sent_before s) s.count < s.count) × (1 ≤ filled_at s (first_best (λ i. leb 1 (filled_at s i)) (sent_before s) s.count))
     best = best_positive (filled_at s) (sent_before s) s.count some
@@ -66,9 +66,9 @@ sendable s q i j g =
     let high = (bounded s q i g.exists).queued_high in
     (omega (arith, g.exists, (admits s q).numbers.count_high), omega (arith, g.in_set), omega (arith, g.in_set))
 
-pub turn-busy : (s : Session) → sound s ≡ true → (s.served ≡ 0 → ⊥) → verdict s Call.Turn ≡ refuse 10
+pub turn_busy : (s : Session) → sound s ≡ true → (s.served ≡ 0 → ⊥) → verdict s Call.Turn ≡ refuse 10
 unfolding call_refusal given ◌or_next◌ busy
-turn-busy s ok some = refused s Call.Turn ok 9 (rw (ne_eqb _ _ some))
+turn_busy s ok some = refused s Call.Turn ok 9 (rw (ne_eqb _ _ some))
 
 -- a turn past 31 and 10: the session is sound, and nothing is at the disk
 pub record Idle (s : Session) : Type 0 where
@@ -88,9 +88,9 @@ module _ {s : Session} (idle : Idle s) where
   unrefused e = accepted s Call.Turn idle.ok (rw (eq-eqb _ _ idle.rests, e))
 
   -- a. some slot is filled
-  pub turn-sends : (i j : ℕ) → i ≡ chosen s → j ≡ leading_at s (chosen s) → some_filled s ≡ true → verdict s Call.Turn ≡ send i j
+  pub turn_sends : (i j : ℕ) → i ≡ chosen s → j ≡ leading_at s (chosen s) → some_filled s ≡ true → verdict s Call.Turn ≡ send i j
   unfolding turn_effect if
-  turn-sends i j stream-is index_is some = unrefused (rw (filled-has-slot s some)) ∙ rw (some, stream-is, index_is)
+  turn_sends i j stream-is index_is some = unrefused (rw (filled_has_slot s some)) ∙ rw (some, stream-is, index_is)
 
 module _ {s : Session} {v : Survey} (u : Unfilled s v) where
   -- b. no stream has a slot
@@ -98,104 +98,104 @@ module _ {s : Session} {v : Survey} (u : Unfilled s v) where
     none_has : no_slot s ≡ true
     none_has = not-false (no_slot s) (not-true (not (no_slot s)) (rw u.seen at over))
 
-    pub turn-ends : v.beyond ≡ true → verdict s Call.Turn ≡ refuse 14
+    pub turn_ends : v.beyond ≡ true → verdict s Call.Turn ≡ refuse 14
     unfolding call_refusal given ◌or_next◌ busy
-    turn-ends past = refused s Call.Turn u.idle.ok 13 (rw (eq-eqb _ _ u.idle.rests, none_has, rw u.seen at past))
+    turn_ends past = refused s Call.Turn u.idle.ok 13 (rw (eq-eqb _ _ u.idle.rests, none_has, rw u.seen at past))
 
-    pub turn-moves : v.beyond ≡ false → verdict s Call.Turn ≡ move
+    pub turn_moves : v.beyond ≡ false → verdict s Call.Turn ≡ move
     unfolding turn_effect if
-    turn-moves fits = unrefused u.idle (rw (none_has, rw u.seen at fits)) ∙ rw (u.none, none_has)
+    turn_moves fits = unrefused u.idle (rw (none_has, rw u.seen at fits)) ∙ rw (u.none, none_has)
 
   -- c. and d. only empty slots
   module _ (left : not v.found ≡ false) where
-    some-has : no_slot s ≡ false
-    some-has = not-true (no_slot s) (not-false (not (no_slot s)) (rw u.seen at left))
+    some_has : no_slot s ≡ false
+    some_has = not-true (no_slot s) (not-false (not (no_slot s)) (rw u.seen at left))
 
     module _ {early : Bool} (until : Clock) (until-is : until ≡ moment (latest s)) (early-is : early ≡ ltb s.clock.0 until.0) where
-      pub turn-waits : early ≡ true → verdict s Call.Turn ≡ wait
+      pub turn_waits : early ≡ true → verdict s Call.Turn ≡ wait
       unfolding turn_effect if
-      turn-waits yet = unrefused u.idle (rw some-has) ∙ rw (u.none, some-has, rw (early-is, until-is) at yet)
+      turn_waits yet = unrefused u.idle (rw some_has) ∙ rw (u.none, some_has, rw (early-is, until-is) at yet)
 
-      pub turn-expires : early ≡ false → verdict s Call.Turn ≡ expire v.expiring
+      pub turn_expires : early ≡ false → verdict s Call.Turn ≡ expire v.expiring
       unfolding turn_effect if
-      turn-expires due = unrefused u.idle (rw some-has) ∙ rw (u.none, some-has, rw (early-is, until-is) at due, u.seen)
+      turn_expires due = unrefused u.idle (rw some_has) ∙ rw (u.none, some_has, rw (early-is, until-is) at due, u.seen)
 
 -- what an arrival is answered, case by case
 module _ (s : Session) (n place tag : ℕ) (ok : sound s ≡ true) where
-  pub arrival-nowhere : no_such_stream s n ≡ true → verdict s (Call.Arrival n place tag) ≡ refuse 8
+  pub arrival_nowhere : no_such_stream s n ≡ true → verdict s (Call.Arrival n place tag) ≡ refuse 8
   unfolding call_refusal given ◌or_next◌
-  arrival-nowhere none = refused s (Call.Arrival n place tag) ok 7 (rw none)
+  arrival_nowhere none = refused s (Call.Arrival n place tag) ok 7 (rw none)
 
   module _ (own : no_such_stream s n ≡ false) where
-    pub arrival-full : (stream_at s (n - 1)).queued ≡ queue_max → verdict s (Call.Arrival n place tag) ≡ refuse 9
+    pub arrival_full : (stream_at s (n - 1)).queued ≡ queue_max → verdict s (Call.Arrival n place tag) ≡ refuse 9
     unfolding call_refusal given ◌or_next◌
-    arrival-full full = refused s (Call.Arrival n place tag) ok 8 (rw (own, eq-eqb _ _ full))
+    arrival_full full = refused s (Call.Arrival n place tag) ok 8 (rw (own, eq-eqb _ _ full))
 
-    pub arrival-joins : ((stream_at s (n - 1)).queued ≡ queue_max → ⊥) → verdict s (Call.Arrival n place tag) ≡ append (n - 1) place tag
+    pub arrival_joins : ((stream_at s (n - 1)).queued ≡ queue_max → ⊥) → verdict s (Call.Arrival n place tag) ≡ append (n - 1) place tag
     unfolding call_refusal given ◌or_next◌ effect
-    arrival-joins space = accepted s (Call.Arrival n place tag) ok (rw (own, ne_eqb _ _ space))
+    arrival_joins space = accepted s (Call.Arrival n place tag) ok (rw (own, ne_eqb _ _ space))
 
 -- what an own turn is answered, case by case
 module _ (s : Session) (n j : ℕ) (ok : sound s ≡ true) where
-  pub own-busy : (s.served ≡ 0 → ⊥) → verdict s (Call.OwnTurn n j) ≡ refuse 10
+  pub own_busy : (s.served ≡ 0 → ⊥) → verdict s (Call.OwnTurn n j) ≡ refuse 10
   unfolding call_refusal given ◌or_next◌ busy
-  own-busy some = refused s (Call.OwnTurn n j) ok 9 (rw (ne_eqb _ _ some))
+  own_busy some = refused s (Call.OwnTurn n j) ok 9 (rw (ne_eqb _ _ some))
 
   module _ (idle : s.served ≡ 0) where
-    pub own-nowhere : no_such_stream s n ≡ true → verdict s (Call.OwnTurn n j) ≡ refuse 8
+    pub own_nowhere : no_such_stream s n ≡ true → verdict s (Call.OwnTurn n j) ≡ refuse 8
     unfolding call_refusal given ◌or_next◌ busy
-    own-nowhere none = refused s (Call.OwnTurn n j) ok 7 (rw (eq-eqb _ _ idle, none))
+    own_nowhere none = refused s (Call.OwnTurn n j) ok 7 (rw (eq-eqb _ _ idle, none))
 
     module _ (own : no_such_stream s n ≡ false) where
-      pub own-outside : filled_at s (n - 1) ≤ j → verdict s (Call.OwnTurn n j) ≡ refuse 15
+      pub own_outside : filled_at s (n - 1) ≤ j → verdict s (Call.OwnTurn n j) ≡ refuse 15
       unfolding call_refusal given ◌or_next◌ busy
-      own-outside past = refused s (Call.OwnTurn n j) ok 14 (rw (eq-eqb _ _ idle, own, le-ltb _ _ past))
+      own_outside past = refused s (Call.OwnTurn n j) ok 14 (rw (eq-eqb _ _ idle, own, le-ltb _ _ past))
 
-      pub own-sends : j < filled_at s (n - 1) → verdict s (Call.OwnTurn n j) ≡ send (n - 1) j
+      pub own_sends : j < filled_at s (n - 1) → verdict s (Call.OwnTurn n j) ≡ send (n - 1) j
       unfolding call_refusal given ◌or_next◌ busy effect
-      own-sends in-set = accepted s (Call.OwnTurn n j) ok (rw (eq-eqb _ _ idle, own, lt-ltb _ _ in-set))
+      own_sends in-set = accepted s (Call.OwnTurn n j) ok (rw (eq-eqb _ _ idle, own, lt-ltb _ _ in-set))
 
 -- what a completion is answered, case by case
 module _ (s : Session) (a : ℕ) (ok : sound s ≡ true) where
-  pub done-idle : s.served ≡ 0 → verdict s (Call.Done a) ≡ refuse 11
+  pub done_idle : s.served ≡ 0 → verdict s (Call.Done a) ≡ refuse 11
   unfolding call_refusal given ◌or_next◌ busy
-  done-idle idle = refused s (Call.Done a) ok 10 (rw (eq-eqb _ _ idle))
+  done_idle idle = refused s (Call.Done a) ok 10 (rw (eq-eqb _ _ idle))
 
   module _ (at_disk : s.served ≡ 0 → ⊥) where
-    pub done-outside : outside 1 duration_max a ≡ true → verdict s (Call.Done a) ≡ refuse 12
+    pub done_outside : outside 1 duration_max a ≡ true → verdict s (Call.Done a) ≡ refuse 12
     unfolding call_refusal given ◌or_next◌ busy
-    done-outside out = refused s (Call.Done a) ok 11 (rw (ne_eqb _ _ at_disk, out))
+    done_outside out = refused s (Call.Done a) ok 11 (rw (ne_eqb _ _ at_disk, out))
 
     module _ (in-range : outside 1 duration_max a ≡ false) where
-      pub done-ends : ltb session_end (s.clock.0 + a) ≡ true → verdict s (Call.Done a) ≡ refuse 14
+      pub done_ends : ltb session_end (s.clock.0 + a) ≡ true → verdict s (Call.Done a) ≡ refuse 14
       unfolding call_refusal given ◌or_next◌ busy
-      done-ends past = refused s (Call.Done a) ok 13 (rw (ne_eqb _ _ at_disk, in-range, past))
+      done_ends past = refused s (Call.Done a) ok 13 (rw (ne_eqb _ _ at_disk, in-range, past))
 
-      pub done-charges : ltb session_end (s.clock.0 + a) ≡ false → verdict s (Call.Done a) ≡ finish (s.served - 1) a
+      pub done_charges : ltb session_end (s.clock.0 + a) ≡ false → verdict s (Call.Done a) ≡ finish (s.served - 1) a
       unfolding call_refusal given ◌or_next◌ busy effect
-      done-charges within = accepted s (Call.Done a) ok (rw (ne_eqb _ _ at_disk, in-range, within))
+      done_charges within = accepted s (Call.Done a) ok (rw (ne_eqb _ _ at_disk, in-range, within))
 
 -- what a report of the time is answered, case by case
 module _ (s : Session) (t : ℕ) (ok : sound s ≡ true) where
-  pub clock-busy : (s.served ≡ 0 → ⊥) → verdict s (Call.Clock t) ≡ refuse 10
+  pub clock_busy : (s.served ≡ 0 → ⊥) → verdict s (Call.Clock t) ≡ refuse 10
   unfolding call_refusal given ◌or_next◌ busy
-  clock-busy some = refused s (Call.Clock t) ok 9 (rw (ne_eqb _ _ some))
+  clock_busy some = refused s (Call.Clock t) ok 9 (rw (ne_eqb _ _ some))
 
   module _ (idle : s.served ≡ 0) where
-    pub clock-back : ltb t s.clock.0 ≡ true → verdict s (Call.Clock t) ≡ refuse 13
+    pub clock_back : ltb t s.clock.0 ≡ true → verdict s (Call.Clock t) ≡ refuse 13
     unfolding call_refusal given ◌or_next◌ busy
-    clock-back back = refused s (Call.Clock t) ok 12 (rw (eq-eqb _ _ idle, back))
+    clock_back back = refused s (Call.Clock t) ok 12 (rw (eq-eqb _ _ idle, back))
 
     module _ (onward : ltb t s.clock.0 ≡ false) where
-      pub clock-ends : ltb session_end t ≡ true → verdict s (Call.Clock t) ≡ refuse 14
+      pub clock_ends : ltb session_end t ≡ true → verdict s (Call.Clock t) ≡ refuse 14
       unfolding call_refusal given ◌or_next◌ busy
-      clock-ends past = refused s (Call.Clock t) ok 13 (rw (eq-eqb _ _ idle, onward, past))
+      clock_ends past = refused s (Call.Clock t) ok 13 (rw (eq-eqb _ _ idle, onward, past))
 
-      pub clock-sets : ltb session_end t ≡ false → verdict s (Call.Clock t) ≡ set_clock t
+      pub clock_sets : ltb session_end t ≡ false → verdict s (Call.Clock t) ≡ set_clock t
       unfolding call_refusal given ◌or_next◌ busy effect
-      clock-sets within = accepted s (Call.Clock t) ok (rw (eq-eqb _ _ idle, onward, within))
+      clock_sets within = accepted s (Call.Clock t) ok (rw (eq-eqb _ _ idle, onward, within))
 
-pub present-time-changes-nothing : PresentTimeChangesNothing
+pub present_time_changes_nothing : PresentTimeChangesNothing
 unfolding answer_to verdict effect apply
-present-time-changes-nothing s =
+present_time_changes_nothing s =
     ruled_by (λ v. apply s v ≡ s) (refusal s (Call.Clock s.clock.0)) (set_clock s.clock.0) refl (λ z. refl)

@@ -17,7 +17,7 @@ use Rattle.session.specs.Laws.{arriving, ForeignRequestFits}
 use Rattle.session.specs.Tags.{Request}
 use Rattle.session.specs.declared.Session.{Session}
 use Rattle.session.proofs.Latest.{told_is}
-use Rattle.session.proofs.Answers.{clock-sets}
+use Rattle.session.proofs.Answers.{clock_sets}
 use Rattle.session.proofs.Grounds.{ruled_by}
 use Rattle.session.proofs.Keeps.{calls_keep_sound}
 
@@ -45,7 +45,7 @@ in_time : (s : Session) (now : ℕ) (until : Clock) → sound s ≡ true → s.s
 unfolding answer_to reply_to if
 in_time s now until ok idle told onward le in-session =
     let by : now ≤ latest s = rw (told_is s ok until told) at le in
-    rw (clock-sets s now ok idle (le-ltb now s.clock.0 onward) (le-ltb session_end now in-session), not_late s now by)
+    rw (clock_sets s now ok idle (le-ltb now s.clock.0 onward) (le-ltb session_end now in-session), not_late s now by)
 
 module _ (now : ℕ) (until : Clock) (le : now ≤ until.0) (in-session : now ≤ session_end) where
   after_arrivals : (s : Session) (requests : List Request) → sound s ≡ true → s.served ≡ 0 → asked s ≡ At until → s.clock.0 ≤ now

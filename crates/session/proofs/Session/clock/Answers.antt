@@ -7,22 +7,22 @@ use Rattle.session.specs.Session.{sound}
 use Rattle.session.specs.Calls.{set_clock, verdict}
 use Rattle.calls.specs.declared.Call.{Call}
 use Rattle.session.proofs.Dues.{by_31, past_31}
-use Rattle.session.proofs.Answers.{answers, unsound-verdict, clock-busy, clock-back, clock-ends, clock-sets}
+use Rattle.session.proofs.Answers.{answers, unsound_verdict, clock_busy, clock_back, clock_ends, clock_sets}
 use Rattle.session.proofs.Session.clock.Goals as goal
 
 pub returns-then-not-is_sound : goal.returns-then-not-is_sound
-returns-then-not-is_sound c = answers _ _ c.refuse.ensures (unsound-verdict _ _ (by_31 _ _ c.is_sound.ensures c.if-not-is_sound.true))
+returns-then-not-is_sound c = answers _ _ c.refuse.ensures (unsound_verdict _ _ (by_31 _ _ c.is_sound.ensures c.if-not-is_sound.true))
 
 pub returns-then-self-ne0 : goal.returns-then-self-ne0
 returns-then-self-ne0 c =
     let ok : sound c.args.self ≡ true = past_31 _ _ c.is_sound.ensures c.if-not-is_sound.false in
-    answers _ _ c.refuse-then-self-ne0.ensures (clock-busy _ _ ok c.if-self-ne0.true)
+    answers _ _ c.refuse-then-self-ne0.ensures (clock_busy _ _ ok c.if-self-ne0.true)
 
 pub returns-then-is_after : goal.returns-then-is_after
 returns-then-is_after c =
     let ok : sound c.args.self ≡ true = past_31 _ _ c.is_sound.ensures c.if-not-is_sound.false in
     let back : c.is_after.result ≡ ltb c.args.time c.args.self.clock.0 = rw (c.is_after.ensures, c.at-now.ensures) in
-    answers _ _ c.refuse-then-is_after.ensures (clock-back _ _ ok c.if-self-ne0.false (sym back ∙ c.if-is_after.true))
+    answers _ _ c.refuse-then-is_after.ensures (clock_back _ _ ok c.if-self-ne0.false (sym back ∙ c.if-is_after.true))
 
 pub returns-then-is_past_end : goal.returns-then-is_past_end
 returns-then-is_past_end c =
@@ -30,7 +30,7 @@ returns-then-is_past_end c =
     let back : c.is_after.result ≡ ltb c.args.time c.args.self.clock.0 = rw (c.is_after.ensures, c.at-now.ensures) in
     let onward : ltb c.args.time c.args.self.clock.0 ≡ false = sym back ∙ c.if-is_after.false in
     let past : c.is_past_end.result ≡ ltb session_end c.args.time = rw (c.is_past_end.ensures, c.at-now.ensures) in
-    answers _ _ c.refuse-then-is_past_end.ensures (clock-ends _ _ ok c.if-self-ne0.false onward (sym past ∙ c.if-is_past_end.true))
+    answers _ _ c.refuse-then-is_past_end.ensures (clock_ends _ _ ok c.if-self-ne0.false onward (sym past ∙ c.if-is_past_end.true))
 
 pub latest-until-requires : goal.latest-until-requires
 latest-until-requires c =
@@ -46,5 +46,5 @@ returns c =
     let back : c.is_after.result ≡ ltb c.args.time c.args.self.clock.0 = rw (c.is_after.ensures, c.at-now.ensures) in
     let onward : ltb c.args.time c.args.self.clock.0 ≡ false = sym back ∙ c.if-is_after.false in
     let past : c.is_past_end.result ≡ ltb session_end c.args.time = rw (c.is_past_end.ensures, c.at-now.ensures) in
-    let sets : verdict c.args.self (Call.Clock c.args.time) ≡ set_clock c.at-now.result.0 = rw c.at-now.ensures (clock-sets _ _ ok c.if-self-ne0.false onward (sym past ∙ c.if-is_past_end.false)) in
+    let sets : verdict c.args.self (Call.Clock c.args.time) ≡ set_clock c.at-now.result.0 = rw c.at-now.ensures (clock_sets _ _ ok c.if-self-ne0.false onward (sym past ∙ c.if-is_past_end.false)) in
     answers _ _ c.set_clock.ensures sets

@@ -10,24 +10,24 @@ use Rattle.session.specs.Calls.{finish, verdict}
 use Rattle.calls.specs.declared.Call.{Call}
 use Rattle.stream.proofs.Fits.{duration_within}
 use Rattle.session.proofs.Dues.{by_31, past_31}
-use Rattle.session.proofs.Answers.{answers, unsound-verdict, done-idle, done-outside, done-ends, done-charges}
+use Rattle.session.proofs.Answers.{answers, unsound_verdict, done_idle, done_outside, done_ends, done_charges}
 use Rattle.session.proofs.Grounds.{served_in}
 use Rattle.session.proofs.Sound.{sound_of}
 use Rattle.session.proofs.Session.done.Goals as goal
 
 pub returns-then-not-is_sound : goal.returns-then-not-is_sound
-returns-then-not-is_sound c = answers _ _ c.refuse.ensures (unsound-verdict _ _ (by_31 _ _ c.is_sound.ensures c.if-not-is_sound.true))
+returns-then-not-is_sound c = answers _ _ c.refuse.ensures (unsound_verdict _ _ (by_31 _ _ c.is_sound.ensures c.if-not-is_sound.true))
 
 pub returns-then-self-eq0 : goal.returns-then-self-eq0
 returns-then-self-eq0 c =
     let ok : sound c.args.self ≡ true = past_31 _ _ c.is_sound.ensures c.if-not-is_sound.false in
-    answers _ _ c.refuse-then-self-eq0.ensures (done-idle _ _ ok c.if-self-eq0.true)
+    answers _ _ c.refuse-then-self-eq0.ensures (done_idle _ _ ok c.if-self-eq0.true)
 
 pub returns-then-duration : goal.returns-then-duration
 unfolding outside
 returns-then-duration c =
     let ok : sound c.args.self ≡ true = past_31 _ _ c.is_sound.ensures c.if-not-is_sound.false in
-    answers _ _ c.refuse-then-duration.ensures (done-outside _ _ ok c.if-self-eq0.false c.if-duration.true)
+    answers _ _ c.refuse-then-duration.ensures (done_outside _ _ ok c.if-self-eq0.false c.if-duration.true)
 
 pub after-end-requires : goal.after-end-requires
 unfolding outside
@@ -42,7 +42,7 @@ returns-then-is_past_end c =
     let ok : sound c.args.self ≡ true = past_31 _ _ c.is_sound.ensures c.if-not-is_sound.false in
     let in-range : outside 1 duration_max c.args.duration ≡ false = c.if-duration.false in
     let past : c.is_past_end.result ≡ ltb session_end (c.args.self.clock.0 + c.args.duration) = rw (c.is_past_end.ensures, c.after-end.ensures, c.of-taken.ensures) in
-    answers _ _ c.refuse-then-is_past_end.ensures (done-ends _ _ ok c.if-self-eq0.false in-range (sym past ∙ c.if-is_past_end.true))
+    answers _ _ c.refuse-then-is_past_end.ensures (done_ends _ _ ok c.if-self-eq0.false in-range (sym past ∙ c.if-is_past_end.true))
 
 pub overflow_sub-self : goal.overflow_sub-self
 overflow_sub-self c =
@@ -55,7 +55,7 @@ finish-requires c =
     let ok : sound c.args.self ≡ true = past_31 _ _ c.is_sound.ensures c.if-not-is_sound.false in
     let in-range : outside 1 duration_max c.args.duration ≡ false = c.if-duration.false in
     let past : c.is_past_end.result ≡ ltb session_end (c.args.self.clock.0 + c.args.duration) = rw (c.is_past_end.ensures, c.after-end.ensures, c.of-taken.ensures) in
-    let charges : verdict c.args.self (Call.Done c.args.duration) ≡ finish (c.args.self.served - 1) c.of-taken.result.0 = rw c.of-taken.ensures (done-charges _ _ ok c.if-self-eq0.false in-range (sym past ∙ c.if-is_past_end.false)) in
+    let charges : verdict c.args.self (Call.Done c.args.duration) ≡ finish (c.args.self.served - 1) c.of-taken.result.0 = rw c.of-taken.ensures (done_charges _ _ ok c.if-self-eq0.false in-range (sym past ∙ c.if-is_past_end.false)) in
     record { ok = ok; call = _; is = charges }
 
 pub returns : goal.returns
@@ -64,5 +64,5 @@ returns c =
     let ok : sound c.args.self ≡ true = past_31 _ _ c.is_sound.ensures c.if-not-is_sound.false in
     let in-range : outside 1 duration_max c.args.duration ≡ false = c.if-duration.false in
     let past : c.is_past_end.result ≡ ltb session_end (c.args.self.clock.0 + c.args.duration) = rw (c.is_past_end.ensures, c.after-end.ensures, c.of-taken.ensures) in
-    let charges : verdict c.args.self (Call.Done c.args.duration) ≡ finish (c.args.self.served - 1) c.of-taken.result.0 = rw c.of-taken.ensures (done-charges _ _ ok c.if-self-eq0.false in-range (sym past ∙ c.if-is_past_end.false)) in
+    let charges : verdict c.args.self (Call.Done c.args.duration) ≡ finish (c.args.self.served - 1) c.of-taken.result.0 = rw c.of-taken.ensures (done_charges _ _ ok c.if-self-eq0.false in-range (sym past ∙ c.if-is_past_end.false)) in
     answers _ _ c.finish.ensures charges

@@ -9,7 +9,7 @@ use Rattle.stream.specs.Stream.{filled}
 use Rattle.session.specs.Session.{stream_at, horizon, filled_at, sound}
 use Rattle.session.specs.Calls.{send, no_such_stream, verdict}
 use Rattle.calls.specs.declared.Call.{Call}
-use Rattle.session.proofs.Answers.{answers, unsound-verdict, own-busy, own-nowhere, own-outside, own-sends}
+use Rattle.session.proofs.Answers.{answers, unsound_verdict, own_busy, own_nowhere, own_outside, own_sends}
 use Rattle.session.proofs.Grounds.{named}
 use Rattle.session.proofs.Sound.{sound_of, bounded_by}
 use Rattle.session.proofs.Dues.{by_31, past_31, inside}
@@ -17,18 +17,18 @@ use Rattle.session.proofs.Offsets.{offset_fits}
 use Rattle.session.proofs.Session.own_turn.Goals as goal
 
 pub returns-then-not-is_sound : goal.returns-then-not-is_sound
-returns-then-not-is_sound c = answers _ _ c.refuse.ensures (unsound-verdict _ _ (by_31 _ _ c.is_sound.ensures c.if-not-is_sound.true))
+returns-then-not-is_sound c = answers _ _ c.refuse.ensures (unsound_verdict _ _ (by_31 _ _ c.is_sound.ensures c.if-not-is_sound.true))
 
 pub returns-then-self-ne0 : goal.returns-then-self-ne0
 returns-then-self-ne0 c =
     let ok : sound c.args.self ≡ true = past_31 _ _ c.is_sound.ensures c.if-not-is_sound.false in
-    answers _ _ c.refuse-then-self-ne0.ensures (own-busy _ _ _ ok c.if-self-ne0.true)
+    answers _ _ c.refuse-then-self-ne0.ensures (own_busy _ _ _ ok c.if-self-ne0.true)
 
 pub returns-then-stream-self : goal.returns-then-stream-self
 unfolding no_such_stream
 returns-then-stream-self c =
     let ok : sound c.args.self ≡ true = past_31 _ _ c.is_sound.ensures c.if-not-is_sound.false in
-    answers _ _ c.refuse-then-stream-self.ensures (own-nowhere _ _ _ ok c.if-self-ne0.false c.if-stream-self.true)
+    answers _ _ c.refuse-then-stream-self.ensures (own_nowhere _ _ _ ok c.if-self-ne0.false c.if-stream-self.true)
 
 pub overflow_sub-n : goal.overflow_sub-n
 unfolding no_such_stream
@@ -68,7 +68,7 @@ returns-then-filled-index c =
     let own : no_such_stream c.args.self c.args.stream ≡ false = c.if-stream-self.false in
     let ahead : c.args.self.horizon ≡ moment (horizon c.args.self) = (sound_of _ ok).ahead.horizon_is in
     let set-size : c.filled-filled.result ≡ filled_at c.args.self (c.args.stream - 1) = c.filled-filled.ensures ∙ ap (λ (h : Clock). filled c.args.self.worst h.0 (stream_at c.args.self (c.args.stream - 1))) ahead in
-    answers _ _ c.refuse-then-filled-index.ensures (own-outside _ _ _ ok c.if-self-ne0.false own (omega (arith, set-size, c.if-filled-index.true)))
+    answers _ _ c.refuse-then-filled-index.ensures (own_outside _ _ _ ok c.if-self-ne0.false own (omega (arith, set-size, c.if-filled-index.true)))
 
 pub send-requires : goal.send-requires
 unfolding no_such_stream
@@ -77,7 +77,7 @@ send-requires c =
     let own : no_such_stream c.args.self c.args.stream ≡ false = c.if-stream-self.false in
     let ahead : c.args.self.horizon ≡ moment (horizon c.args.self) = (sound_of _ ok).ahead.horizon_is in
     let set-size : c.filled-filled.result ≡ filled_at c.args.self (c.args.stream - 1) = c.filled-filled.ensures ∙ ap (λ (h : Clock). filled c.args.self.worst h.0 (stream_at c.args.self (c.args.stream - 1))) ahead in
-    let chosen : verdict c.args.self (Call.OwnTurn c.args.stream c.args.index) ≡ send (c.args.stream - 1) c.args.index = own-sends _ _ _ ok c.if-self-ne0.false own (omega (arith, set-size, c.if-filled-index.false)) in
+    let chosen : verdict c.args.self (Call.OwnTurn c.args.stream c.args.index) ≡ send (c.args.stream - 1) c.args.index = own_sends _ _ _ ok c.if-self-ne0.false own (omega (arith, set-size, c.if-filled-index.false)) in
     record { ok = ok; call = _; is = chosen }
 
 pub returns : goal.returns
@@ -87,5 +87,5 @@ returns c =
     let own : no_such_stream c.args.self c.args.stream ≡ false = c.if-stream-self.false in
     let ahead : c.args.self.horizon ≡ moment (horizon c.args.self) = (sound_of _ ok).ahead.horizon_is in
     let set-size : c.filled-filled.result ≡ filled_at c.args.self (c.args.stream - 1) = c.filled-filled.ensures ∙ ap (λ (h : Clock). filled c.args.self.worst h.0 (stream_at c.args.self (c.args.stream - 1))) ahead in
-    let chosen : verdict c.args.self (Call.OwnTurn c.args.stream c.args.index) ≡ send (c.args.stream - 1) c.args.index = own-sends _ _ _ ok c.if-self-ne0.false own (omega (arith, set-size, c.if-filled-index.false)) in
+    let chosen : verdict c.args.self (Call.OwnTurn c.args.stream c.args.index) ≡ send (c.args.stream - 1) c.args.index = own_sends _ _ _ ok c.if-self-ne0.false own (omega (arith, set-size, c.if-filled-index.false)) in
     answers _ _ c.send.ensures chosen

@@ -6,16 +6,16 @@ use Rattle.session.specs.Calls.{send, move, expire, verdict}
 use Rattle.session.specs.declared.Session.{Session}
 use Rattle.calls.specs.declared.Call.{Call}
 use Rattle.session.proofs.Dues.{by_31, past_31}
-use Rattle.session.proofs.Answers.{Idle, Unfilled, answers, unsound-verdict, turn-busy, turn-sends, turn-ends, turn-moves, turn-waits, turn-expires}
+use Rattle.session.proofs.Answers.{Idle, Unfilled, answers, unsound_verdict, turn_busy, turn_sends, turn_ends, turn_moves, turn_waits, turn_expires}
 use Rattle.session.proofs.Session.turn.Goals as goal
 
 pub returns-then-not-is_sound : goal.returns-then-not-is_sound
-returns-then-not-is_sound c = answers _ _ c.refuse.ensures (unsound-verdict _ _ (by_31 _ _ c.is_sound.ensures c.if-not-is_sound.true))
+returns-then-not-is_sound c = answers _ _ c.refuse.ensures (unsound_verdict _ _ (by_31 _ _ c.is_sound.ensures c.if-not-is_sound.true))
 
 pub returns-then-self-ne0 : goal.returns-then-self-ne0
 returns-then-self-ne0 c =
     let ok : sound c.args.self ≡ true = past_31 _ _ c.is_sound.ensures c.if-not-is_sound.false in
-    answers _ _ c.refuse-then-self-ne0.ensures (turn-busy _ ok c.if-self-ne0.true)
+    answers _ _ c.refuse-then-self-ne0.ensures (turn_busy _ ok c.if-self-ne0.true)
 
 pub pick-pick-requires : goal.pick-pick-requires
 pick-pick-requires c =
@@ -29,7 +29,7 @@ send-requires c =
     let session : Session = c.args.self in
     let ok : sound c.args.self ≡ true = past_31 _ _ c.is_sound.ensures c.if-not-is_sound.false in
     let idle : Idle session = record { ok = ok; rests = c.if-self-ne0.false } in
-    let sends : let pick = c.pick-pick.result in verdict session Call.Turn ≡ send pick.stream pick.index = let pick = c.pick-pick.ensures in turn-sends idle _ _ pick.1 (pick.2 c.if-filled.true) (sym pick.0 ∙ c.if-filled.true) in
+    let sends : let pick = c.pick-pick.result in verdict session Call.Turn ≡ send pick.stream pick.index = let pick = c.pick-pick.ensures in turn_sends idle _ _ pick.1 (pick.2 c.if-filled.true) (sym pick.0 ∙ c.if-filled.true) in
     record { ok = idle.ok; call = _; is = sends }
 
 pub returns-then-filled : goal.returns-then-filled
@@ -37,7 +37,7 @@ returns-then-filled c =
     let session : Session = c.args.self in
     let ok : sound c.args.self ≡ true = past_31 _ _ c.is_sound.ensures c.if-not-is_sound.false in
     let idle : Idle session = record { ok = ok; rests = c.if-self-ne0.false } in
-    let sends : let pick = c.pick-pick.result in verdict session Call.Turn ≡ send pick.stream pick.index = let pick = c.pick-pick.ensures in turn-sends idle _ _ pick.1 (pick.2 c.if-filled.true) (sym pick.0 ∙ c.if-filled.true) in
+    let sends : let pick = c.pick-pick.result in verdict session Call.Turn ≡ send pick.stream pick.index = let pick = c.pick-pick.ensures in turn_sends idle _ _ pick.1 (pick.2 c.if-filled.true) (sym pick.0 ∙ c.if-filled.true) in
     answers _ _ c.send.ensures sends
 
 pub survey-seen-requires : goal.survey-seen-requires
@@ -53,7 +53,7 @@ returns-then-seen c =
     let ok : sound c.args.self ≡ true = past_31 _ _ c.is_sound.ensures c.if-not-is_sound.false in
     let idle : Idle session = record { ok = ok; rests = c.if-self-ne0.false } in
     let unfilled : Unfilled session c.survey-seen.result = record { idle = idle; none = sym c.pick-pick.ensures.0 ∙ c.if-filled.false; seen = c.survey-seen.ensures } in
-    answers _ _ c.refuse-then-seen.ensures (turn-ends unfilled c.if-not-seen.true c.if-seen.true)
+    answers _ _ c.refuse-then-seen.ensures (turn_ends unfilled c.if-not-seen.true c.if-seen.true)
 
 pub move_on-requires : goal.move_on-requires
 move_on-requires c =
@@ -61,7 +61,7 @@ move_on-requires c =
     let ok : sound c.args.self ≡ true = past_31 _ _ c.is_sound.ensures c.if-not-is_sound.false in
     let idle : Idle session = record { ok = ok; rests = c.if-self-ne0.false } in
     let unfilled : Unfilled session c.survey-seen.result = record { idle = idle; none = sym c.pick-pick.ensures.0 ∙ c.if-filled.false; seen = c.survey-seen.ensures } in
-    let moves : verdict session Call.Turn ≡ move = turn-moves unfilled c.if-not-seen.true c.if-seen.false in
+    let moves : verdict session Call.Turn ≡ move = turn_moves unfilled c.if-not-seen.true c.if-seen.false in
     record { ok = unfilled.idle.ok; call = _; is = moves }
 
 pub returns-then-not-seen : goal.returns-then-not-seen
@@ -70,7 +70,7 @@ returns-then-not-seen c =
     let ok : sound c.args.self ≡ true = past_31 _ _ c.is_sound.ensures c.if-not-is_sound.false in
     let idle : Idle session = record { ok = ok; rests = c.if-self-ne0.false } in
     let unfilled : Unfilled session c.survey-seen.result = record { idle = idle; none = sym c.pick-pick.ensures.0 ∙ c.if-filled.false; seen = c.survey-seen.ensures } in
-    let moves : verdict session Call.Turn ≡ move = turn-moves unfilled c.if-not-seen.true c.if-seen.false in
+    let moves : verdict session Call.Turn ≡ move = turn_moves unfilled c.if-not-seen.true c.if-seen.false in
     answers _ _ c.move_on.ensures moves
 
 -- c. and d. only empty slots
@@ -91,7 +91,7 @@ returns-then-is_after c =
     let ok : sound c.args.self ≡ true = past_31 _ _ c.is_sound.ensures c.if-not-is_sound.false in
     let idle : Idle session = record { ok = ok; rests = c.if-self-ne0.false } in
     let unfilled : Unfilled session c.survey-seen.result = record { idle = idle; none = sym c.pick-pick.ensures.0 ∙ c.if-filled.false; seen = c.survey-seen.ensures } in
-    answers _ _ c.wait.ensures (turn-waits unfilled c.if-not-seen.false _ c.latest-until.ensures c.is_after.ensures c.if-is_after.true)
+    answers _ _ c.wait.ensures (turn_waits unfilled c.if-not-seen.false _ c.latest-until.ensures c.is_after.ensures c.if-is_after.true)
 
 pub expire-requires : goal.expire-requires
 expire-requires c =
@@ -99,7 +99,7 @@ expire-requires c =
     let ok : sound c.args.self ≡ true = past_31 _ _ c.is_sound.ensures c.if-not-is_sound.false in
     let idle : Idle session = record { ok = ok; rests = c.if-self-ne0.false } in
     let unfilled : Unfilled session c.survey-seen.result = record { idle = idle; none = sym c.pick-pick.ensures.0 ∙ c.if-filled.false; seen = c.survey-seen.ensures } in
-    let lapses : verdict session Call.Turn ≡ expire c.survey-seen.result.expiring = turn-expires unfilled c.if-not-seen.false _ c.latest-until.ensures c.is_after.ensures c.if-is_after.false in
+    let lapses : verdict session Call.Turn ≡ expire c.survey-seen.result.expiring = turn_expires unfilled c.if-not-seen.false _ c.latest-until.ensures c.is_after.ensures c.if-is_after.false in
     record { ok = unfilled.idle.ok; call = _; is = lapses }
 
 pub returns : goal.returns
@@ -108,5 +108,5 @@ returns c =
     let ok : sound c.args.self ≡ true = past_31 _ _ c.is_sound.ensures c.if-not-is_sound.false in
     let idle : Idle session = record { ok = ok; rests = c.if-self-ne0.false } in
     let unfilled : Unfilled session c.survey-seen.result = record { idle = idle; none = sym c.pick-pick.ensures.0 ∙ c.if-filled.false; seen = c.survey-seen.ensures } in
-    let lapses : verdict session Call.Turn ≡ expire c.survey-seen.result.expiring = turn-expires unfilled c.if-not-seen.false _ c.latest-until.ensures c.is_after.ensures c.if-is_after.false in
+    let lapses : verdict session Call.Turn ≡ expire c.survey-seen.result.expiring = turn_expires unfilled c.if-not-seen.false _ c.latest-until.ensures c.is_after.ensures c.if-is_after.false in
     answers _ _ c.expire.ensures lapses

@@ -1,8 +1,10 @@
 // What a program is given: the words that it is started with, the files that they name, and bytes that are read until a buffer is full.
 #![tactic(auto)]
 
-ghost use Rattle.std.specs.Prelude.{◌≤◌, length};
+ghost use Rattle.std.specs.Prelude.{◌≡◌, ◌<◌, ◌≤◌, length, take, IfOk, MatchResult};
 ghost use Rattle.std.specs.Io.{ReadsAtMost};
+ghost use Rattle.std.specs.Io.KnownBytes.{Consumes, IsAtEnd};
+ghost use Rattle.std.specs.Str.{IsUtf8};
 
 use std::env::{Env, FillError};
 use std::fs::{Files, OpenOptions};
@@ -38,12 +40,16 @@ pub fn word(env: &impl Env, index: usize, buffer: &mut [u8]) -> usize
 }
 
 // Opens a file for reading.
-pub fn open<R: Files>(files: &R, name: &[u8]) -> io::Result<R::File> {
+pub fn open<R: Files>(files: &R, name: &[u8]) -> io::Result<R::File>
+    ensures { IfOk result (λ _. IsUtf8 name.now) }
+{
     fs::open(files, path(name)?)
 }
 
 // Makes a file that was not there, and opens it for writing.
-pub fn create<R: Files>(files: &R, name: &[u8]) -> io::Result<R::File> {
+pub fn create<R: Files>(files: &R, name: &[u8]) -> io::Result<R::File>
+    ensures { IfOk result (λ _. IsUtf8 name.now) }
+{
     let path = path(name)?;
     OpenOptions::new()
         .write(true)
@@ -51,12 +57,16 @@ pub fn create<R: Files>(files: &R, name: &[u8]) -> io::Result<R::File> {
         .open(files, path)
 }
 
-pub fn remove(files: &impl Files, name: &[u8]) -> io::Result<()> {
+pub fn remove(files: &impl Files, name: &[u8]) -> io::Result<()>
+    ensures { IfOk result (λ _. IsUtf8 name.now) }
+{
     fs::remove_file(files, path(name)?)
 }
 
 // A name as text: one that is none in UTF-8 cannot be handed to the system.
-fn path(name: &[u8]) -> io::Result<&str> {
+fn path(name: &[u8]) -> io::Result<&str>
+    ensures { MatchResult result (λ p. (p.now ≡ name.now) × IsUtf8 name.now) (λ _. ¬ (IsUtf8 name.now)) }
+{
     match str::from_utf8(name) {
         Ok(path) => Ok(path),
         Err(_) => Err(io::Error::from(ErrorKind::InvalidFilename)),
@@ -64,14 +74,16 @@ fn path(name: &[u8]) -> io::Result<&str> {
 }
 
 // Reads until the buffer is full or there is no more, and answers how many bytes it put at its start.
-pub fn read_full(from: &mut impl Read, buffer: &mut [u8]) -> io::Result<usize>
-    ensures { ReadsAtMost result buffer.new }
+pub fn read_full<R: Read>(from: &mut R, buffer: &mut [u8]) -> io::Result<usize>
+    ensures bound { ReadsAtMost result buffer.new }
+    ensures bytes { IfOk result (λ n. Consumes (R.remaining from.old) (R.remaining from.new) (take n buffer.new)) }
+    ensures end { IfOk result (λ n. n < length buffer.new → IsAtEnd (R.remaining from.new)) }
 {
     let mut done: usize = 0;
     while done < buffer.len() {
         let got = from.read(&mut buffer[done..])?;
         if got == 0 {
-            break;
+            return Ok(done);
         }
         done += got;
     }
@@ -80,7 +92,8 @@ pub fn read_full(from: &mut impl Read, buffer: &mut [u8]) -> io::Result<usize>
 
 // Reads a file, as far as the buffer goes. One more read shows of a file that fills it whether it could be read on.
 pub fn read_file(files: &impl Files, name: &[u8], buffer: &mut [u8]) -> io::Result<usize>
-    ensures { ReadsAtMost result buffer.new }
+    ensures bound { ReadsAtMost result buffer.new }
+    ensures named { IfOk result (λ _. IsUtf8 name.now) }
 {
     let mut file = open(files, name)?;
     let len = read_full(&mut file, buffer)?;

@@ -12,6 +12,7 @@ use Rattle.time.specs.Time.{session_end, duration_max}
 use Rattle.stream.specs.Stream.{sound_cells}
 use Rattle.stream.specs.declared.Stream.{Stream}
 use Rattle.stream.proofs.Stream.is_sound.Goals as goal
+use Rattle.stream.proofs.Stream.is_sound.Goals.{After-is_near-charge}
 
 -- the tests of the budget, the dates and the charge
 abbrev first : ℕ → ℕ → Stream → Bool
@@ -21,11 +22,10 @@ first worst k x =
     && leb x.deadline.0 session_end
     && leb x.charge.0 (x.granted.0 + duration_max)
 
-pub returns-then-not-budget-due : goal.returns-then-not-budget-due
-unfolding sound_cells
-returns-then-not-budget-due c =
-    let tested : let a = c.args in
-    (c.is-budget.result && c.is_later_by-due.result && c.is_by-in_session.result && c.is_near-charge.result) ≡ first a.worst a.k a.self =
+-- what the code finds of them is that
+tested : (c : After-is_near-charge)
+    → (c.is-budget.result && c.is_later_by-due.result && c.is_by-in_session.result && c.is_near-charge.result) ≡ first c.args.worst c.args.k c.args.self
+tested c =
     rw (
       c.is_near-charge.ensures,
       c.is_by-in_session.ensures,
@@ -34,11 +34,14 @@ returns-then-not-budget-due c =
       c.is-budget.ensures,
       c.of.ensures,
       c.granted.ensures,
-    ) in
-    rw (sym tested ∙ c.if-not-budget-due.true)
+    )
 
-charge-small : (worst k : ℕ) (x : Stream) → granted_of worst k x.reserved ≤ period_max → first worst k x ≡ true → x.charge.0 ≤ session_end
-charge-small worst k x high t =
+pub returns-then-not-budget-due : goal.returns-then-not-budget-due
+unfolding sound_cells
+returns-then-not-budget-due c = rw (sym (tested (goal.at.returns-then-not-budget-due c).After-is_near-charge) ∙ c.if-not-budget-due.true)
+
+charge_small : (worst k : ℕ) (x : Stream) → granted_of worst k x.reserved ≤ period_max → first worst k x ≡ true → x.charge.0 ≤ session_end
+charge_small worst k x high t =
     let budget = eqb x.granted.0 (granted_of worst k x.reserved) in
     let due = eqb x.deadline.0 (x.release.0 + x.period) in
     let a = both (budget && due && leb x.deadline.0 session_end) (leb x.charge.0 (x.granted.0 + duration_max)) t in
@@ -47,33 +50,11 @@ charge-small worst k x high t =
 
 pub covers-covered-requires : goal.covers-covered-requires
 covers-covered-requires c =
-    let tested : let a = c.args in
-    (c.is-budget.result && c.is_later_by-due.result && c.is_by-in_session.result && c.is_near-charge.result) ≡ first a.worst a.k a.self =
-    rw (
-      c.is_near-charge.ensures,
-      c.is_by-in_session.ensures,
-      c.at.ensures,
-      c.is_later_by-due.ensures,
-      c.is-budget.ensures,
-      c.of.ensures,
-      c.granted.ensures,
-    ) in
-    let passed : let a = c.args in first a.worst a.k a.self ≡ true = sym tested ∙ c.if-not-budget-due.false in
-    (c.requires.0, omega (arith, c.requires.1), charge-small c.args.worst c.args.k c.args.self c.requires.2 passed)
+    let passed = sym (tested (goal.at.covers-covered-requires c).After-is_near-charge) ∙ c.if-not-budget-due.false in
+    (c.requires.0, omega (arith, c.requires.1), charge_small c.args.worst c.args.k c.args.self c.requires.2 passed)
 
 pub returns : goal.returns
 unfolding sound_cells
 returns c =
-    let tested : let a = c.args in
-    (c.is-budget.result && c.is_later_by-due.result && c.is_by-in_session.result && c.is_near-charge.result) ≡ first a.worst a.k a.self =
-    rw (
-      c.is_near-charge.ensures,
-      c.is_by-in_session.ensures,
-      c.at.ensures,
-      c.is_later_by-due.ensures,
-      c.is-budget.ensures,
-      c.of.ensures,
-      c.granted.ensures,
-    ) in
-    let passed : let a = c.args in first a.worst a.k a.self ≡ true = sym tested ∙ c.if-not-budget-due.false in
+    let passed = sym (tested (goal.at.returns c).After-is_near-charge) ∙ c.if-not-budget-due.false in
     rw (passed, c.covers-covered.ensures, c.queue_is_sound-queue.ensures)

@@ -1,15 +1,19 @@
 // The order in which a turn takes the requests of one deadline.
 #![tactic(auto)]
 
-ghost use Rattle.std.specs.Prelude.{◌≡◌};
+ghost use Rattle.std.specs.Prelude.{◌≡◌, true, OkIff};
 ghost use Rattle.order.specs.Order.{order_number, is_order, order_of, distance, swept_before, goes_before};
 
 // The place nearest the head first; or the places from the head on upwards, and then those below it.
-#[derive(Clone, Copy)]
+#[derive(Clone, Copy, Debug, PartialEq, Eq)]
 pub enum Order {
     Nearest,
     Sweep,
 }
+
+// A number is that of no order.
+#[derive(Clone, Copy, Debug, PartialEq, Eq)]
+pub struct UnknownOrder;
 
 impl Order {
     // The number by which files and images carry it.
@@ -20,23 +24,6 @@ impl Order {
             Order::Nearest => 0,
             Order::Sweep => 1,
         }
-    }
-
-    // Whether a number is that of an order.
-    pub fn is_number(number: u64) -> bool
-        ensures { result ≡ is_order number }
-    {
-        number <= 1
-    }
-
-    // The order of a number; of one that has none, nearest.
-    pub fn of_number(number: u64) -> Order
-        ensures { result ≡ order_of number }
-    {
-        if number == 1 {
-            return Order::Sweep;
-        }
-        Order::Nearest
     }
 
     // Whether one place is taken before another, as the head stands.
@@ -50,15 +37,26 @@ impl Order {
     }
 }
 
+// The order of a number.
+impl TryFrom<u64> for Order {
+    type Error = UnknownOrder;
+
+    ghost try_from_gives = { λ number result. OkIff result (is_order number ≡ true) (order_of number) };
+
+    fn try_from(number: u64) -> Result<Order, UnknownOrder> {
+        match number {
+            0 => Ok(Order::Nearest),
+            1 => Ok(Order::Sweep),
+            _ => Err(UnknownOrder),
+        }
+    }
+}
+
 // How far a place is from the head.
 fn distance(head: u64, place: u64) -> u64
     ensures { result ≡ distance head place }
 {
-    if head < place {
-        place - head
-    } else {
-        head - place
-    }
+    head.abs_diff(place)
 }
 
 // Whether a sweep takes one place before another: those not below the head first, and of either the smaller.

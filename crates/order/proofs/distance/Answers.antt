@@ -1,13 +1,23 @@
--- `distance` takes the smaller place off the larger.
-use borrow.Author.Tests.{lt-ltb, le-ltb}
-use Rattle.table.specs.Fold.{if}
+-- How far two places are apart is the smaller taken off the larger.
+use mathlib.Core.Path.{◌≡◌, ◌∙◌}
+use Prim.Native.Nat.{ℕ, ◌+◌, ◌-◌}
+use native.Mathlib.Omega.{arith}
+use lib.Dec.{ltb}
+use borrow.Author.Tests.{ltb-true, ltb-false}
+use Rattle.table.proofs.Tests.{by_if}
 use Rattle.order.specs.Order.{distance}
 use Rattle.order.proofs.distance.Goals as goal
 
-pub returns-then-head-place : goal.returns-then-head-place
-unfolding distance if
-returns-then-head-place c = rw (lt-ltb _ _ c.if-head-place.true)
+apart : (a b : ℕ) → (a - b) + (b - a) ≡ distance a b
+unfolding distance
+apart a b =
+    by_if
+    (λ n. (a - b) + (b - a) ≡ n)
+    (ltb a b)
+    (b - a)
+    (a - b)
+    (λ e. let l = ltb-true a b e in omega arith)
+    (λ e. let l = ltb-false a b e in omega arith)
 
-pub returns-else-head-place : goal.returns-else-head-place
-unfolding distance if
-returns-else-head-place c = rw (le-ltb _ _ c.if-head-place.false)
+pub returns : goal.returns
+returns c = c.abs_diff.ensures ∙ apart c.args.head c.args.place

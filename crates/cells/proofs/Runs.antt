@@ -1,12 +1,15 @@
 -- Runs of stores: how they join, and where they end.
-use mathlib.Core.Path.{◌≡◌, refl, sym, ◌∙◌}
-use mathlib.Core.List.{List, [], ◌∷◌, ◌++◌}
-use Prim.Native.Nat.{ℕ, suc, ◌+◌, ◌-◌, ◌/◌, ◌%◌, min, ◌≤◌, ◌<◌}
+use mathlib.Core.Path.{◌≡◌, refl, sym, ap, ◌∙◌}
+use Rattle.std.proofs.Common.{inl, inr}
+use mathlib.Core.List.{List, [], ◌∷◌, ◌++◌, append_assoc, append-nil}
+use Prim.Native.Nat.{ℕ, zero, suc, ◌+◌, ◌-◌, ◌/◌, ◌%◌, min, ◌≤◌, ◌<◌}
 use native.Mathlib.Omega.{arith}
 use native.Mathlib.Numerals.{add-one}
 use native.Mathlib.Nat.{add-zero}
-use lib.ListN.{length, get_or, drop, set, length-append}
-use lib.Seq.{sets, sets-eq, set_out, drop-cons}
+use lib.ListN.{length, take, drop, set, length-append, length-drop, take-append-drop}
+use lib.Seq.{sets, sets-eq, set_out, length-sets, length-take-le, take-suc-set, take_all, drop-drop}
+use borrow.Rule.Slice.PartMut.{put_mid}
+use Rattle.std.proofs.lemmas.Bool.{cases_lt}
 use Rattle.cells.specs.Cells.{cell}
 
 -- two runs, one after the other, are one
@@ -54,18 +57,50 @@ wrote_more {start} {text} {buffer} {place} more {place2} {buffer2} w p h = recor
       h ∙ rw (w.holds, e) (sym (sets_append text more start 0));
 }
 
--- ---- turns of the loops that store
+-- ---- as the code stores
 
-pub put_more : (out : List ℕ) (at width i rest : ℕ) → i < width
-    → sets (set out (at + i) (rest % 256)) (at + (i + 1)) (cell (width - (i + 1)) (rest / 256)) ≡ sets out (at + i) (cell (width - i) rest)
+-- past the end it is all one where
+sets_from : (v l : List ℕ) (at from : ℕ) → from ≡ min at (length l) → sets l at v ≡ sets l from v
+sets_from v l at from f =
+    elim (cases_lt at (length l)) [ inl h ↦ (let e : from ≡ at = omega arith in rw e) | inr h ↦ sets_out v l at h ∙ sym (sets_out v l from (omega arith)) ]
+
+-- The part from an index on, as far as there is one, is overwritten by what it has room for.
+pub part_stored : (v l now : List ℕ) (at from run k : ℕ) → from ≡ min at (length l) → run ≡ min (length v) (length l - from) → k ≡ run
+    → now ≡ take run v → put_mid from k l now ≡ sets l at v
+part_stored v l now at from run k f r e s =
+    let part = take run v in
+    let long : length part ≡ run = length-take-le run v (omega arith) in
+    let fits : from + length part ≤ length l = omega arith in
+    let place : from + length part ≡ from + k = omega arith in
+    let whole : sets l at v ≡ sets l from v = sets_from v l at from f in
+    let split : sets l from v ≡ sets (sets l from part) (from + length part) (drop run v)
+    = ap (sets l from) (sym (take-append-drop run v)) ∙ sets_append part (drop run v) l from in
+    let done : sets (sets l from part) (from + length part) (drop run v) ≡ sets l from part
+    = sets_done (drop run v) (sets l from part) (from + length part) (omega (arith, length-drop run v, length-sets l from part)) in
+    let mid : sets l from part ≡ take from l ++ part ++ drop (from + k) l = rw place at (sets-eq part l from fits) in
+    rw s (ap (λ r. take from l ++ (part ++ r)) (drop-drop k from l) ∙ sym (append_assoc (take from l) part (drop (from + k) l)) ∙ sym (whole ∙ split ∙ done ∙ mid))
+
+-- the start of a cell is the cell of fewer bytes
+cell_start : (run width n : ℕ) → run ≤ width → take run (cell width n) ≡ cell run n
 unfolding cell
-put_more out at width i rest h =
-    let e : at + (i + 1) ≡ suc (at + i) = omega arith in
-    let d : width - i ≡ suc (width - (i + 1)) = omega arith in
-    rw (e, d)
+cell_start zero width n h = refl
+cell_start (suc run) zero n h = absurd (omega arith)
+cell_start (suc run) (suc width) n h = ap (λ r. n % 256 ∷ r) (cell_start run width (n / 256) (omega arith))
 
-pub copy_more : (bytes out : List ℕ) (at i : ℕ) → i < length bytes
-    → sets (set out (at + i) (get_or bytes i 0)) (at + (i + 1)) (drop (i + 1) bytes) ≡ sets out (at + i) (drop i bytes)
-copy_more bytes out at i h =
-    let e : at + (i + 1) ≡ suc (at + i) = omega arith in
-    rw (e, add-one, drop-cons bytes i 0 h)
+-- a turn of the loop that stores a cell: one byte more is stored, and one less is left
+pub cell_more : (items whole : List ℕ) (i run rest : ℕ) → i < run → run ≤ length items → take i items ++ cell (run - i) rest ≡ whole
+    → take (i + 1) (set items i (rest % 256)) ++ cell (run - (i + 1)) (rest / 256) ≡ whole
+unfolding cell
+cell_more items whole i run rest h l e =
+    let d : run - i ≡ suc (run - (i + 1)) = omega arith in
+    let e2 : take i items ++ (rest % 256 ∷ cell (run - (i + 1)) (rest / 256)) ≡ whole = rw d at e in
+    rw (add-one, take-suc-set items i (rest % 256) (omega arith), append_assoc) (rw add-one at e2)
+
+-- and in the end all of it is stored
+pub cell_stored : (items : List ℕ) (i run width rest n : ℕ) → run ≤ i → length items ≡ run → run ≤ width → take i items ++ cell (run - i) rest ≡ cell run n
+    → items ≡ take run (cell width n)
+unfolding cell
+cell_stored items i run width rest n h l w e =
+    let none : run - i ≡ 0 = omega arith in
+    let full : take i items ++ [] ≡ cell run n = rw none at e in
+    sym (append-nil items) ∙ ap (λ r. r ++ []) (sym (take_all i items (omega arith))) ∙ full ∙ sym (cell_start run width n w)

@@ -1,52 +1,9 @@
-use mathlib.Core.Path.{◌≡◌, refl, ◌∙◌}
+use mathlib.Core.Path.{◌∙◌}
 use native.Mathlib.Omega.{arith}
-use Prim.Native.Nat.{ℕ, ◌+◌, ◌-◌, ◌*◌, ◌^◌, min, ◌<◌}
-use lib.ListN.{length}
-use mathlib.Core.List.{List}
-use Rattle.cells.specs.Cells.{number_at, Bytes}
-use Rattle.cells.proofs.Numbers.{number_lt, number_more, number_cut, eight_fit}
+use Rattle.cells.proofs.Numbers.{word_of_cell}
 use Rattle.cells.proofs.number_at.Goals as goal
-
-pub loop-i-init : goal.loop-i-init
-unfolding number_at
-loop-i-init c = (omega arith, refl)
-
--- there is room for one byte more
-room : (bytes : List ℕ) (from i n b : ℕ) → Bytes bytes → i < 8 → n ≡ number_at i bytes from → b < 256 → n * 256 + b < 2 ^ 64
-room bytes from i n b all small e l = eight_fit i n b small (rw e (number_lt i bytes from all)) l
-
-pub overflow_mul-n : goal.overflow_mul-n
-overflow_mul-n c =
-    let d = c.loop-i in
-    let small : d.i < 8 = omega (arith, c.run_width-run.ensures, c.smaller.ensures) in
-    omega (arith, room _ _ d.i d.n 0 (λ j. (c.type_inv.bytes j).fits) small d.invariant.1 (omega arith))
-
-pub overflow_add-at : goal.overflow_add-at
-overflow_add-at c = omega (arith, c.run_width-run.ensures)
-
-pub bounds-bytes-at : goal.bounds-bytes-at
-bounds-bytes-at c = omega (arith, c.run_width-run.ensures)
-
-pub overflow_add-n : goal.overflow_add-n
-overflow_add-n c =
-    let d = c.loop-i in
-    let small : d.i < 8 = omega (arith, c.run_width-run.ensures, c.smaller.ensures) in
-    record { fits = room _ _ d.i d.n c.wide.result (λ j. (c.type_inv.bytes j).fits) small d.invariant.1 (rw c.wide.ensures (c.type_inv.bytes _).fits) }
-
-pub loop-i-preserved : goal.loop-i-preserved
-loop-i-preserved c =
-    let d = c.loop-i in
-    let a = c.args in
-    let run = c.run_width-run.result in
-    (omega arith, rw (d.invariant.1, c.wide.ensures) (number_more a.bytes.now a.at run d.i (omega arith)))
 
 pub returns : goal.returns
 returns c =
-    let d = c.loop-i in
-    let a = c.args in
-    let all : d.i ≡ c.run_width-run.result = omega arith in
-    let from : a.at + (c.run_width-run.result - d.i) ≡ a.at = omega arith in
-    let run : d.i ≡ min (min a.width 8) (length a.bytes.now - a.at)
-    = omega (arith, c.run_width-run.ensures, c.smaller.ensures) in
-    d.invariant.1
-    ∙ rw (from, run) (number_cut (min a.width 8) (length a.bytes.now - a.at) a.bytes.now a.at (omega arith))
+    c.from_le_bytes.ensures
+    ∙ word_of_cell c.args.width c.min-from.result c.min-run.result _ c.args.at c.args.bytes.now c.copy_from_slice.new.self c.min-from.ensures (omega arith) (omega arith) c.copy_from_slice.ensures.after

@@ -1,35 +1,7 @@
-use mathlib.Core.Path.{refl, sym, ◌∙◌}
 use native.Mathlib.Omega.{arith}
-use native.Mathlib.Nat.{add-zero}
-use Prim.Native.Nat.{◌+◌}
-use lib.ListN.{drop, length-set, length-drop}
-use Rattle.cells.proofs.Runs.{copy_more, sets_done}
+use Rattle.cells.proofs.Runs.{part_stored}
 use Rattle.cells.proofs.put_bytes.Goals as goal
-
-pub loop-i-init : goal.loop-i-init
-loop-i-init c = (omega arith, refl, rw add-zero)
-
-pub bounds-bytes-i : goal.bounds-bytes-i
-bounds-bytes-i c = omega (arith, c.run_width-run.ensures)
-
-pub overflow_add-out : goal.overflow_add-out
-overflow_add-out c = omega (arith, c.run_width-run.ensures)
-
-pub bounds-out-at : goal.bounds-out-at
-bounds-out-at c = omega (arith, c.loop-i.invariant, c.run_width-run.ensures)
-
-pub loop-i-preserved : goal.loop-i-preserved
-loop-i-preserved c =
-    let d = c.loop-i in
-    let a = c.args in (
-      omega arith,
-      length-set d.out (a.at + d.i) _ ∙ d.invariant.1,
-      copy_more a.bytes.now d.out a.at d.i (omega (arith, c.run_width-run.ensures)) ∙ d.invariant.2,
-    )
 
 pub returns : goal.returns
 returns c =
-    let d = c.loop-i in
-    let a = c.args in
-    sym (sets_done (drop d.i a.bytes.now) d.out (a.at + d.i) (rw (length-drop d.i a.bytes.now) (omega (arith, c.run_width-run.ensures, d.invariant.1))))
-    ∙ d.invariant.2
+    part_stored c.args.bytes.now c.args.out.now c.copy_from_slice.new.self c.args.at c.min-from.result c.min-run.result _ c.min-from.ensures c.min-run.ensures (omega arith) c.copy_from_slice.ensures.after

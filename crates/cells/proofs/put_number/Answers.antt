@@ -1,34 +1,28 @@
-use mathlib.Core.Path.{refl, sym, ◌∙◌}
 use native.Mathlib.Omega.{arith}
-use native.Mathlib.Nat.{add-zero, sub-zero}
-use Prim.Native.Nat.{◌+◌, ◌-◌}
-use lib.ListN.{length-set}
+use Prim.Native.Nat.{ℕ}
+use lib.ListN.{length-take, length-drop}
 use Rattle.cells.specs.Cells.{cell}
 use Rattle.cells.proofs.Numbers.{length_cell}
-use Rattle.cells.proofs.Runs.{put_more, sets_done}
+use Rattle.cells.proofs.Runs.{part_stored, cell_more, cell_stored}
 use Rattle.cells.proofs.put_number.Goals as goal
 
-pub loop-i-init : goal.loop-i-init
-loop-i-init c = (omega arith, refl, rw (add-zero, sub-zero))
-
-pub bounds-out-at : goal.bounds-out-at
-bounds-out-at c = omega (arith, c.loop-i.invariant, c.run_width-run.ensures)
-
-pub overflow_add-out : goal.overflow_add-out
-overflow_add-out c = omega (arith, c.run_width-run.ensures)
-
-pub loop-i-preserved : goal.loop-i-preserved
-loop-i-preserved c =
-    let d = c.loop-i in
-    let a = c.args in (
-      omega arith,
-      length-set d.out (a.at + d.i) _ ∙ d.invariant.1,
-      put_more d.out a.at a.width d.i d.rest (omega (arith, c.run_width-run.ensures)) ∙ d.invariant.2,
-    )
+pub loop-byte-preserved : goal.loop-byte-preserved
+loop-byte-preserved c =
+    let d = c.loop-byte in
+    cell_more d.byte-items _ d.byte-index c.min-run.result d.rest
+    (omega (arith, length-take {A = ℕ}, length-drop {A = ℕ}))
+    (omega (arith, length-take {A = ℕ}, length-drop {A = ℕ}))
+    d.invariant
 
 pub returns : goal.returns
 returns c =
-    let d = c.loop-i in
+    let d = c.loop-byte in
     let a = c.args in
-    sym (sets_done (cell (a.width - d.i) d.rest) d.out (a.at + d.i) (rw (length_cell (a.width - d.i) d.rest) (omega (arith, c.run_width-run.ensures, d.invariant.1))))
-    ∙ d.invariant.2
+    part_stored (cell a.width a.n) a.out.now d.byte-items a.at c.min-from.result c.min-run.result _ c.min-from.ensures
+    (omega (arith, length_cell))
+    (omega arith)
+    (cell_stored d.byte-items d.byte-index c.min-run.result a.width d.rest a.n
+    (omega (arith, length-take {A = ℕ}, length-drop {A = ℕ}))
+    (omega (arith, length-take {A = ℕ}, length-drop {A = ℕ}))
+    (omega arith)
+    d.invariant)

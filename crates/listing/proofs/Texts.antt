@@ -1,13 +1,15 @@
 -- Texts: the line at their start, and the room for it.
 use mathlib.Core.Path.{◌≡◌, refl, sym, ap, ◌∙◌}
 use mathlib.Core.List.{List, [], ◌∷◌, ◌++◌}
-use Prim.Native.Nat.{ℕ, zero, suc, ◌+◌, ◌-◌, ◌*◌, ◌≤◌}
+use Prim.Native.Nat.{ℕ, ◌+◌, ◌-◌, ◌*◌, ◌≤◌}
 use native.Mathlib.Omega.{arith}
-use native.Mathlib.Nat.{sub-zero, zero-sub, suc-sub-suc}
-use lib.ListN.{length, take, drop, replicate, length-append, length-replicate}
-use lib.Seq.{take_at}
-use Rattle.cells.proofs.Runs.{sets_start, Wrote}
-use Rattle.listing.specs.Line.{onward, rendered, text_size, text_holding, text_of, Within}
+use lib.ListN.{length, drop, replicate, length-append}
+use borrow.Rule.Slice.PartMut.{put_mid}
+use Rattle.std.proofs.lemmas.List.{length-take-le, drop-drop, drop-replicate}
+use Rattle.std.proofs.lemmas.Slice.{take-put_mid, drop-put_mid}
+use Rattle.listing.specs.declared.Text.TheInside.{Inside}
+use Rattle.listing.specs.Line.{onward, rendered, text_size, text_of}
+use Rattle.listing.specs.Text.{used, IsText}
 use Rattle.listing.specs.Laws.{Each, Short, TextHoldsLine}
 
 -- ---- room
@@ -29,40 +31,40 @@ fields_have_room [] p few = omega arith
 fields_have_room (field ∷ rest) p few =
     rw (length-append field (onward rest)) (omega (arith, p.0, onward_room rest p.1, few))
 
--- ---- the line at the start
-
-drop_replicate : (n m byte : ℕ) → drop n (replicate m byte) ≡ replicate (m - n) byte
-drop_replicate zero m byte = rw sub-zero
-drop_replicate (suc n) zero byte = rw zero-sub
-drop_replicate (suc n) (suc m) byte = rw suc-sub-suc (drop_replicate n m byte)
-
-module _ (line : List ℕ) (room : length line ≤ text_size) where
-  text_length : length (text_holding line).bytes ≡ text_size
-  text_length =
-      rw (length-append line (replicate (text_size - length line) 0), length-replicate (text_size - length line) zero) (omega (arith, room))
-
-  text_line : take (text_holding line).len (text_holding line).bytes ≡ line
-  text_line = take_at line (replicate (text_size - length line) 0) (length line) refl
-
-  -- the text of a buffer of zeros after the line was written to it
-  pub held : {len : ℕ} {bytes : List ℕ} → Wrote (replicate text_size 0) line len bytes
-      → (record { bytes = bytes; len = len } ≡ text_holding line) × Within (record { bytes = bytes; len = len })
-  held {len} {bytes} w =
-      let stored : bytes ≡ line ++ replicate (text_size - length line) 0 =
-      w.holds
-      ∙ sets_start line (replicate text_size 0) (omega (arith, room, length-replicate text_size zero))
-      ∙ ap (λ rest. line ++ rest) (drop_replicate (length line) text_size 0) in
-      rw (stored, w.next) (refl, (omega (arith, room, text_length), sym (ap length text_line)))
-
--- and that of some fields after their line was
-pub written : (fields : List (List ℕ)) → length (rendered fields) ≤ text_size
-    → {len : ℕ} {bytes : List ℕ} → Wrote (replicate text_size 0) (rendered fields) len bytes
-    → (record { bytes = bytes; len = len } ≡ text_of fields) × Within (record { bytes = bytes; len = len })
-unfolding text_of
-written fields room w = held (rendered fields) room w
+-- ---- the line whole
 
 pub text_holds_line : TextHoldsLine
 unfolding text_of
-text_holds_line fields short few =
-    let room = fields_have_room fields short few in
-    (text_length (rendered fields) room, text_line (rendered fields) room)
+text_holds_line fields short few = (fields_have_room fields short few, refl)
+
+-- ---- a run behind the line so far
+
+-- the line is as long as the text says
+pub line_length : (text : Inside) → length text.bytes ≡ text_size → IsText text → length (used text) ≡ text.len
+line_length text size is = length-take-le text.len text.bytes (omega (arith, is.within))
+
+module _ (text : Inside) (run : List ℕ) (size : length text.bytes ≡ text_size) (room : text.len + length run ≤ text_size) where
+  abbrev pub with_run : Inside
+  with_run =
+      record { bytes = put_mid text.len (text.len + length run - text.len) text.bytes run; len = text.len + length run }
+
+  -- the zeros that are left behind the run
+  zeros_left : drop (text.len + length run) with_run.bytes ≡ drop (length run) (drop text.len text.bytes)
+  zeros_left =
+      drop-put_mid text.len (text.len + length run - text.len) text.bytes run (text.len + length run) (omega arith) (omega arith) (omega arith)
+      ∙ sym (drop-drop (length run) text.len text.bytes)
+
+  pub run_kept : IsText text → IsText with_run
+  run_kept is =
+      let left : text_size - text.len - length run ≡ text_size - (text.len + length run) = omega arith in record {
+        within = room;
+        unused =
+            zeros_left
+            ∙ ap (drop (length run)) is.unused
+            ∙ drop-replicate (length run) (text_size - text.len) 0
+            ∙ ap (λ n. replicate n 0) left;
+      }
+
+  pub run_added : used with_run ≡ used text ++ run
+  run_added =
+      take-put_mid text.len (text.len + length run - text.len) text.bytes run (text.len + length run) refl (omega arith)

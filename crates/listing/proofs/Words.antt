@@ -18,17 +18,14 @@ refused_with number zero some = absurd (some refl)
 refused_with number (suc n) some = refl
 
 -- the first n of a list, or all of a shorter one
-pub taken : (n : ℕ) (l : List ℕ) {end : ℕ} → end ≡ min n (length l) → take end l ≡ take n l
+pub taken : (n : ℕ) (l : List ℕ) {end : ℕ} → end ≡ min (length l) n → take end l ≡ take n l
 taken zero l {end} e =
     let none : end ≡ 0 = omega (arith, e) in
     rw none refl
 taken (suc n) [] {end} e = take-nil end
 taken (suc n) (x ∷ l) {end} e =
-    let more : end ≡ suc (min n (length l)) = omega (arith, e) in
+    let more : end ≡ suc (min (length l) n) = omega (arith, e) in
     rw more (ap (λ rest. x ∷ rest) (taken n l refl))
-
-pub taken_length : (n : ℕ) (l : List ℕ) {end : ℕ} → end ≡ min n (length l) → end ≡ length (take end l)
-taken_length n l {end} e = omega (arith, e, length-take end l)
 
 -- the first n numbers of 64 bits
 first_fit : (n : ℕ) (l : List ℕ) → ((i : ℕ) → get_or l i 0 < 2 ^ 64) → Each (λ k. k < 2 ^ 64) (take n l)

@@ -1,5 +1,5 @@
 -- What is proved of lines.
-use Rattle.std.specs.Prelude.{◌≡◌, List, [], ◌∷◌, ◌++◌, map, ℕ, ◌+◌, ◌-◌, ◌*◌, ◌^◌, ◌≤◌, ◌<◌, length, take}
+use Rattle.std.specs.Prelude.{◌≡◌, List, [], ◌∷◌, ◌++◌, map, ℕ, ◌+◌, ◌-◌, ◌*◌, ◌^◌, ◌≤◌, ◌<◌, length}
 use Rattle.listing.specs.Line.{ascii, space, newline, zero_digit, decimal, rendered, header_fields, refused_word, tally_header_fields, total_fields, accepted_fields, text_size, text_of}
 use Rattle.listing.specs.Cases.{Case, cases}
 
@@ -89,8 +89,8 @@ Short field = length field ≤ 20
 abbrev pub DecimalIsShort : Type 0
 DecimalIsShort = (n : ℕ) → n < 2 ^ 64 → Short (decimal n)
 
--- The text of up to six short fields holds their line whole: it has as many bytes as the code says, and the first `len` of them are the line.
+-- The text of up to six short fields holds their line whole: there is room for it among the bytes of a text, and what is handed over is the line.
 abbrev pub TextHoldsLine : Type 0
 TextHoldsLine =
     (fields : List (List ℕ)) → Each Short fields → length fields ≤ 6
-    → (length (text_of fields).bytes ≡ text_size) × (take (text_of fields).len (text_of fields).bytes ≡ rendered fields)
+    → (length (text_of fields) ≤ text_size) × (text_of fields ≡ rendered fields)

@@ -1,3 +1,4 @@
 pub mod Line
+pub mod Text
 pub mod Cases
 pub mod Laws

@@ -1,8 +1,7 @@
 -- What the programs print, as bytes: "a header, then a line per event, fields parted by one space, numbers in decimal, each line ended by a newline", or one line that says `refused N`, or `refused 7 N`; the lines of a tally; what is said of a listing; and the replies to bookings.
-use Rattle.std.specs.Prelude.{List, [], ◌∷◌, ◌++◌, map, ◌≡◌, ℕ, zero, suc, ◌+◌, ◌-◌, ◌/◌, ◌%◌, ◌≤◌, length, take, replicate}
+use Rattle.std.specs.Prelude.{List, [], ◌∷◌, ◌++◌, map, ℕ, zero, suc, ◌+◌, ◌/◌, ◌%◌, take}
 use Prim.Native.Char.{code}
 use Prim.Native.String.{String}
-use Rattle.listing.specs.declared.Text.{Text}
 
 -- the bytes of a word, one for each of its letters
 unfoldable pub ascii : String → List ℕ
@@ -86,17 +85,13 @@ place_fields number = map decimal (number ∷ [])
 abbrev pub receipt_fields : ℕ → ℕ → List (List ℕ)
 receipt_fields number value = map decimal (number ∷ value ∷ [])
 
--- a line as the code hands it over: at the start of a fixed number of bytes, zeros after it
+-- a line as the code hands it over: its bytes, of which there is room for so many
 abbrev pub text_size : ℕ
 text_size = 128
 
-abbrev pub text_holding : List ℕ → Text
-text_holding line = record { bytes = line ++ replicate (text_size - length line) 0; len = length line }
+abbrev pub text_holding : List ℕ → List ℕ
+text_holding line = line
 
 -- the line of some fields, handed over so
-unfoldable pub text_of : List (List ℕ) → Text
+unfoldable pub text_of : List (List ℕ) → List ℕ
 text_of fields = text_holding (rendered fields)
-
--- the part that is used lies within a text; both parts follow from the contract's equation, and are said so that a caller may hand on `&bytes[..len]` without a proof
-abbrev pub Within : Text → Type 0
-Within text = (text.len ≤ length text.bytes) × (text.len ≡ length (take text.len text.bytes))

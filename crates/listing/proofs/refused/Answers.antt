@@ -9,10 +9,10 @@ unfolding ascii refused_fields
 returns-then-over-eq0 c =
     let a = c.args in
     let alone : a.over ≡ 0 = c.if-over-eq0.true in
-    record { value = c.worded.ensures.value ∙ ap (λ n. text_of (refused_fields a.number n)) (sym alone); within = c.worded.ensures.within }
+    c.worded.ensures ∙ ap (λ n. text_of (refused_fields a.number n)) (sym alone)
 
 pub returns : goal.returns
 unfolding ascii
 returns c =
     let a = c.args in
-    record { value = c.worded-2.ensures.value ∙ ap text_of (sym (refused_with a.number a.over c.if-over-eq0.false)); within = c.worded-2.ensures.within }
+    c.worded-2.ensures ∙ ap text_of (sym (refused_with a.number a.over c.if-over-eq0.false))

@@ -5,7 +5,7 @@ use mathlib.Core.Logic.{⊎_elim}
 use Prim.Native.Nat.{ℕ, zero, suc, ◌+◌, ◌-◌, ◌≤◌, ◌<◌, ◌^◌}
 use native.Mathlib.Omega.{arith}
 use lib.Dec.{eqb}
-use lib.IntN.{ℤ, pos, negsuc, neg_ℤ, sub_ℕ, ◌+ℤ◌, ◌-ℤ◌, +ℤ_assoc, +ℤ_comm, neg_ℤ-+ℤ, neg_ℤ-neg_ℤ}
+use lib.IntN.{ℤ, pos, negsuc, nat_abs, neg_ℤ, sub_ℕ, ◌+ℤ◌, ◌-ℤ◌, +ℤ_assoc, +ℤ_comm, neg_ℤ-+ℤ, neg_ℤ-neg_ℤ}
 use lib.Signed.{lt_z}
 use mir.Syntax.{w64}
 use mir.Val.{SFits, to_z, of_z}
@@ -88,6 +88,7 @@ pub record Below (z : ℤ) : Type 0 where
   pub up_fits : SFits w64 (up z)
   pub turned_fits : SFits w64 (turned z)
   pub is_turned : to_z w64 (of_z w64 (turned z)) ≡ pos (below_zero z - 1)
+  pub parts : nat_abs (to_z w64 (of_z w64 z)) ≡ below_zero z
   pub some : 1 ≤ below_zero z
   pub few : below_zero z ≤ 2 ^ 63
   pub none : 0 ≡ above_zero z
@@ -105,6 +106,7 @@ below (negsuc n) f l =
       up_fits = up_fits;
       turned_fits = turned_fits;
       is_turned = to_z-of_z w64 (turned (negsuc n)) turned_fits ∙ is_turned ∙ ap pos (let e : n ≡ suc n - 1 = omega arith in e);
+      parts = ap nat_abs (to_z-of_z w64 (negsuc n) f);
       some = omega arith;
       few = f.sfits;
       none = refl;
@@ -113,12 +115,13 @@ below (negsuc n) f l =
 -- and of one that is not
 pub record NotBelow (z : ℤ) : Type 0 where
   pub is : to_z w64 (of_z w64 z) ≡ pos (above_zero z)
+  pub parts : nat_abs (to_z w64 (of_z w64 z)) ≡ above_zero z
   pub few : above_zero z < 2 ^ 63
   pub none : 0 ≡ below_zero z
 
 pub not_below : (z : ℤ) → SFits w64 z → lt_z (to_z w64 (of_z w64 z)) (pos 0) ≡ false → NotBelow z
 unfolding above_zero below_zero
-not_below (pos n) f l = record { is = to_z-of_z w64 (pos n) f; few = f.sfits; none = refl }
+not_below (pos n) f l = record { is = to_z-of_z w64 (pos n) f; parts = ap nat_abs (to_z-of_z w64 (pos n) f); few = f.sfits; none = refl }
 not_below (negsuc n) f l = absurd (false≢true (sym l ∙ ap (λ (x : ℤ). lt_z x (pos 0)) (to_z-of_z w64 (negsuc n) f)))
 
 -- the test of two numbers says whether they are one

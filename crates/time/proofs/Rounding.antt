@@ -4,7 +4,9 @@ use mathlib.Core.Path.{◌≡◌, refl, sym, ap}
 use lib.Dec.{leb}
 use borrow.Author.Tests.{leb-true, leb-false}
 use Prim.Native.Nat.{ℕ, ◌+◌, ◌-◌, ◌*◌, ◌/◌, ◌≤◌, ◌<◌}
-use native.Mathlib.Nat.{mul-le-mul_left, mul-le-mul_right, div-mul-le_self, lt-div-mul-add, div-eq_of_lt-le, div-lt_iff_lt-mul}
+use native.Mathlib.Nat.{mul-le-mul_right, div-mul-le_self, lt-div-mul-add, div-eq_of_lt-le, div-lt_iff_lt-mul}
+use Rattle.std.specs.Int.{div_ceil}
+use Rattle.std.proofs.lemmas.Grind.{div_ceil_times}
 use native.Mathlib.Omega.{arith}
 
 module _ (m x n : ℕ) (hm : 0 < m) where
@@ -47,12 +49,8 @@ up_low m x n hm le = let l : (n + (m - 1)) / m < x + 1 = (div-lt_iff_lt-mul hm).
 pub low_up : (m x n : ℕ) → 0 < m → (n + (m - 1)) / m ≤ x → n ≤ x * m
 low_up m x n hm le = let scaled = mul-le-mul_right m le in let high : n + (m - 1) < (n + (m - 1)) / m * m + m = lt-div-mul-add hm in omega (arith, scaled, high)
 
--- rounded up, a fraction is one more than rounded down, or the same where nothing is left
-pub up_one : (m n : ℕ) → 0 < m → n / m * m < n → n / m + 1 ≡ (n + (m - 1)) / m
-up_one m n hm some = let high : n < n / m * m + m = lt-div-mul-add hm in sym (div-eq_of_lt-le m (omega (arith, some)) (omega (arith, high)))
-
-pub up_none : (m n : ℕ) → 0 < m → n ≤ n / m * m → n / m ≡ (n + (m - 1)) / m
-up_none m n hm none = let low = div-mul-le_self n m in sym (div-eq_of_lt-le m (omega (arith, low)) (omega (arith, none)))
-
-pub one_fits : (m n : ℕ) → 0 < m → n / m * m < n → n / m + 1 ≤ n
-one_fits m n hm some = omega (arith, some, mul-le-mul_left (n / m) hm)
+-- `div_ceil` rounds up
+pub up_is : (m n : ℕ) → 0 < m → div_ceil n m ≡ (n + (m - 1)) / m
+up_is m n hm =
+    let near = div_ceil_times n m hm in
+    sym (div-eq_of_lt-le m (omega (arith, near.0, near.1)) (omega (arith, near.0, near.1)))

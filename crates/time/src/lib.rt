@@ -3,26 +3,25 @@
 
 mod remainders;
 
-ghost use Rattle.std.specs.Prelude.{◌≡◌, ◌+◌, ◌-◌, ◌*◌, ◌/◌, ◌≤◌, ◌<◌, min, leb, ltb, eqb};
+ghost use Rattle.std.specs.Prelude.{◌≡◌, ◌+◌, ◌-◌, ◌*◌, ◌/◌, ◌≤◌, ◌<◌, leb, ltb, eqb};
 ghost use Rattle.time.specs.Exact.{less, same, paced, fraction_of, Proper};
 ghost use Rattle.time.specs.Time.{moment, disk_time, session_end, duration_max, parts_max};
 ghost use Rattle.time.specs.Latest.{latest_of};
 
-pub use remainders::{Latest, Remainders};
-use table::{above_zero, below_zero};
+pub use remainders::Remainders;
 
 // A moment of clock time.
 #[repr(C)]
-#[derive(Clone, Copy)]
+#[derive(Clone, Copy, Debug, PartialEq, Eq, PartialOrd, Ord)]
 pub struct Clock(u64);
 
 // An amount of disk time.
 #[repr(C)]
-#[derive(Clone, Copy)]
+#[derive(Clone, Copy, Debug, PartialEq, Eq, PartialOrd, Ord)]
 pub struct Charge(u64);
 
 // An exact moment of clock time, which is not rounded: whole microseconds, and a rest over `below`.
-#[derive(Clone, Copy)]
+#[derive(Clone, Copy, Debug)]
 pub struct Exact {
     whole: u64,
     rest: u64,
@@ -45,46 +44,17 @@ impl Clock {
         self.0
     }
 
-    pub fn is(self, other: Clock) -> bool
-        ensures { result ≡ eqb self.0 other.0 }
-    {
-        self.0 == other.0
-    }
-
-    pub fn is_after(self, other: Clock) -> bool
-        ensures { result ≡ ltb other.0 self.0 }
-    {
-        other.0 < self.0
-    }
-
-    // No later than another moment.
-    pub fn is_by(self, other: Clock) -> bool
-        ensures { result ≡ leb self.0 other.0 }
-    {
-        self.0 <= other.0
-    }
-
     // A length of clock time later than another moment.
     pub fn is_later_by(self, earlier: Clock, length: u32) -> bool
         ensures { result ≡ eqb self.0 (earlier.0 + length) }
     {
-        if earlier.0 <= self.0 {
-            self.0 - earlier.0 == length as u64
-        } else {
-            false
-        }
+        self.0.checked_sub(earlier.0) == Some(length as u64)
     }
 
     pub fn is_past_end(self) -> bool
         ensures { result ≡ ltb session_end self.0 }
     {
         Self::END < self.0
-    }
-
-    pub fn earlier(self, other: Clock) -> Clock
-        ensures { result ≡ moment (min self.0 other.0) }
-    {
-        if other.0 < self.0 { other } else { self }
     }
 
     // How long ago an earlier moment was.
@@ -112,24 +82,19 @@ impl Clock {
     }
 
     // The second: this horizon less the sum of all remainders, which is scaled by the span, rounded down once. Any three numbers are answered.
-    pub fn less_remainders(self, sum: Remainders, span: u64) -> Latest
+    pub fn less_remainders(self, sum: Remainders, span: u64) -> Option<Clock>
         ensures { result ≡ latest_of self.0 sum.0 span }
     {
         if span == 0 {
-            return Latest::Refused(31);
+            return None;
         }
-        if sum.0 < 0 {
-            let later = below_zero(sum.0) / span;
-            if u64::MAX - self.0 < later {
-                return Latest::Refused(31);
-            }
-            return Latest::At(Clock(self.0 + later));
-        }
-        let sooner = rounded_up(above_zero(sum.0), span);
-        if self.0 < sooner {
-            return Latest::Refused(31);
-        }
-        Latest::At(Clock(self.0 - sooner))
+        let parts = sum.0.unsigned_abs();
+        let micros = if sum.0 < 0 {
+            self.0.checked_add(parts / span)?
+        } else {
+            self.0.checked_sub(parts.div_ceil(span))?
+        };
+        Some(Clock(micros))
     }
 
     // The third: this release and a charge that was had at the pace of a budget in a period, r + c × p / g, never rounded.
@@ -146,6 +111,7 @@ impl Clock {
     }
 }
 
+// Two are compared as fractions, by `Proper` numbers: a derive would compare rests over different numbers, and a trait's `eq` and `lt` can ask nothing of the two.
 impl Exact {
     // Earlier than another: by whole parts, then by rests crosswise, so that 64 bits are enough.
     pub fn is_before(self, other: Exact) -> bool
@@ -181,12 +147,6 @@ impl Charge {
         self.0
     }
 
-    pub fn is(self, other: Charge) -> bool
-        ensures { result ≡ eqb self.0 other.0 }
-    {
-        self.0 == other.0
-    }
-
     // Longer than the worst-case time.
     pub fn is_over(self, worst: u32) -> bool
         ensures { result ≡ ltb worst self.0 }
@@ -198,32 +158,23 @@ impl Charge {
     pub fn is_near(self, budget: Charge) -> bool
         ensures { result ≡ leb self.0 (budget.0 + duration_max) }
     {
-        if self.0 <= Self::DURATION_MAX {
-            true
-        } else {
-            self.0 - Self::DURATION_MAX <= budget.0
-        }
+        self.0.saturating_sub(Self::DURATION_MAX) <= budget.0
     }
 
     // At least what it started with and the worst-case time for each expired slot.
     pub fn covers(self, start: Charge, worst: u32, expired: u64) -> bool
-        requires { (0 < worst) × (worst ≤ duration_max) × (self.0 ≤ session_end) }
+        requires { self.0 ≤ session_end }
         ensures { result ≡ leb (start.0 + worst * expired) self.0 }
     {
-        if (self.0 < start.0) | (self.0 < expired) {
-            return false;
-        }
-        start.0 + worst as u64 * expired <= self.0
+        let spent = (worst as u64).saturating_mul(expired);
+        start.0.saturating_add(spent) <= self.0
     }
 
     // What was had above a budget: nothing, where less was had.
     pub fn above(self, budget: Charge) -> Charge
         ensures { result ≡ disk_time (self.0 - budget.0) }
     {
-        if self.0 < budget.0 {
-            return Charge(0);
-        }
-        Charge(self.0 - budget.0)
+        Charge(self.0.saturating_sub(budget.0))
     }
 
     pub fn plus(self, more: Charge) -> Charge
@@ -240,13 +191,4 @@ impl Charge {
     {
         self.0 * n
     }
-}
-
-// A number divided by a span, rounded up.
-fn rounded_up(n: u64, span: u64) -> u64
-    requires { 0 < span }
-    ensures { result ≡ (n + (span - 1)) / span }
-{
-    let down = n / span;
-    if down * span < n { down + 1 } else { down }
 }

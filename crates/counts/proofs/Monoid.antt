@@ -1,17 +1,17 @@
 -- Counts are put together in any order.
-use mathlib.Core.Bool.{Bool, true, false, not, ◌&&◌, ◌||◌, false≢true}
+use mathlib.Core.Bool.{Bool, true, false, ◌&&◌, false≢true}
 use mathlib.Core.Path.{◌≡◌, refl, sym, ◌∙◌, ap}
-use Prim.Native.Nat.{ℕ, zero, suc, ◌+◌, ◌-◌, ◌^◌, max, ◌<◌}
+use Prim.Native.Nat.{ℕ, zero, suc, ◌+◌, ◌^◌, max, ◌<◌}
 use native.Mathlib.Omega.{arith}
-use lib.Dec.{ltb}
-use borrow.Author.Tests.{ltb-true, ltb-false, lt-ltb, le-ltb}
+use borrow.Author.Tests.{ltb-true, lt-ltb}
+use Rattle.std.specs.Prelude.{List, Some, None}
 use Rattle.table.proofs.Tests.{both as both_true}
 use Rattle.table.specs.Fold.{if, all_to, list_to}
 use Rattle.table.specs.Ranges.{streams_max}
 use Rattle.table.proofs.Folds.{all_at, all_of}
 use Rattle.table.proofs.Lists.{get_d_list_to}
 use Rattle.counts.specs.Tally.{nothing, together}
-use Rattle.counts.specs.Counts.{row_at, small, fits, known, passed, counts, both_rows, both}
+use Rattle.counts.specs.Counts.{row_at, small, fits, sum_of, known, passed, has_passed, rows_in, counts, both_rows, both}
 use Rattle.counts.specs.Laws.{BothCommutes, BothAssociates}
 use Rattle.counts.specs.declared.Tally.{Tally}
 use Rattle.counts.specs.declared.Counts.{Counts}
@@ -114,91 +114,119 @@ counts_passed f i l large = go (all_to (λ j. fits (f j)) streams_max) refl
     go false e = rw e
 
 -- whatever is put to counts: it is put to what they list
-pub both_counts : (f : ℕ → Tally) (c : Counts) → c.over ≡ false
-    → both (counts f) c ≡ counts (λ i. together (f i) (row_at c.rows i))
+pub both_counts : (f : ℕ → Tally) (c : Counts) → has_passed c.rows ≡ false
+    → both (counts f) c ≡ counts (λ i. together (f i) (row_at (rows_in c.rows) i))
 unfolding both counts if
 both_counts f c whole = go (all_to (λ i. fits (f i)) streams_max) refl
   where
     sum : ℕ → Tally
-    sum i = together (f i) (row_at c.rows i)
+    sum i = together (f i) (row_at (rows_in c.rows) i)
 
     go : (b : Bool) → all_to (λ i. fits (f i)) streams_max ≡ b → both (counts f) c ≡ counts sum
     go true e =
         rw (e, whole)
-        (counts_agree (λ i. together (row_at (list_to f streams_max) i) (row_at c.rows i)) sum
-        (λ i l. ap (λ (a : Tally). together a (row_at c.rows i)) (get_d_list_to f nothing streams_max i l)))
+        (counts_agree (λ i. together (row_at (list_to f streams_max) i) (row_at (rows_in c.rows) i)) sum
+        (λ i l. ap (λ (a : Tally). together a (row_at (rows_in c.rows) i)) (get_d_list_to f nothing streams_max i l)))
     go false e = rw e (sym (none_fits (all_to (λ i. fits (sum i)) streams_max) refl))
       where
         none_fits : (b : Bool) → all_to (λ i. fits (sum i)) streams_max ≡ b → counts sum ≡ passed
         none_fits true all =
             absurd (false≢true (sym e ∙ all_of (λ i. fits (f i)) streams_max
-            (λ i l. fits_apart (f i) (row_at c.rows i) (all_at (λ j. fits (sum j)) streams_max all i l))))
+            (λ i l. fits_apart (f i) (row_at (rows_in c.rows) i) (all_at (λ j. fits (sum j)) streams_max all i l))))
         none_fits false all = rw all
 
 pub both_commutes : BothCommutes
 unfolding both if
-both_commutes a b = go a.over b.over refl refl
+both_commutes a b = go (has_passed a.rows) (has_passed b.rows) refl refl
   where
-    go : (p q : Bool) → a.over ≡ p → b.over ≡ q → both a b ≡ both b a
+    go : (p q : Bool) → has_passed a.rows ≡ p → has_passed b.rows ≡ q → both a b ≡ both b a
     go true true e f = rw (e, f)
     go true false e f = rw (e, f)
     go false true e f = rw (e, f)
     go false false e f =
-        rw (e, f) (counts_agree (both_rows a b) (both_rows b a) (λ i l. together_commutes (row_at a.rows i) (row_at b.rows i)))
+        rw (e, f) (counts_agree (both_rows a b) (both_rows b a) (λ i l. together_commutes (row_at (rows_in a.rows) i) (row_at (rows_in b.rows) i)))
 
 -- where one of two has passed, both have
-passed_left : (a b : Counts) → a.over ≡ true → both a b ≡ passed
+passed_left : (a b : Counts) → has_passed a.rows ≡ true → both a b ≡ passed
 unfolding both if
 passed_left a b e = rw e
 
-passed_right : (a b : Counts) → b.over ≡ true → both a b ≡ passed
+passed_right : (a b : Counts) → has_passed b.rows ≡ true → both a b ≡ passed
 passed_right a b e = both_commutes a b ∙ passed_left b a e
 
-neither_passed : (a b : Counts) → a.over ≡ false → b.over ≡ false → both a b ≡ counts (both_rows a b)
+neither_passed : (a b : Counts) → has_passed a.rows ≡ false → has_passed b.rows ≡ false → both a b ≡ counts (both_rows a b)
 unfolding both if
 neither_passed a b e f = rw (e, f)
 
 pub both_associates : BothAssociates
-both_associates a b c = go a.over b.over c.over refl refl refl
+both_associates a b c = go (has_passed a.rows) (has_passed b.rows) (has_passed c.rows) refl refl refl
   where
-    go : (p q r : Bool) → a.over ≡ p → b.over ≡ q → c.over ≡ r → both (both a b) c ≡ both a (both b c)
+    go : (p q r : Bool) → has_passed a.rows ≡ p → has_passed b.rows ≡ q → has_passed c.rows ≡ r → both (both a b) c ≡ both a (both b c)
     go true q r e f g = rw (passed_left a b e, passed_left a (both b c) e) (passed_left passed c refl)
     go false true r e f g = rw (passed_right a b f, passed_left b c f, passed_right a passed refl) (passed_left passed c refl)
     go false false true e f g = rw (passed_right b c g, passed_right a passed refl) (passed_right (both a b) c g)
     go false false false e f g =
         rw (neither_passed a b e f, neither_passed b c f g, both_counts (both_rows a b) c g)
-        (counts_agree _ _ (λ i l. together_associates (row_at a.rows i) (row_at b.rows i) (row_at c.rows i) ∙ together_commutes _ _)
+        (counts_agree _ _ (λ i l. together_associates (row_at (rows_in a.rows) i) (row_at (rows_in b.rows) i) (row_at (rows_in c.rows) i) ∙ together_commutes _ _)
         ∙ sym (both_counts (both_rows b c) a e)
         ∙ both_commutes (counts (both_rows b c)) a)
 
--- by the test of either
-pub both_over : (a b : Counts) → (a.over || b.over) ≡ true → both a b ≡ passed
+-- a sum of two tallies that passes in one of its numbers is none
+module _ (a b : Tally) where
+  known_none : (fits (together a b) ≡ true → ⊥) → sum_of a b ≡ None
+  unfolding sum_of if
+  known_none other = go (fits (together a b)) refl
+    where
+      go : (t : Bool) → fits (together a b) ≡ t → sum_of a b ≡ None
+      go true e = absurd (other e)
+      go false e = rw e
+
+  pub jobs_pass : (a.jobs + b.jobs < 2 ^ 64 → ⊥) → sum_of a b ≡ None
+  unfolding together
+  jobs_pass past = known_none (λ e. past (fits_of _ e).jobs_small)
+
+  pub late_pass : (a.late + b.late < 2 ^ 64 → ⊥) → sum_of a b ≡ None
+  unfolding together
+  late_pass past = known_none (λ e. past (fits_of _ e).late_small)
+
+  pub expired_pass : (a.expired + b.expired < 2 ^ 64 → ⊥) → sum_of a b ≡ None
+  unfolding together
+  expired_pass past = known_none (λ e. past (fits_of _ e).expired_small)
+
+  pub time_pass : (a.time + b.time < 2 ^ 64 → ⊥) → sum_of a b ≡ None
+  unfolding together
+  time_pass past = known_none (λ e. past (fits_of _ e).time_small)
+
+  -- and one that fits is known
+  pub sum_known : Fits (together a b) → sum_of a b ≡ Some (together a b)
+  unfolding sum_of if
+  sum_known f = rw (of_fits (together a b) f)
+
+  pub sum_none : None ≡ sum_of a b → fits (together a b) ≡ false
+  unfolding sum_of if
+  sum_none e = go (fits (together a b)) refl
+    where
+      go : (t : Bool) → fits (together a b) ≡ t → t ≡ false
+      go true fit = let never : None ≡ Some (together a b) = rw fit at e in cc
+      go false other = refl
+
+  pub sum_some : (x : Tally) → Some x ≡ sum_of a b → (fits (together a b) ≡ true) × (x ≡ together a b)
+  unfolding sum_of if
+  sum_some x e = go (fits (together a b)) refl
+    where
+      go : (t : Bool) → fits (together a b) ≡ t → (fits (together a b) ≡ true) × (x ≡ together a b)
+      go true fit = let same : Some x ≡ Some (together a b) = rw fit at e in (fit, cc)
+      go false other = let never : Some x ≡ None = rw other at e in cc
+
+-- counts of which one has passed, and of which neither has
+pub both_left : (a b : Counts) → a.rows ≡ None → both a b ≡ passed
 unfolding both if
-both_over a b e = rw e
+both_left a b e = rw e
 
-pub both_whole : (a b : Counts) → (a.over || b.over) ≡ false → both a b ≡ counts (both_rows a b)
+pub both_right : (a b : Counts) → b.rows ≡ None → both a b ≡ passed
+both_right a b e = both_commutes a b ∙ both_left b a e
+
+pub both_listed : (a b : Counts) (xs ys : List Tally) → a.rows ≡ Some xs → b.rows ≡ Some ys
+    → both a b ≡ counts (λ i. together (row_at xs i) (row_at ys i))
 unfolding both if
-both_whole a b e = rw e
-
--- whether a sum passes, asked without making it
-pub sum_passes : (a b : ℕ) → b < 2 ^ 64 → ltb (2 ^ 64 - 1 - b) a ≡ not (small (a + b))
-sum_passes a b l = go (ltb (2 ^ 64 - 1 - b) a) refl
-  where
-    go : (t : Bool) → ltb (2 ^ 64 - 1 - b) a ≡ t → t ≡ not (small (a + b))
-    go true e = rw (le-ltb (a + b) (2 ^ 64) (omega (arith, ltb-true (2 ^ 64 - 1 - b) a e, l)))
-    go false e = rw (lt-ltb (a + b) (2 ^ 64) (omega (arith, ltb-false (2 ^ 64 - 1 - b) a e, l)))
-
--- one of four fails where not all hold
-pub one_fails : (a b c d : Bool) → (not a || not b || not c || not d) ≡ not (a && b && c && d)
-one_fails true true true d = refl
-one_fails true true false d = refl
-one_fails true false c d = refl
-one_fails false b c d = refl
-
-pub not_fails : (b : Bool) → not b ≡ false → b ≡ true
-not_fails true e = refl
-not_fails false e = absurd (false≢true (sym e))
-
-pub not_holds : (b : Bool) → not b ≡ true → b ≡ false
-not_holds true e = absurd (false≢true e)
-not_holds false e = refl
+both_listed a b xs ys e f = rw (e, f)

@@ -16,6 +16,8 @@ use Rattle.session.specs.History.{duration_of, Moment, history_from}
 use Rattle.session.specs.declared.Session.{Session}
 use Rattle.session.proofs.Sound.{sound_of}
 use Rattle.file.specs.declared.event.Event.{Event}
+use Rattle.trace.specs.Trace.{call_of}
+use Rattle.std.specs.Prelude.{Option, None, Some}
 use Rattle.counts.specs.Tally.{nothing, together, added, tally_of}
 use Rattle.counts.specs.Counts.{none, both, calls_of, counts_of}
 use Rattle.counts.specs.Inner.{told_by, added_by, counts_by, stepped_by, steps_by}
@@ -77,5 +79,19 @@ unfolding steps_by
 steps_join x [] two = refl
 steps_join x (k ∷ one) two = steps_join (stepped_by x k) one two
 
-pub asked : (x : Step) {e f : Event} → e ≡ f → steps_by x (calls_of f) ≡ steps_by x (calls_of e)
-asked x p = ap (λ (event : Event). steps_by x (calls_of event)) (sym p)
+-- the steps of an event: one for the call that it asks for, or none
+abbrev pub step_by : Step → Option Call → Step
+step_by x (Some k) = stepped_by x k
+step_by x None = x
+
+pub steps_are : (x : Step) (event : Event) → steps_by x (calls_of event) ≡ step_by x (call_of event)
+unfolding steps_by
+steps_are x (Event.Arrival stream place tag) = refl
+steps_are x Event.Turn = refl
+steps_are x (Event.OwnTurn stream index) = refl
+steps_are x (Event.Done duration) = refl
+steps_are x (Event.Clock time) = refl
+steps_are x Event.Malformed = refl
+
+pub asked : (x : Step) (event : Event) {k : Option Call} → call_of event ≡ k → step_by x k ≡ steps_by x (calls_of event)
+asked x event e = sym (steps_are x event ∙ ap (step_by x) e)

@@ -1,5 +1,5 @@
 -- The counts of a session file, and of a list of them: a tally for each of the eight stream numbers. The quotes are document 02's Req 01.
-use Rattle.std.specs.Prelude.{Bool, true, false, ◌&&◌, ◌||◌, List, [], ◌∷◌, ◌++◌, ℕ, zero, suc, ◌^◌, ltb, eqb, get_or}
+use Rattle.std.specs.Prelude.{Option, None, Some, Bool, true, false, ◌&&◌, ◌||◌, List, [], ◌∷◌, ◌++◌, ℕ, zero, suc, ◌^◌, ltb, eqb, get_or}
 use Rattle.table.specs.Fold.{if, all_to, list_to}
 use Rattle.table.specs.Ranges.{streams_max}
 use Rattle.table.specs.Admission.{admission_of}
@@ -27,11 +27,24 @@ small n = ltb n (2 ^ 64)
 unfoldable pub fits : Tally → Bool
 fits a = small a.jobs && small a.late && small a.expired && small a.time
 
+-- two tallies, or none where a sum passes
+unfoldable pub sum_of : Tally → Tally → Option Tally
+sum_of a b = if (fits (together a b)) (Some (together a b)) None
+
 abbrev pub known : List Tally → Counts
-known rows = record { over = false; rows = rows }
+known rows = record { rows = Some rows }
 
 abbrev pub passed : Counts
-passed = record { over = true; rows = list_to (λ i. nothing) streams_max }
+passed = record { rows = None }
+
+-- whether a sum has passed, and the rows where none has
+abbrev pub has_passed : Option (List Tally) → Bool
+has_passed (Some rows) = false
+has_passed None = true
+
+abbrev pub rows_in : Option (List Tally) → List Tally
+rows_in (Some rows) = rows
+rows_in None = []
 
 unfoldable pub counts : (ℕ → Tally) → Counts
 counts f = if (all_to (λ i. fits (f i)) streams_max) (known (list_to f streams_max)) passed
@@ -42,10 +55,10 @@ none = known (list_to (λ i. nothing) streams_max)
 
 -- two of them by "the same rule", stream number by stream number
 abbrev pub both_rows : Counts → Counts → ℕ → Tally
-both_rows a b i = together (row_at a.rows i) (row_at b.rows i)
+both_rows a b i = together (row_at (rows_in a.rows) i) (row_at (rows_in b.rows) i)
 
 unfoldable pub both : Counts → Counts → Counts
-both a b = if (a.over || b.over) passed (counts (both_rows a b))
+both a b = if (has_passed a.rows || has_passed b.rows) passed (counts (both_rows a b))
 
 -- the call of an event; an event that is not as laid out is none, and no file that was read has one
 abbrev pub calls_of : Event → List Call

@@ -3,9 +3,9 @@
 
 mod run;
 
-ghost use Rattle.std.specs.Prelude.{◌≡◌, true, not, ◌+◌, max};
-ghost use Rattle.counts.specs.Tally.{nothing, together};
-ghost use Rattle.counts.specs.Counts.{small, fits, passed, none, both, refused_file, opened_file, filed_of};
+ghost use Rattle.std.specs.Prelude.{◌≡◌};
+ghost use Rattle.counts.specs.Tally.{nothing};
+ghost use Rattle.counts.specs.Counts.{sum_of, none, both, refused_file, opened_file, filed_of};
 ghost use Rattle.file.specs.Reading.{events_in};
 
 use file::Reading;
@@ -14,7 +14,7 @@ use session::Session;
 use table::Table;
 
 // What is counted of one stream.
-#[derive(Clone, Copy)]
+#[derive(Clone, Copy, Debug, PartialEq, Eq)]
 pub struct Tally {
     pub jobs: u64,
     pub late: u64,
@@ -23,11 +23,10 @@ pub struct Tally {
     pub largest: u64,
 }
 
-// A tally for each stream number; or a sum has passed 64 bits, and no number stands.
-#[derive(Clone, Copy)]
+// A tally for each stream number; None where a sum has passed 64 bits, and no number stands.
+#[derive(Clone, Copy, Debug, PartialEq, Eq)]
 pub struct Counts {
-    pub over: bool,
-    pub rows: [Tally; Table::STREAMS_MAX],
+    pub rows: Option<[Tally; Table::STREAMS_MAX]>,
 }
 
 // What is counted of a file: the refusal is 0, or its number beside counts of nothing, with the amount over the span where the load is.
@@ -52,42 +51,18 @@ impl Tally {
         }
     }
 
-    // Whether a sum of two tallies passes 64 bits.
-    fn passes_with(self, other: Tally) -> bool
-        ensures { result ≡ not (fits (together self other)) }
+    // Two tallies: counts and times added up, of the largest the largest. None where a sum passes 64 bits.
+    fn and(self, other: Tally) -> Option<Tally>
+        ensures { result ≡ sum_of self other }
     {
-        passes(self.jobs, other.jobs)
-            | passes(self.late, other.late)
-            | passes(self.expired, other.expired)
-            | passes(self.time, other.time)
+        Some(Tally {
+            jobs: self.jobs.checked_add(other.jobs)?,
+            late: self.late.checked_add(other.late)?,
+            expired: self.expired.checked_add(other.expired)?,
+            time: self.time.checked_add(other.time)?,
+            largest: self.largest.max(other.largest),
+        })
     }
-
-    // Two tallies: counts and times added up, of the largest the largest.
-    fn and(self, other: Tally) -> Tally
-        requires { fits (together self other) ≡ true }
-        ensures { result ≡ together self other }
-    {
-        Tally {
-            jobs: self.jobs + other.jobs,
-            late: self.late + other.late,
-            expired: self.expired + other.expired,
-            time: self.time + other.time,
-            largest: larger(self.largest, other.largest),
-        }
-    }
-}
-
-// Whether a sum passes 64 bits.
-fn passes(a: u64, b: u64) -> bool
-    ensures { result ≡ not (small (a + b)) }
-{
-    u64::MAX - b < a
-}
-
-fn larger(a: u64, b: u64) -> u64
-    ensures { result ≡ max a b }
-{
-    if a < b { b } else { a }
 }
 
 impl Counts {
@@ -95,43 +70,29 @@ impl Counts {
     pub fn none() -> Counts
         ensures { result ≡ none }
     {
-        Counts {
-            over: false,
-            rows: [Tally::nothing(); Table::STREAMS_MAX],
-        }
-    }
-
-    fn passed() -> Counts
-        ensures { result ≡ passed }
-    {
-        Counts {
-            over: true,
-            rows: [Tally::nothing(); Table::STREAMS_MAX],
-        }
+        let rows = Some([Tally::nothing(); Table::STREAMS_MAX]);
+        Counts { rows }
     }
 
     // Both, stream number by stream number.
     pub fn and(self, other: Counts) -> Counts
         ensures { result ≡ both self other }
     {
-        if self.over | other.over {
-            return Counts::passed();
-        }
-        let a = self.rows;
-        let b = other.rows;
+        let rows = self.sums(other);
+        Counts { rows }
+    }
+
+    // The sums of the rows of both.
+    fn sums(self, other: Counts) -> Option<[Tally; Table::STREAMS_MAX]>
+        ensures { result ≡ (both self other).rows }
+    {
+        let a = self.rows?;
+        let b = other.rows?;
         let mut rows = [Tally::nothing(); Table::STREAMS_MAX];
-        let mut i: usize = 0;
-        while i < Table::STREAMS_MAX {
-            let x = a[i];
-            let y = b[i];
-            let passes = x.passes_with(y);
-            if passes {
-                return Counts::passed();
-            }
-            rows[i] = x.and(y);
-            i += 1;
+        for (i, row) in rows.iter_mut().enumerate() {
+            *row = a[i].and(b[i])?;
         }
-        Counts { over: false, rows }
+        Some(rows)
     }
 }
 

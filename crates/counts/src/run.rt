@@ -38,31 +38,19 @@ pub(crate) fn run(opened: Session, trace: &[u8], events: usize) -> Counts
         session: opened,
         counts: Counts::none(),
     };
-    let mut i: usize = 0;
-    while i < events {
-        let event = file::event_at(trace, i);
-        step = step.with_event(event);
-        i += 1;
+    for i in 0..events {
+        step = step.with_event(file::event_at(trace, i));
     }
-    let counts = step.counts;
-    counts
+    step.counts
 }
 
 impl Step {
     fn with_event(self, event: Event) -> Step
         ensures { result ≡ steps_by self (calls_of event) }
     {
-        match event {
-            Event::Arrival { stream, place, tag } => self.with_call(Call::Arrival {
-                stream,
-                place,
-                tag,
-            }),
-            Event::Turn => self.with_call(Call::Turn),
-            Event::OwnTurn { stream, index } => self.with_call(Call::OwnTurn { stream, index }),
-            Event::Done { duration } => self.with_call(Call::Done { duration }),
-            Event::Clock { time } => self.with_call(Call::Clock { time }),
-            Event::Malformed => self,
+        match trace::call_of(event) {
+            Some(call) => self.with_call(call),
+            None => self,
         }
     }
 
@@ -90,14 +78,10 @@ fn counted(session: Session, call: Call, reply: Reply) -> Counts
     let told = Told::by(session, call, reply);
     let streams = session.streams;
     let mut rows = [Tally::nothing(); Table::STREAMS_MAX];
-    let mut i: usize = 0;
-    while i < Table::STREAMS_MAX {
-        let x = streams[i];
-        let deadline = x.deadline;
-        rows[i] = told.of(deadline, i);
-        i += 1;
+    for (i, row) in rows.iter_mut().enumerate() {
+        *row = told.of(streams[i].deadline, i);
     }
-    Counts { over: false, rows }
+    Counts { rows: Some(rows) }
 }
 
 impl Told {
@@ -143,11 +127,8 @@ fn duration_of(call: Call) -> u64
     ensures { result ≡ duration_of call }
 {
     match call {
-        Call::Arrival { .. } => 0,
-        Call::Turn => 0,
-        Call::OwnTurn { .. } => 0,
         Call::Done { duration } => duration,
-        Call::Clock { .. } => 0,
+        _ => 0,
     }
 }
 

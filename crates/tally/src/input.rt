@@ -9,79 +9,34 @@ use std::io::Read;
 
 // The names so far: how much of the next one is in its buffer, and what was counted of the files before it.
 #[derive(Clone, Copy)]
-pub(crate) struct Names {
-    pub len: usize,
-    pub totals: Counts,
+struct Names {
+    len: usize,
+    totals: Counts,
 }
 
-// The names so far, and whether there may be more of them.
-#[derive(Clone, Copy)]
-pub(crate) struct Input {
-    pub names: Names,
-    pub more: bool,
-    pub failed: bool,
-}
-
-// Tallies the files that standard input names.
+// Tallies the files that standard input names; None where it cannot be read. The last name ends with the input.
 // A proved loop has to end, and nothing says that an input does. So the loop counts its turns, up to a number that no run comes to.
 pub(crate) fn tally_input<R: Files + Print>(
     rt: &R,
     err: &impl Print,
     from: &mut impl Read,
     file: &mut [u8],
-) -> io::Result<Input> {
+) -> io::Result<Option<Counts>> {
     let mut name = [0u8; given::NAME_ROOM];
+    let mut piece = [0u8; given::NAME_ROOM];
     let totals = Counts::none();
-    let names = Names { len: 0, totals };
-    let mut input = Input {
-        names,
-        more: true,
-        failed: false,
-    };
+    let mut names = Names { len: 0, totals };
     for _ in 0..u64::MAX {
-        if !input.more {
+        let Ok(count) = from.read(&mut piece) else {
+            return Ok(None);
+        };
+        if count == 0 {
             break;
         }
-        let names = input.names;
-        input = tally_piece(rt, err, from, names, &mut name, file)?;
+        names = tally_bytes(rt, err, names, &piece[..count], &mut name, file)?;
     }
-    Ok(input)
-}
-
-// Reads a piece of the names, and tallies the files of those that end in it. The last name ends with the input.
-fn tally_piece<R: Files + Print>(
-    rt: &R,
-    err: &impl Print,
-    from: &mut impl Read,
-    names: Names,
-    name: &mut [u8],
-    file: &mut [u8],
-) -> io::Result<Input>
-    requires { names.len ≤ length name.old }
-    ensures { IfOk result (λ input. input.names.len ≤ length name.old) }
-{
-    let mut piece = [0u8; given::NAME_ROOM];
-    let Ok(n) = from.read(&mut piece) else {
-        return Ok(Input {
-            names,
-            more: false,
-            failed: true,
-        });
-    };
-    if n == 0 {
-        let names = tally_byte(rt, err, names, b'\n', name, file)?;
-        return Ok(Input {
-            names,
-            more: false,
-            failed: false,
-        });
-    }
-    let names = tally_bytes(rt, err, names, &piece[..n], name, file)?;
-    Ok(Input {
-        names,
-        more: true,
-        failed: false,
-    })
+    let names = tally_byte(rt, err, names, b'\n', &mut name, file)?;
+    Ok(Some(names.totals))
 }
 
 // Goes over the bytes of a piece.
@@ -97,10 +52,8 @@ fn tally_bytes<R: Files + Print>(
     ensures { IfOk result (λ names. names.len ≤ length name.old) }
 {
     let mut names = before;
-    let mut i: usize = 0;
-    while i < bytes.len() {
-        names = tally_byte(rt, err, names, bytes[i], name, file)?;
-        i += 1;
+    for byte in bytes {
+        names = tally_byte(rt, err, names, *byte, name, file)?;
     }
     Ok(names)
 }

@@ -8,7 +8,7 @@ mod print;
 use counts::Counts;
 use input::tally_input;
 use one_file::tally_file;
-use print::{print_totals, say};
+use print::print_totals;
 use std::env::Env;
 use std::fs::Files;
 use std::io;
@@ -21,12 +21,10 @@ fn main(rt: HostRuntime) -> io::Result<()> {
         let totals = tally_arguments(&rt, &err, &mut file)?;
         return print_totals(&rt, &err, totals);
     }
-    let input = tally_input(&rt, &err, &mut rt.stdin(), &mut file)?;
-    if input.failed {
-        return say(&err, b"tally: cannot read standard input\n");
-    }
-    let names = input.names;
-    print_totals(&rt, &err, names.totals)
+    let Some(totals) = tally_input(&rt, &err, &mut rt.stdin(), &mut file)? else {
+        return err.print("tally: cannot read standard input\n");
+    };
+    print_totals(&rt, &err, totals)
 }
 
 // Tallies the files that the arguments name.
@@ -35,12 +33,9 @@ fn tally_arguments<R: Env + Files + Print>(
     err: &impl Print,
     file: &mut [u8],
 ) -> io::Result<Counts> {
-    let count = given::word_count(rt);
     let mut totals = Counts::none();
-    let mut i: usize = 1;
-    while i < count {
+    for i in 1..given::word_count(rt) {
         totals = tally_argument(rt, err, totals, i, file)?;
-        i += 1;
     }
     Ok(totals)
 }

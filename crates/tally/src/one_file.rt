@@ -2,7 +2,7 @@
 ghost use Rattle.std.specs.Prelude.{◌≡◌, IfOk};
 ghost use Rattle.std.specs.Io.{ReadsAtMost};
 
-use crate::print::{print, print_counts, say};
+use crate::print::{print, print_counts};
 use counts::Counts;
 use std::fs::Files;
 use std::io;
@@ -15,9 +15,9 @@ pub(crate) fn tally_file<R: Files + Print>(
     name: &[u8],
     file: &mut [u8],
 ) -> io::Result<Counts> {
-    rt.write_all(b"file ")?;
+    rt.print("file ")?;
     rt.write_all(name)?;
-    rt.write_all(b"\n")?;
+    rt.print("\n")?;
     let len = read_file(rt, err, name, file)?;
     let filed = counts::of_file(&file[..len]);
     let counts = filed.counts;
@@ -43,8 +43,8 @@ fn read_file(rt: &impl Files, err: &impl Print, name: &[u8], file: &mut [u8]) ->
 fn unread(err: &impl Print, name: &[u8]) -> io::Result<usize>
     ensures { IfOk result (λ n. n ≡ 0) }
 {
-    say(err, b"tally: cannot read ")?;
-    say(err, name)?;
-    say(err, b"\n")?;
+    err.print("tally: cannot read ")?;
+    err.write_all(name)?;
+    err.print("\n")?;
     Ok(0)
 }

@@ -8,26 +8,26 @@ use table::Table;
 
 // Prints the totals, or says that there are none.
 pub(crate) fn print_totals(rt: &impl Print, err: &impl Print, totals: Counts) -> io::Result<()> {
-    if totals.over {
-        return say(err, b"tally: a total passes 64 bits\n");
-    }
+    let Some(rows) = totals.rows else {
+        return err.print("tally: a total passes 64 bits\n");
+    };
     print(rt, listing::total())?;
-    print_counts(rt, totals, Table::STREAMS_MAX)
+    print_rows(rt, &rows)
 }
 
 // Prints the header, and the line of each of the first streams. Where a sum has passed 64 bits there is no number to print.
 pub(crate) fn print_counts(rt: &impl Print, counts: Counts, count: usize) -> io::Result<()> {
-    if counts.over {
-        return Ok(());
+    if let Some(rows) = counts.rows {
+        print_rows(rt, &rows[..count.min(Table::STREAMS_MAX)])?;
     }
+    Ok(())
+}
+
+// Prints the header, and a line for each row.
+fn print_rows(rt: &impl Print, rows: &[Tally]) -> io::Result<()> {
     print(rt, listing::tally_header())?;
-    let rows = counts.rows;
-    let mut i: usize = 0;
-    while i < Table::STREAMS_MAX {
-        if i < count {
-            print_row(rt, i as u64 + 1, rows[i])?;
-        }
-        i += 1;
+    for (stream, row) in (1..).zip(rows) {
+        print_row(rt, stream, *row)?;
     }
     Ok(())
 }
@@ -52,8 +52,4 @@ pub(crate) fn print(rt: &impl Print, text: Text) -> io::Result<()>
     let bytes = text.bytes;
     let len = text.len;
     rt.write_all(&bytes[..len])
-}
-
-pub(crate) fn say(err: &impl Print, words: &[u8]) -> io::Result<()> {
-    err.write_all(words)
 }

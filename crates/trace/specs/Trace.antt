@@ -1,5 +1,5 @@
 -- A trace run through a session, event by event, and the whole of what the program prints.
-use Rattle.std.specs.Prelude.{List, [], ◌++◌, ℕ, zero, suc, ◌+◌, eqb}
+use Rattle.std.specs.Prelude.{Option, None, Some, List, [], ◌++◌, ℕ, zero, suc, ◌+◌, eqb}
 use Rattle.table.specs.Fold.{if}
 use Rattle.table.specs.Admission.{admission_of}
 use Rattle.table.specs.Margin.{over_in}
@@ -19,21 +19,29 @@ pub record Outcome : Type 0 where
   pub session : Session
   pub line : Line
 
+-- "Kinds: 1 arrival, 2 turn, 3 own turn, 4 done, 5 clock." An event that is not as laid out is no call; no file that was read has one.
+abbrev pub call_of : Event → Option Call
+call_of (Event.Arrival stream place tag) = Some (Call.Arrival stream place tag)
+call_of Event.Turn = Some Call.Turn
+call_of (Event.OwnTurn stream index) = Some (Call.OwnTurn stream index)
+call_of (Event.Done duration) = Some (Call.Done duration)
+call_of (Event.Clock time) = Some (Call.Clock time)
+call_of Event.Malformed = None
+
 -- an event that is a call, with its number
 unfoldable pub called : Session → ℕ → Call → Outcome
 called s n k =
     let a = answer_to s k in
     record { session = a.session; line = line_of n k a }
 
--- "Kinds: 1 arrival, 2 turn, 3 own turn, 4 done, 5 clock." An event that is not as laid out gives 16 and changes nothing; no file that was read has one.
-unfoldable pub applied : Session → ℕ → Event → Outcome
-applied s n (Event.Arrival stream place tag) = called s n (Call.Arrival stream place tag)
-applied s n Event.Turn = called s n Call.Turn
-applied s n (Event.OwnTurn stream index) = called s n (Call.OwnTurn stream index)
-applied s n (Event.Done duration) = called s n (Call.Done duration)
-applied s n (Event.Clock time) = called s n (Call.Clock time)
-applied s n Event.Malformed =
+-- the call that an event asks for. Where there is none, since the event is not as laid out, it gives 16 and changes nothing.
+abbrev pub asked : Session → ℕ → Option Call → Outcome
+asked s n (Some k) = called s n k
+asked s n None =
     record { session = s; line = record { event = n; answer = 16; stream = 0; value = 0; clock = s.clock.0; tag = 0 } }
+
+unfoldable pub applied : Session → ℕ → Event → Outcome
+applied s n event = asked s n (call_of event)
 
 -- "its number from 1, the reply, the stream [...], the value [...], the clock afterwards", and by document 02, Req 07, "a last field, the tag of the request sent or done, else 0"
 abbrev pub fields_of : Line → List (List ℕ)

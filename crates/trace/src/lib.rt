@@ -3,7 +3,7 @@
 
 ghost use Rattle.std.specs.Prelude.{◌≡◌};
 ghost use Rattle.listing.specs.Line.{Within};
-ghost use Rattle.trace.specs.Trace.{called, applied, handed};
+ghost use Rattle.trace.specs.Trace.{call_of, called, applied, handed};
 
 use calls::Call;
 use file::Event;
@@ -17,30 +17,30 @@ pub struct Stepped {
     pub text: Text,
 }
 
+// The call that an event asks for; one that is not as laid out asks for none, and no file that was read has one.
+pub fn call_of(event: Event) -> Option<Call>
+    ensures { result ≡ call_of event }
+{
+    match event {
+        Event::Arrival { stream, place, tag } => Some(Call::Arrival { stream, place, tag }),
+        Event::Turn => Some(Call::Turn),
+        Event::OwnTurn { stream, index } => Some(Call::OwnTurn { stream, index }),
+        Event::Done { duration } => Some(Call::Done { duration }),
+        Event::Clock { time } => Some(Call::Clock { time }),
+        Event::Malformed => None,
+    }
+}
+
 // Applies an event, which is counted from 1.
 pub fn step(session: Session, number: u64, event: Event) -> Stepped
     ensures value { result ≡ handed (applied session number event) }
     ensures within { Within result.text }
 {
-    match event {
-        Event::Arrival { stream, place, tag } => called(
-            session,
-            number,
-            Call::Arrival { stream, place, tag },
-        ),
-        Event::Turn => called(session, number, Call::Turn),
-        Event::OwnTurn { stream, index } => called(
-            session,
-            number,
-            Call::OwnTurn { stream, index },
-        ),
-        Event::Done { duration } => called(session, number, Call::Done { duration }),
-        Event::Clock { time } => called(session, number, Call::Clock { time }),
-        Event::Malformed => {
-            let text = listing::line(number, 16, 0, 0, session.clock.micros(), 0);
-            Stepped { session, text }
-        }
+    if let Some(call) = call_of(event) {
+        return called(session, number, call);
     }
+    let text = listing::line(number, 16, 0, 0, session.clock.micros(), 0);
+    Stepped { session, text }
 }
 
 // Makes a call, and renders its answer.

@@ -7,17 +7,17 @@ use Rattle.counts.proofs.run.counted.Goals as goal
 
 pub loop-i-init : goal.loop-i-init
 unfolding list_to
-loop-i-init c = (omega arith, record { cells = refl; front = refl })
+loop-i-init c = record { cells = refl; front = refl }
 
 pub loop-i-preserved : goal.loop-i-preserved
 loop-i-preserved c =
     let at = c.loop-i in
-    (omega arith, rw c.of.ensures (filled_more _ at.rows at.i 8 (omega arith) at.invariant.1))
+    rw c.of.ensures (filled_more _ at.row-items at.i 8 (omega arith) at.invariant)
 
 pub returns : goal.returns
 unfolding counts_by
 returns c =
     let at = c.loop-i in
     let all : at.i ≡ 8 = omega arith in
-    let whole = filled_all _ at.rows 8 (rw all at at.invariant.1) in
+    let whole = filled_all _ at.row-items 8 (rw all at at.invariant) in
     rw (whole, c.by-told.ensures)

@@ -8,17 +8,17 @@ use Rattle.counts.proofs.run.run.Goals as goal
 
 pub loop-i-init : goal.loop-i-init
 unfolding steps_by calls_to
-loop-i-init c = (omega arith, refl)
+loop-i-init c = refl
 
 pub loop-i-preserved : goal.loop-i-preserved
 unfolding calls_to
 loop-i-preserved c =
     let at = c.loop-i in
-    (omega arith, rw (c.with_event-step.ensures, c.event_at-event.ensures, add-one, at.invariant.1) (sym (steps_join _ _ _)))
+    rw (c.with_event-step.ensures, c.event_at.ensures, add-one, at.invariant) (sym (steps_join _ _ _))
 
 pub returns : goal.returns
 returns c =
     let at = c.loop-i in
     let a = c.args in
     let all : at.i ≡ a.events = omega arith in
-    rw (at.invariant.1, all, c.none.ensures) (runs_from a.opened _)
+    rw (at.invariant, all, c.none.ensures) (runs_from a.opened _)

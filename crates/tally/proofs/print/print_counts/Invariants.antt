@@ -1,9 +1,0 @@
--- `print_counts` goes over the eight rows.
-use Rattle.std.proofs.Common.{◌-◌, ◌≤◌}
-use Rattle.tally.proofs.print.print_counts.Given as goal
-
-abbrev pub invariant-loop-i : goal.invariant-loop-i
-invariant-loop-i g l = l.i ≤ 8
-
-abbrev pub decreases-loop-i : goal.decreases-loop-i
-decreases-loop-i g l = 8 - l.i

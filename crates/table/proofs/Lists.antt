@@ -43,6 +43,12 @@ module _ {A : Type 0} (f : ℕ → A) where
             front = rw (take-suc xs (i + m) d (omega (arith, q.cells)), here.front, holds (i + m) (omega arith) (omega arith));
           })
 
+  -- cells that hold f 0, .., f (n - 1) are the list of these
+  pub listed : (xs : List A) (d : A) (n : ℕ) → length xs ≡ n → ((j : ℕ) → j < n → get_or xs j d ≡ f j) → xs ≡ list_to f n
+  unfolding list_to
+  listed xs d n cells holds =
+      filled_all xs n (filled_on xs d 0 n (omega arith) (λ j le l. holds j l) (record { cells = cells; front = refl }))
+
   -- the list of f 0, .., f (n - 1) has n elements, and f i at i
   pub length_list_to : (n : ℕ) → length (list_to f n) ≡ n
   unfolding list_to
@@ -126,16 +132,16 @@ pub relisted : {A : Type 0} (xs : List A) (d : A) (n : ℕ) → length xs ≡ n 
 relisted xs d n e = mapped (λ x. x) xs d n e ∙ map-id xs
 
 -- a row of cells closes up over the one at j, cell by cell
-module _ {A : Type 0} (row : List A) (empty : A) (j last : ℕ) (cells : length row ≡ suc last) (hj : j < suc last) where
+module _ {A : Type 0} (row : List A) (empty : A) (j n : ℕ) (cells : length row ≡ n) (hj : j < n) where
   -- what it has in a cell afterwards
   abbrev closed_cell : ℕ → A
   closed_cell x = get_or (closed_up empty j row) x empty
 
-  long : length (closed_up empty j row) ≡ suc last
+  long : length (closed_up empty j row) ≡ n
   long = length_closed_up row empty j (omega (arith, cells)) ∙ cells
 
   -- the cells before j are as they were
-  pub closing_starts : Filled closed_cell row j (suc last)
+  pub closing_starts : Filled closed_cell row j n
   closing_starts =
       record {
         cells = cells;
@@ -147,19 +153,20 @@ module _ {A : Type 0} (row : List A) (empty : A) (j last : ℕ) (cells : length 
       }
 
   -- each next cell takes what stood behind it
-  pub closing_goes_on : (left : List A) (i : ℕ) → j ≤ i → i < last → Filled closed_cell left i (suc last)
-      → Filled closed_cell (set left i (get_or row (i + 1) empty)) (i + 1) (suc last)
+  pub closing_goes_on : (left : List A) (i : ℕ) → j ≤ i → i < n → Filled closed_cell left i n
+      → Filled closed_cell (set left i (get_or row (i + 1) empty)) (i + 1) n
   closing_goes_on left i le l q =
       let behind : closed_cell i ≡ get_or row (i + 1) empty = get_d_closed_up row empty j (omega (arith, cells)) i le ∙ ap (λ (n : ℕ). get_or row n empty) (sym (add-one i)) in
-      subst (λ (v : A). Filled closed_cell (set left i v) (i + 1) (suc last)) behind (filled_more closed_cell left i (suc last) (omega arith) q)
+      subst (λ (v : A). Filled closed_cell (set left i v) (i + 1) n) behind (filled_more closed_cell left i n l q)
 
   -- and the last is empty
-  pub closing_ends : (left : List A) → Filled closed_cell left last (suc last) → set left last empty ≡ closed_up empty j row
-  closing_ends left q =
-      let free : closed_cell last ≡ empty = get_d_closed_up row empty j (omega (arith, cells)) last (omega arith) ∙ get_or-eq_default row empty {n = suc last} (omega (arith, cells)) in
-      subst (λ (v : A). set left last v ≡ closed_up empty j row) free
-      (filled_all closed_cell (set left last (closed_cell last)) (suc last) (subst (λ (m : ℕ). Filled closed_cell (set left last (closed_cell last)) m (suc last)) (add-one last) (filled_more closed_cell left last (suc last) (omega arith) q))
-      ∙ relisted (closed_up empty j row) empty (suc last) long)
+  pub closing_ends : (left : List A) (last : ℕ) → last + 1 ≡ n → Filled closed_cell left last n → set left last empty ≡ closed_up empty j row
+  closing_ends left last e q =
+      let free : get_or row (last + 1) empty ≡ empty = get_or-eq_default row empty {n = last + 1} (omega (arith, cells)) in
+      let all : Filled closed_cell (set left last (get_or row (last + 1) empty)) n n = subst (λ (m : ℕ). Filled closed_cell (set left last (get_or row (last + 1) empty)) m n) e (closing_goes_on left last (omega arith) (omega arith) q) in
+      ap (set left last) (sym free)
+      ∙ filled_all closed_cell (set left last (get_or row (last + 1) empty)) n all
+      ∙ relisted (closed_up empty j row) empty n long
 
 -- a list that leaves one out: it is as it was before that one, and from there on each stands one place lower
 module _ {A : Type 0} (d : A) where

@@ -1,23 +1,23 @@
 -- What admission answers, and the laws of margins.
-use mathlib.Core.Bool.{Bool, true, false, false≢true}
-use mathlib.Core.Path.{◌≡◌, sym, subst, ◌∙◌, ap}
+use mathlib.Core.Path.{◌≡◌, refl, sym, subst, ◌∙◌, ap}
 use mathlib.Core.Logic.{◌⊎◌, inl, inr, ⊎_elim}
-use Prim.Native.Nat.{ℕ, suc, ◌-◌, ◌≤◌, ◌<◌}
+use Prim.Native.Nat.{ℕ, zero, suc, ◌-◌, ◌≤◌, ◌<◌}
 use native.Mathlib.Omega.{arith}
 use lib.Dec.{ltb, le→leb, ltb→lt, lit≤}
 use lib.IntN.{ℤ, pos, negsuc, +ℤ_comm, -ℤ-+ℤ_cancel}
 use lib.Signed.{◌≤ℤ◌, ◌<ℤ◌}
 use borrow.Author.Tests.{lt-ltb, le-ltb, ne_eqb}
+use Rattle.std.proofs.Common.{Ok, Err}
 use Rattle.table.specs.Fold.{if}
-use Rattle.table.specs.Refusal.{given, ◌or_next◌}
+use Rattle.table.specs.Refusal.{given, ◌or_next◌, refusal_number}
 use Rattle.table.specs.Admission.{load_of, numbers_refusal, stream_refusal, stream_refusal_at, streams_refusal, parts_refusal, admission_of}
 use Rattle.table.specs.Whole.{below_zero}
-use Rattle.table.specs.Margin.{margin_of, margin, answered, answer_of, number_in, margin_in}
+use Rattle.table.specs.Margin.{margin_of, margin, refusal_of, refusal_margin, answered, answer_of, number_in, margin_in}
 use Rattle.table.specs.Laws.{MarginIsExact, MarginDecides, OverIsExact, AnswerCarriesMargin}
 use Rattle.table.specs.declared.Table.{Table}
 use Rattle.table.specs.declared.margin.Margin.{Margin}
-use Rattle.table.specs.declared.Admission.{Admission}
-use Rattle.table.specs.declared.Admission.TheVariants.{Admitted, Refused, Over}
+use Rattle.table.specs.declared.refusal.Refusal.{Refusal}
+use Rattle.table.specs.declared.refusal.Refusal.TheVariants.{Streams, Worst, Span, Padding, Period, Budget, Load}
 use Rattle.table.proofs.Tests.{le_or_lt, given_high, or_next_high, or_next_first, or_next_assoc}
 use Rattle.table.proofs.Folds.{first_is}
 use Rattle.table.proofs.Whole.{less_left, less_over}
@@ -106,17 +106,54 @@ over_is_exact t e =
     let h = over_load t e in
     rw (beyond t h.0 h.1).is (omega (arith, h.1), omega arith)
 
--- what is answered where one of 1 to 6 refuses, where nothing does, and by 7
-pub answer_first : (t : Table) → (parts_refusal t ≡ 0 → ⊥) → answer_of t ≡ Refused (parts_refusal t)
-unfolding answer_of answered if
-answer_first t ne = rw (parts_first t ne, ne_eqb (parts_refusal t) 0 ne, ne_eqb (parts_refusal t) 7 (λ e. omega (arith, parts_high t)))
+-- the number of a refusal is never 0
+pub refusal_some : (r : Refusal) → refusal_number r ≡ 0 → ⊥
+refusal_some Streams e = omega arith
+refusal_some Worst e = omega arith
+refusal_some Span e = omega arith
+refusal_some Padding e = omega arith
+refusal_some Period e = omega arith
+refusal_some Budget e = omega arith
+refusal_some (Load m) e = omega arith
 
-pub answer_admits : (t : Table) → admission_of t ≡ 0 → answer_of t ≡ Admitted (margin (margin_of t))
+-- the refusals of 1 to 6, and back
+refusal_is : (r : Refusal) (m : ℤ) → refusal_number r ≤ 6 → refusal_of (refusal_number r) m ≡ r
+unfolding refusal_of if
+refusal_is Streams m l = refl
+refusal_is Worst m l = refl
+refusal_is Span m l = refl
+refusal_is Padding m l = refl
+refusal_is Period m l = refl
+refusal_is Budget m l = refl
+refusal_is (Load n) m l = absurd (omega arith)
+
+is_refusal : (n : ℕ) (m : ℤ) → (n ≡ 0 → ⊥) → n ≤ 6 → (refusal_number (refusal_of n m) ≡ n) × (refusal_margin (refusal_of n m) ≡ margin (pos 0))
+unfolding refusal_of if
+is_refusal zero m some l = absurd (some refl)
+is_refusal (suc zero) m some l = (refl, refl)
+is_refusal (suc (suc zero)) m some l = (refl, refl)
+is_refusal (suc (suc (suc zero))) m some l = (refl, refl)
+is_refusal (suc (suc (suc (suc zero)))) m some l = (refl, refl)
+is_refusal (suc (suc (suc (suc (suc zero))))) m some l = (refl, refl)
+is_refusal (suc (suc (suc (suc (suc (suc zero)))))) m some l = (refl, refl)
+is_refusal (suc (suc (suc (suc (suc (suc (suc n))))))) m some l = absurd (omega arith)
+
+-- what is answered where one of 1 to 6 refuses, where nothing does, and by 7
+answer_parts : (t : Table) → (parts_refusal t ≡ 0 → ⊥) → answer_of t ≡ Err (refusal_of (parts_refusal t) (margin_of t))
+unfolding answer_of answered if
+answer_parts t ne = rw (parts_first t ne, ne_eqb (parts_refusal t) 0 ne)
+
+pub answer_first : (t : Table) (r : Refusal) → refusal_number r ≡ parts_refusal t → answer_of t ≡ Err r
+answer_first t r e =
+    answer_parts t (λ z. refusal_some r (e ∙ z))
+    ∙ ap Err (ap (λ n. refusal_of n (margin_of t)) (sym e) ∙ refusal_is r (margin_of t) (omega (arith, e, parts_high t)))
+
+pub answer_admits : (t : Table) → admission_of t ≡ 0 → answer_of t ≡ Ok (margin (margin_of t))
 unfolding answer_of answered if
 answer_admits t z = rw z
 
-pub answer_over : (t : Table) → admission_of t ≡ 7 → answer_of t ≡ Over (margin (margin_of t))
-unfolding answer_of answered if
+pub answer_over : (t : Table) → admission_of t ≡ 7 → answer_of t ≡ Err (Load (margin (margin_of t)))
+unfolding answer_of answered refusal_of if
 answer_over t seven = rw seven
 
 pub answer_carries_margin : AnswerCarriesMargin
@@ -130,8 +167,9 @@ answer_carries_margin t =
     (le_or_lt (load_of t) t.span))
     (λ (u : 0 < parts_refusal t).
     let some : parts_refusal t ≡ 0 → ⊥ = λ z. omega arith in
-    let e = answer_first t some in
-    (ap number_in e ∙ sym (parts_first t some), λ z. absurd (some z), λ _. ap margin_in e))
+    let e = answer_parts t some in
+    let told = is_refusal (parts_refusal t) (margin_of t) some (parts_high t) in
+    (ap number_in e ∙ told.0 ∙ sym (parts_first t some), λ z. absurd (some z), λ _. ap margin_in e ∙ told.1))
     (le_or_lt (parts_refusal t) 0)
 
 -- where 1 to 6 refuse nothing there is no refusal but 7
@@ -139,17 +177,11 @@ pub parts_or_load : (t : Table) → parts_refusal t ≡ 0 → (admission_of t �
 parts_or_load t z =
     ⊎_elim (λ (l : load_of t ≤ t.span). inl (load_fits t z l)) (λ (l : t.span < load_of t). inr (load_over t z l)) (le_or_lt (load_of t) t.span)
 
--- so the answer has the case of an admitted table only for one that is
-pub admitted_only : (t : Table) (m : Margin) → answer_of t ≡ Admitted m → (admission_of t ≡ 0) × (m ≡ margin (margin_of t))
+-- so a table is admitted only where it is answered with its margin
+pub admitted_only : (t : Table) (m : Margin) → answer_of t ≡ Ok m → (admission_of t ≡ 0) × (m ≡ margin (margin_of t))
 admitted_only t m e =
     let z = sym (answer_carries_margin t).0 ∙ ap number_in e in
     (z, ap margin_in (sym e ∙ answer_admits t z))
 
--- the number of a refusal is never 0
-abbrev pub is_admitted : Admission → Bool
-is_admitted (Admitted m) = true
-is_admitted (Refused n) = false
-is_admitted (Over m) = false
-
-pub refused_only : (t : Table) (a : Admission) → answer_of t ≡ a → is_admitted a ≡ false → admission_of t ≡ 0 → ⊥
-refused_only t a e not z = false≢true (sym not ∙ ap is_admitted (sym e ∙ answer_admits t z))
+pub refused_only : (t : Table) (r : Refusal) → answer_of t ≡ Err r → admission_of t ≡ 0 → ⊥
+refused_only t r e z = refusal_some r (sym (ap number_in e) ∙ (answer_carries_margin t).0 ∙ z)

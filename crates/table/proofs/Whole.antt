@@ -1,16 +1,17 @@
 -- Whole numbers of either sign: differences, the test of two for being one, and how 64 bits hold them. `of_z` gives the bits of a number, and `to_z` the number that bits stand for.
-use mathlib.Core.Bool.{true, false, false≢true}
+use mathlib.Core.Bool.{true, false, ◌&&◌, false≢true}
 use mathlib.Core.Path.{◌≡◌, refl, sym, subst, ◌∙◌, ap}
 use mathlib.Core.Logic.{⊎_elim}
 use Prim.Native.Nat.{ℕ, zero, suc, ◌+◌, ◌-◌, ◌≤◌, ◌<◌, ◌^◌}
 use native.Mathlib.Omega.{arith}
 use lib.Dec.{eqb}
 use lib.IntN.{ℤ, pos, negsuc, nat_abs, neg_ℤ, sub_ℕ, ◌+ℤ◌, ◌-ℤ◌, +ℤ_assoc, +ℤ_comm, neg_ℤ-+ℤ, neg_ℤ-neg_ℤ}
-use lib.Signed.{lt_z}
+use lib.Signed.{lt_z, le_z}
+use Rattle.std.specs.Int.{int_max, int_min}
 use mir.Syntax.{w64}
 use mir.Val.{SFits, to_z, of_z}
 use mir.ValLaws.{to_z_pos, to_z-of_z}
-use borrow.Author.Tests.{lt-ltb, le-ltb, eq-eqb, ne_eqb, eqb-true}
+use borrow.Author.Tests.{lt-ltb, le-ltb, le-leb, eq-eqb, ne_eqb, eqb-true}
 use Rattle.table.specs.Fold.{sum_to}
 use Rattle.table.specs.Whole.{eq_z, above_zero, below_zero, signed_sum_to}
 use Rattle.table.specs.Margin.{less_load}
@@ -140,16 +141,11 @@ is_same a b e = ap (eq_z a) (sym e) ∙ self a
     self (pos a) = eq-eqb a a refl
     self (negsuc a) = eq-eqb a a refl
 
--- a number below 0 is nothing that is left, and another is what is left of it
-pub over_not_left : (z : ℤ) (n : ℕ) → 1 ≤ below_zero z → false ≡ eq_z z (pos n)
-unfolding below_zero eq_z
-over_not_left (pos m) n some = absurd (omega arith)
-over_not_left (negsuc m) n some = refl
-
-pub left_is : (z : ℤ) (n : ℕ) → 0 ≡ below_zero z → eqb (above_zero z) n ≡ eq_z z (pos n)
-unfolding above_zero below_zero eq_z
-left_is (pos m) n none = refl
-left_is (negsuc m) n none = absurd (omega arith)
+-- what is left is so much where the number is not below 0 and is so far above it
+pub left_is : (z : ℤ) (left n : ℕ) → SFits w64 z → left ≡ above_zero z → (le_z (pos 0) (to_z w64 (of_z w64 z)) && eqb left n) ≡ eq_z z (pos n)
+unfolding above_zero eq_z
+left_is (pos m) left n f e = rw (to_z-of_z w64 (pos m) f, e, le-leb 0 m (omega arith))
+left_is (negsuc m) left n f e = rw (to_z-of_z w64 (negsuc m) f)
 
 -- differences are added part by part, and taken off turned round
 pub add_less : (a b c d : ℕ) → (pos a -ℤ pos b) +ℤ (pos c -ℤ pos d) ≡ pos (a + c) -ℤ pos (b + d)
@@ -203,3 +199,22 @@ lessened z b f k l =
     ap (λ (y : ℤ). y -ℤ to_z w64 b) (to_z-of_z w64 z f) ∙ ap (λ (y : ℤ). z -ℤ y) (to_z_pos w64 b (omega arith)) in
     let fits = subst (SFits w64) (sym same) (lessened_fits z b k l) in
     record { fits = fits; is = to_z-of_z w64 _ fits ∙ same }
+
+-- the larger of a number and 0, and the smaller, by how far they are from 0
+pub larger_is : (z : ℤ) → SFits w64 z → nat_abs (to_z w64 (of_z w64 (int_max (to_z w64 (of_z w64 z)) (pos 0)))) ≡ above_zero z
+unfolding above_zero
+larger_is z f = rw (to_z-of_z w64 z f) (go z f)
+  where
+    go : (z : ℤ) → SFits w64 z → nat_abs (to_z w64 (of_z w64 (int_max z (pos 0)))) ≡ above_zero z
+    go (pos zero) f = refl
+    go (pos (suc n)) f = rw (lt-ltb 0 (suc n) (omega arith)) (ap nat_abs (to_z-of_z w64 (pos (suc n)) f))
+    go (negsuc n) f = refl
+
+pub smaller_is : (z : ℤ) → SFits w64 z → nat_abs (to_z w64 (of_z w64 (int_min (to_z w64 (of_z w64 z)) (pos 0)))) ≡ below_zero z
+unfolding below_zero
+smaller_is z f = rw (to_z-of_z w64 z f) (go z f)
+  where
+    go : (z : ℤ) → SFits w64 z → nat_abs (to_z w64 (of_z w64 (int_min z (pos 0)))) ≡ below_zero z
+    go (pos zero) f = refl
+    go (pos (suc n)) f = rw (lt-ltb 0 (suc n) (omega arith))
+    go (negsuc n) f = ap nat_abs (to_z-of_z w64 (negsuc n) f)

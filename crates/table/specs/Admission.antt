@@ -4,6 +4,8 @@ use Rattle.table.specs.Fold.{if, sum_to, smallest_to, list_to}
 use Rattle.table.specs.Refusal.{given, ◌or_next◌, first_to, outside}
 use Rattle.table.specs.Ranges.{streams_max, worst_min, worst_max, span_min, span_max, padding_max, padding_default, period_min, period_max}
 use Rattle.table.specs.declared.Table.{Table}
+use Rattle.table.specs.declared.numbers.Numbers.{Numbers}
+use Rattle.table.specs.declared.reservations.Reservation.{Reservation}
 
 -- the reserved time e and the period p of a stream, counted from 0
 abbrev pub reserved_at : Table → ℕ → ℕ
@@ -11,6 +13,13 @@ reserved_at t i = get_or t.reserved i 0
 
 abbrev pub period_at : Table → ℕ → ℕ
 period_at t i = get_or t.period i 0
+
+-- both, and the three numbers of the whole table
+abbrev pub reservation_at : Table → ℕ → Reservation
+reservation_at t i = record { reserved = reserved_at t i; period = period_at t i }
+
+abbrev pub numbers_in : Table → Numbers
+numbers_in t = record { worst = t.worst; span = t.span; padding = t.padding }
 
 -- the same table with another padding
 abbrev pub with_padding : Table → ℕ → Table

@@ -7,7 +7,7 @@ use crate::signed::{above_zero, below_zero};
 
 // Microseconds of the span. It is below 0 where the load is above the span.
 #[repr(C)]
-#[derive(Clone, Copy)]
+#[derive(Clone, Copy, Debug, Default, PartialEq, Eq)]
 pub struct Margin(pub i64);
 
 impl Margin {
@@ -19,21 +19,11 @@ impl Margin {
         Margin(span as i64 - load as i64)
     }
 
-    // What stands where none is told.
-    pub fn none() -> Margin
-        ensures { result ≡ margin (pos 0) }
-    {
-        Margin(0)
-    }
-
     // Whether so much is left of the span.
     pub fn is_left(self, left: u64) -> bool
         ensures { result ≡ eq_z self.0 (pos left) }
     {
-        if self.0 < 0 {
-            return false;
-        }
-        self.0 as u64 == left
+        (0 <= self.0) & (self.left() == left)
     }
 
     // What is left of the span: how far the margin is above 0, and 0 where it is not.

@@ -2,11 +2,12 @@
 ghost use Rattle.std.specs.Prelude.{◌≡◌};
 ghost use Rattle.table.specs.Reservations.{record_at, records_of, table_of_records};
 
-use crate::Table;
+use crate::{Numbers, Table};
+use std::array;
 
 // What is booked for one stream.
 #[repr(C)]
-#[derive(Clone, Copy)]
+#[derive(Clone, Copy, Debug, Default, PartialEq, Eq)]
 pub struct Reservation {
     pub reserved: u32,
     pub period: u32,
@@ -14,7 +15,7 @@ pub struct Reservation {
 
 // What is taken of a lent slice: its first eight records, zeros past its end, and its true length.
 #[repr(C)]
-#[derive(Clone, Copy)]
+#[derive(Clone, Copy, Debug, Default, PartialEq, Eq)]
 pub struct Records {
     pub rows: [Reservation; Table::STREAMS_MAX],
     pub count: usize,
@@ -27,10 +28,7 @@ pub fn record_at(table: &[Reservation], i: usize) -> Reservation
     if i < table.len() {
         table[i]
     } else {
-        Reservation {
-            reserved: 0,
-            period: 0,
-        }
+        Reservation::default()
     }
 }
 
@@ -38,42 +36,24 @@ pub fn record_at(table: &[Reservation], i: usize) -> Reservation
 pub fn take_in(table: &[Reservation]) -> Records
     ensures { result ≡ records_of table.now }
 {
-    let a = record_at(table, 0);
-    let b = record_at(table, 1);
-    let c = record_at(table, 2);
-    let d = record_at(table, 3);
-    let e = record_at(table, 4);
-    let f = record_at(table, 5);
-    let g = record_at(table, 6);
-    let h = record_at(table, 7);
     Records {
-        rows: [a, b, c, d, e, f, g, h],
+        rows: array::from_fn(|i| record_at(table, i)),
         count: table.len(),
     }
 }
 
 impl Table {
     // The table of three numbers and of records that were taken in.
-    pub fn of(worst: u32, span: u32, padding: u32, records: Records) -> Table
-        ensures { result ≡ table_of_records worst span padding records.rows records.count }
+    pub fn of(numbers: Numbers, records: Records) -> Table
+        ensures { result ≡ table_of_records numbers.worst numbers.span numbers.padding records.rows records.count }
     {
-        let rows = records.rows;
-        let mut reserved = [0u32; Self::STREAMS_MAX];
-        let mut period = [0u32; Self::STREAMS_MAX];
-        let mut i: usize = 0;
-        while i < Self::STREAMS_MAX {
-            let row = rows[i];
-            reserved[i] = row.reserved;
-            period[i] = row.period;
-            i += 1;
-        }
         Table {
-            worst: worst,
-            span: span,
-            padding: padding,
+            worst: numbers.worst,
+            span: numbers.span,
+            padding: numbers.padding,
             count: records.count,
-            reserved: reserved,
-            period: period,
+            reserved: records.rows.map(|row| row.reserved),
+            period: records.rows.map(|row| row.period),
         }
     }
 }

@@ -1,19 +1,14 @@
 -- `Table::load` gives the load where 1 to 6 refuse nothing.
-use mathlib.Core.Path.{sym, ◌∙◌}
 use borrow.Author.Tests.{ne_eqb}
 use Rattle.table.specs.Fold.{if}
 use Rattle.table.specs.Admission.{judged_load}
-use Rattle.table.proofs.Judged.{parts_none}
+use Rattle.table.proofs.Margins.{refusal_some}
 use Rattle.table.proofs.Table.load.Goals as goal
 
-pub returns-then-first-ne0 : goal.returns-then-first-ne0
+pub returns-in-Ok : goal.returns-in-Ok
 unfolding judged_load if
-returns-then-first-ne0 c = rw (← c.parts_refusal-first.ensures, ne_eqb _ 0 c.if-first-ne0.true)
+returns-in-Ok c = let told = rw c.in-Ok.ensures.value at c.load.ensures in rw (← c.in-Ok.ensures.number) told
 
-pub load-requires : goal.load-requires
-load-requires c = parts_none _ (sym c.parts_refusal-first.ensures ∙ c.if-first-ne0.false)
-
-pub returns : goal.returns
+pub returns-in-Err : goal.returns-in-Err
 unfolding judged_load if
-returns c =
-    rw (sym c.parts_refusal-first.ensures ∙ c.if-first-ne0.false) c.load.ensures
+returns-in-Err c = rw (← c.in-Err.ensures.number, ne_eqb _ 0 (refusal_some c.in-Err.field-0))

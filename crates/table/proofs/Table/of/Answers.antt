@@ -1,30 +1,24 @@
-use mathlib.Core.Path.{◌≡◌, refl, subst}
-use mathlib.Core.List.{List}
-use Prim.Native.Nat.{ℕ}
-use native.Mathlib.Omega.{arith}
-use Rattle.table.specs.Fold.{list_to}
-use Rattle.table.specs.Reservations.{record_at, table_of_records}
-use Rattle.table.proofs.Lists.{Filled, filled_more, filled_all}
+-- `Table::of` maps the rows to both columns.
+use mathlib.Core.Path.{◌≡◌}
+use Prim.Native.Nat.{ℕ, ◌<◌}
+use lib.ListN.{get_or}
+use borrow.Author.Rules.{rules}
+use Rattle.table.specs.Reservations.{no_record, table_of_records}
+use Rattle.table.proofs.Lists.{listed}
 use Rattle.table.proofs.Table.of.Goals as goal
+use Rattle.table.proofs.Table.of.Goals.{After-map-2}
 
-pub loop-i-init : goal.loop-i-init
-unfolding list_to
-loop-i-init c = (omega arith, record { cells = refl; front = refl }, record { cells = refl; front = refl })
+reserved : (c : After-map-2) (i : ℕ) → i < 8 → get_or c.map.result i 0 ≡ (get_or c.args.records.rows i no_record).reserved
+reserved c i l = let h = (c.map.ensures.items.at i no_record 0 l).2 in search (rules, h)
 
-pub loop-i-preserved : goal.loop-i-preserved
-loop-i-preserved c =
-    let at = c.loop-i in
-    let rows = c.args.records.rows in (
-      omega arith,
-      filled_more (λ j. (record_at rows j).reserved) at.reserved at.i 8 (omega arith) at.invariant.1,
-      filled_more (λ j. (record_at rows j).period) at.period at.i 8 (omega arith) at.invariant.2,
-    )
+period : (c : After-map-2) (i : ℕ) → i < 8 → get_or c.map-2.result i 0 ≡ (get_or c.args.records.rows i no_record).period
+period c i l = let h = (c.map-2.ensures.items.at i no_record 0 l).2 in search (rules, h)
 
 pub returns : goal.returns
 unfolding table_of_records
 returns c =
-    let at = c.loop-i in
     let rows = c.args.records.rows in
-    let e : at.i ≡ 8 = omega arith in
-    let whole : (f : ℕ → ℕ) (xs : List ℕ) → Filled f xs at.i 8 → xs ≡ list_to f 8 = λ f xs part. filled_all f xs 8 (subst (λ (n : ℕ). Filled f xs n 8) e part) in
-    rw (whole (λ j. (record_at rows j).reserved) at.reserved at.invariant.1, whole (λ j. (record_at rows j).period) at.period at.invariant.2)
+    rw (
+      listed (λ i. (get_or rows i no_record).reserved) c.map.result 0 8 c.map.ensures.items.long (reserved c),
+      listed (λ i. (get_or rows i no_record).period) c.map-2.result 0 8 c.map-2.ensures.items.long (period c),
+    )

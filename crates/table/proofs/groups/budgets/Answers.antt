@@ -6,6 +6,7 @@ use lib.ListN.{get_or, set}
 use Rattle.table.specs.Admission.{period_at}
 use Rattle.table.specs.Groups.{granted_at, first_with}
 use Rattle.table.specs.declared.Table.{Table}
+use Rattle.table.proofs.Judged.{numbers_of, parts_none}
 use Rattle.table.proofs.Grouped.{first_with_low}
 use Rattle.table.proofs.Gathered.{used_passed, unused_passed, Added, added_none, added_more, added_all, budgets_fit}
 use Rattle.table.proofs.groups.budgets.Goals as goal
@@ -27,43 +28,42 @@ passed_over t xs ys i unused same q = rw (unused_passed i t.count unused, same) 
 
 pub loop-i-init : goal.loop-i-init
 loop-i-init c =
-    let t = c.args.t in
+    let t = c.args.judged.table in
     let none : min 0 t.count ≡ 0 = omega arith in
-    (omega arith, rw none (added_none t))
+    rw none (added_none t)
 
 pub bounds-budget-first : goal.bounds-budget-first
 bounds-budget-first c =
-    placed c.args.t c.loop-i.i c.first_with-first.result (omega arith) c.first_with-first.ensures
+    placed c.args.judged.table c.loop-i.i c.first_with-first.result (omega arith) c.first_with-first.ensures
 
 pub offset_bounds-budget-first : goal.offset_bounds-budget-first
 offset_bounds-budget-first c = omega (arith, bounds-budget-first c)
 
+pub bounds-budget-first-then-i-t : goal.bounds-budget-first-then-i-t
+bounds-budget-first-then-i-t c =
+    placed c.args.judged.table c.loop-i.i c.first_with-first.result (omega arith) c.first_with-first.ensures
+
 pub overflow_add-budget : goal.overflow_add-budget
 overflow_add-budget c =
     let at = c.loop-i in
-    let t = c.args.t in
-    omega (arith, c.granted.ensures, budgets_fit t c.requires.1 at.budget (min at.i t.count) c.first_with-first.result at.i (omega arith) (omega arith) (bounds-budget-first c.before) (omega arith) at.invariant.1)
-
-pub offset_bounds-budget-first-then-i-t : goal.offset_bounds-budget-first-then-i-t
-offset_bounds-budget-first-then-i-t c = omega (arith, bounds-budget-first c.before)
-
-pub bounds-budget-first-then-i-t : goal.bounds-budget-first-then-i-t
-bounds-budget-first-then-i-t c = bounds-budget-first c.before
+    let t = c.args.judged.table in
+    let parts = parts_none t c.args.judged.in_order in
+    let g = rw c.numbers-numbers.ensures at c.granted.ensures in
+    omega (arith, g, budgets_fit t parts.1 at.budget (min at.i t.count) c.first_with-first.result at.i (omega arith) (omega arith) (placed t at.i c.first_with-first.result (omega arith) c.first_with-first.ensures) (omega arith) at.invariant)
 
 pub loop-i-preserved : goal.loop-i-preserved
 loop-i-preserved c =
-    let t = c.args.t in
-    let at = c.loop-i in (
-      omega arith,
-      elim c.if-i-t.branch [
-        | then-i-t w ↦ joined t at.budget c.if-i-t.budget at.i w.first_with-first.result w.granted.result (omega arith) w.if-i-t.true w.first_with-first.ensures w.granted.ensures w.budget-is at.invariant.1
-        | else-i-t w ↦ passed_over t at.budget c.if-i-t.budget at.i w.if-i-t.false w.budget-is at.invariant.1
-      ],
-    )
+    let t = c.args.judged.table in
+    let at = c.loop-i in
+    elim c.if-i-t.branch [
+      | then-i-t w ↦ joined t at.budget c.if-i-t.budget at.i w.first_with-first.result w.granted.result (omega arith) w.if-i-t.true w.first_with-first.ensures (rw c.numbers-numbers.ensures at w.granted.ensures) w.budget-is at.invariant
+      | else-i-t w ↦ passed_over t at.budget c.if-i-t.budget at.i w.if-i-t.false w.budget-is at.invariant
+    ]
 
 pub returns : goal.returns
 returns c =
-    let t = c.args.t in
+    let t = c.args.judged.table in
     let at = c.loop-i in
-    let all : min at.i t.count ≡ t.count = omega (arith, c.requires.0) in
-    added_all t at.budget (subst (Added t at.budget) all at.invariant.1)
+    let numbers = numbers_of t (parts_none t c.args.judged.in_order).0 in
+    let all : min at.i t.count ≡ t.count = omega (arith, numbers.count_high) in
+    added_all t at.budget (subst (Added t at.budget) all at.invariant)

@@ -1,11 +1,7 @@
 -- `budgets` adds up the granted budgets of each group: those of the streams passed stand in their places. Each is at most its period, so that a sum of eight is at most 480,000,000.
-use Prim.Native.Nat.{◌-◌, min, ◌≤◌}
+use Prim.Native.Nat.{min}
 use Rattle.table.proofs.Gathered.{Added}
 use Rattle.table.proofs.groups.budgets.Given as goal
 
 abbrev pub invariant-loop-i : goal.invariant-loop-i
-invariant-loop-i l =
-    (l.i ≤ 8) × Added l.t l.budget (min l.i l.t.count)
-
-abbrev pub decreases-loop-i : goal.decreases-loop-i
-decreases-loop-i l = 8 - l.i
+invariant-loop-i l = Added l.t l.budget (min l.i l.t.count)

@@ -1,18 +1,17 @@
--- `take_in` reads the eight records one after the other.
-use Rattle.table.specs.Fold.{list_to}
-use Rattle.table.specs.Reservations.{records_of}
+-- `take_in` reads the eight records.
+use mathlib.Core.Path.{◌≡◌}
+use Prim.Native.Nat.{ℕ, ◌<◌}
+use lib.ListN.{get_or}
+use borrow.Author.Rules.{rules}
+use Rattle.table.specs.Reservations.{no_record, record_at, records_of}
+use Rattle.table.proofs.Lists.{listed}
 use Rattle.table.proofs.reservations.take_in.Goals as goal
+use Rattle.table.proofs.reservations.take_in.Goals.{After-from_fn}
+
+read : (c : After-from_fn) (i : ℕ) → i < 8 → get_or c.from_fn.result i no_record ≡ record_at c.args.table.now i
+read c i l = let h = (c.from_fn.ensures.items.at i no_record l).2 in search (rules, h)
 
 pub returns : goal.returns
-unfolding records_of list_to
+unfolding records_of
 returns c =
-    rw (
-      c.record_at-a.ensures,
-      c.record_at-b.ensures,
-      c.record_at-c.ensures,
-      c.record_at-d.ensures,
-      c.record_at-e.ensures,
-      c.record_at-f.ensures,
-      c.record_at-g.ensures,
-      c.record_at-h.ensures,
-    )
+    rw (listed (record_at c.args.table.now) c.from_fn.result no_record 8 c.from_fn.ensures.items.long (read c))

@@ -1,20 +1,21 @@
 -- Which bytes reading accepts: what its tests say, test by test, and what follows from all of them.
 use mathlib.Core.Bool.{Bool, true, false, ◌&&◌}
-use mathlib.Core.Path.{◌≡◌, refl}
+use mathlib.Core.Path.{◌≡◌, refl, ap}
 use mathlib.Core.List.{List}
 use Prim.Native.Nat.{ℕ, ◌+◌, ◌-◌, ◌≤◌, ◌<◌}
-use native.Mathlib.Omega.{arith}
 use borrow.Author.Tests.{le-leb, lt-leb, eqb-true, eq-eqb, leb-true}
 use lib.ListN.{length}
+use Rattle.std.specs.declared.result.Result.TheVariants.{Ok, Err}
 use Rattle.table.specs.Fold.{if}
 use Rattle.table.proofs.Tests.{both}
 use Rattle.cells.specs.Cells.{number_at}
 use Rattle.order.specs.Order.{is_order}
-use Rattle.order.specs.declared.Order.{Order}
 use Rattle.file.specs.File.{entries_of, table_start, third_length}
-use Rattle.file.specs.Reading.{events_in, is_trace, form_in, start_in, count_at, trace_start, trace_end, third_in, order_in, trace_in, is_entry, is_third_entry, is_contents, is_laid_out, read_of}
+use Rattle.file.specs.Reading.{events_in, is_trace, form_in, start_in, count_at, trace_start, trace_end, third_in, order_in, trace_in, is_entry, is_third_entry, is_contents, is_laid_out, laid_out, read_of}
 use Rattle.file.specs.declared.form.Form.{Form}
-use Rattle.file.specs.declared.Reading.TheVariants.{LaidOut, Refused}
+use Rattle.file.specs.declared.Layout.{Layout}
+use Rattle.file.specs.declared.refusal.Refusal.{Refusal}
+use Rattle.file.specs.declared.refusal.Refusal.TheVariants.{Layout as NotLaidOut}
 
 -- ---- entries
 
@@ -111,52 +112,52 @@ module _ (file : List ℕ) where
       trace_decides h = rw (le-leb _ _ count, le-leb _ _ long, h)
 
   -- the answer
-  pub read_refused : is_laid_out file ≡ false → read_of file ≡ Refused 16
+  pub read_refused : is_laid_out file ≡ false → read_of file ≡ Err NotLaidOut
   unfolding read_of if
   read_refused h = rw h
 
   pub read_accepted : is_laid_out file ≡ true
-      → read_of file ≡ LaidOut (form_in file) (order_in file) (count_at file (start_in file)) (trace_start file) (trace_end file) (events_in (trace_in file))
+      → read_of file ≡ Ok (laid_out (form_in file) (order_in file) (count_at file (start_in file)) (trace_start file) (trace_end file) (events_in (trace_in file)))
   unfolding read_of if
   read_accepted h = rw h
 
 -- an answer that says where things are comes from a file that is accepted, and they are there
-pub record Answered (file : List ℕ) (form : Form) (order : Order) (count start end events : ℕ) : Type 0 where
+pub record Answered (file : List ℕ) (layout : Layout) : Type 0 where
   pub accepted : is_laid_out file ≡ true
-  pub form_is : form_in file ≡ form
-  pub order_is : order_in file ≡ order
-  pub count_is : count_at file (start_in file) ≡ count
-  pub start_is : trace_start file ≡ start
-  pub end_is : trace_end file ≡ end
-  pub events_are : events_in (trace_in file) ≡ events
+  pub form_is : form_in file ≡ layout.form
+  pub order_is : order_in file ≡ layout.order
+  pub count_is : count_at file (start_in file) ≡ layout.count
+  pub start_is : trace_start file ≡ layout.start
+  pub end_is : trace_end file ≡ layout.end
+  pub events_are : events_in (trace_in file) ≡ layout.events
 
-chosen : (b : Bool) {f form : Form} {o order : Order} {n s e m count start end events : ℕ}
-    → if b (LaidOut f o n s e m) (Refused 16) ≡ LaidOut form order count start end events
-    → (b ≡ true) × (f ≡ form) × (o ≡ order) × (n ≡ count) × (s ≡ start) × (e ≡ end) × (m ≡ events)
+-- an answer that gives a value comes from the first of two
+pub chosen : {A E : Type 0} (b : Bool) {x y : A} (e : E) → if b (Ok x) (Err e) ≡ Ok y → (b ≡ true) × (x ≡ y)
 unfolding if
-chosen true h = (refl, cc, cc, cc, cc, cc, cc)
-chosen false h = absurd (let never : ◌≡◌ {A = ℕ} 0 1 = cc in omega arith)
+chosen true e h = (refl, cc)
+chosen false e h = cc
 
-pub answered : (file : List ℕ) (form : Form) (order : Order) (count start end events : ℕ)
-    → read_of file ≡ LaidOut form order count start end events → Answered file form order count start end events
+-- and one that refuses, the other
+pub unchosen : {A E : Type 0} (b : Bool) (x : A) {d e : E} → if b (Ok x) (Err d) ≡ Err e → (b ≡ false) × (e ≡ d)
+unfolding if
+unchosen true x h = cc
+unchosen false x h = (refl, cc)
+
+pub answered : (file : List ℕ) (layout : Layout) → read_of file ≡ Ok layout → Answered file layout
 unfolding read_of
-answered file form order count start end events h =
-    let q = chosen (is_laid_out file) h in
+answered file layout h =
+    let q = chosen (is_laid_out file) NotLaidOut h in
     record {
       accepted = q.0;
-      form_is = q.1;
-      order_is = q.2;
-      count_is = q.3;
-      start_is = q.4;
-      end_is = q.5;
-      events_are = q.6;
+      form_is = ap (λ (l : Layout). l.form) q.1;
+      order_is = ap (λ (l : Layout). l.order) q.1;
+      count_is = ap (λ (l : Layout). l.count) q.1;
+      start_is = ap (λ (l : Layout). l.start) q.1;
+      end_is = ap (λ (l : Layout). l.end) q.1;
+      events_are = ap (λ (l : Layout). l.events) q.1;
     }
 
 -- and one that refuses from a file that is not
-pub unread : (file : List ℕ) (n : ℕ) → read_of file ≡ Refused n → is_laid_out file ≡ false
-unfolding read_of if
-unread file n h = go (is_laid_out file) refl h
-  where
-    go : (b : Bool) → is_laid_out file ≡ b → read_of file ≡ Refused n → is_laid_out file ≡ false
-    go true e r = absurd (let never : ◌≡◌ {A = ℕ} 0 1 = cc in omega arith)
-    go false e r = e
+pub unread : (file : List ℕ) (refusal : Refusal) → read_of file ≡ Err refusal → is_laid_out file ≡ false
+unfolding read_of
+unread file refusal h = (unchosen (is_laid_out file) _ h).0

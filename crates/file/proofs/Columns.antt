@@ -4,7 +4,11 @@ use mathlib.Core.Logic.{⊎_elim}
 use Prim.Native.Nat.{ℕ, zero, suc, ◌≤◌, ◌<◌}
 use native.Mathlib.Omega.{arith}
 use lib.Dec.{ltb}
-use lib.ListN.{get_or, get_or-eq_default}
+use native.Mathlib.Numerals.{add-one}
+use mathlib.Core.List.{List, map}
+use lib.ListN.{length, get_or, get_or-eq_default}
+use Rattle.std.specs.List.{range_with_len}
+use Rattle.std.proofs.lemmas.List.FromFn.{map-range_with_len_more, fill_by_all}
 use borrow.Author.Tests.{lt-ltb, le-ltb}
 use Rattle.table.specs.Fold.{if, list_to}
 use Rattle.table.proofs.Tests.{le_or_lt}
@@ -64,3 +68,13 @@ column_again f n =
     (λ (u : n ≤ i). past (λ i. get_or (column f n) i 0) n i u ∙ sym (past f n i u))
     (λ (u : i < n). below (λ i. get_or (column f n) i 0) n i u ∙ get_d_list_to (λ i. if (ltb i n) (f i) 0) 0 8 i l)
     (le_or_lt n i))
+
+-- a list whose numbers are those of a rule is that list, and so is a column
+list_range : {A : Type 0} (f : ℕ → A) (n : ℕ) → list_to f n ≡ map f (range_with_len 0 n)
+unfolding list_to
+list_range f zero = refl
+list_range f (suc n) = rw (list_range f n) (sym (rw add-one at (map-range_with_len_more f 0 n n (omega arith))))
+
+pub column_is : (f : ℕ → ℕ) (n : ℕ) (cells : List ℕ) → length cells ≡ 8 → ((k : ℕ) → k < 8 → get_or cells k 0 ≡ if (ltb k n) (f k) 0) → cells ≡ column f n
+unfolding column
+column_is f n cells long each = fill_by_all (λ k. if (ltb k n) (f k) 0) cells 8 0 long each ∙ sym (list_range (λ k. if (ltb k n) (f k) 0) 8)

@@ -1,10 +1,10 @@
+pub mod Choices
 pub mod Bounds
 pub mod Forms
 pub mod Columns
 pub mod Lengths
 pub mod Stores
 pub mod Heads
-pub mod EventKinds
 pub mod Trace
 pub mod Accepted
 pub mod Outlines

@@ -9,6 +9,7 @@ use borrow.Author.Tests.{eqb-true, le-ltb}
 use lib.Dec.{eqb}
 use lib.ListN.{length, take, drop}
 use lib.Seq.{take_at, drop_at}
+use Rattle.std.specs.declared.result.Result.TheVariants.{Ok, Err}
 use Rattle.table.specs.Fold.{if}
 use Rattle.table.specs.Refusal.{given}
 use Rattle.table.specs.declared.Table.{Table}
@@ -19,19 +20,19 @@ use Rattle.order.specs.declared.Order.TheVariants.{Nearest, Sweep}
 use Rattle.cells.specs.Cells.{cell, number_at, Bytes}
 use Rattle.cells.proofs.Numbers.{number_lt}
 use Rattle.file.specs.File.{table_start, third_length, third_body, entry, contents, table_body, file_of}
-use Rattle.file.specs.Reading.{events_in, form_in, start_in, table_length, part, count_at, trace_start, trace_end, order_in, trace_in, table_at, table_in, is_laid_out, read_of}
+use Rattle.file.specs.Reading.{events_in, form_in, start_in, table_length, part, count_at, trace_start, trace_end, order_in, trace_in, table_at, table_in, is_laid_out, laid_out, read_of}
 use Rattle.file.specs.Writing.{is_writable, write_refusal, write_of, written_on}
-use Rattle.file.specs.Laws.{Words, trimmed, WrittenIsWithin, WrittenReadsBack, RefusedChangesNothing, RestIsUnchanged, TableReadIsTrimmed, AcceptedWritesBack, AcceptedAreTheWritten, Within, AcceptedIsWithin, LongestFile, old_file, TwoMeansNearest, SweepNeedsThree, ThreeEntries, AcceptedHasItsEntries, OthersAreRefused, OldFileReads}
+use Rattle.file.specs.Laws.{Words, trimmed, WrittenIsWithin, WrittenReadsBack, RefusedChangesNothing, RestIsUnchanged, TableReadIsTrimmed, AcceptedWritesBack, AcceptedAreTheWritten, AcceptedIsWithin, LongestFile, old_file, TwoMeansNearest, SweepNeedsThree, ThreeEntries, AcceptedHasItsEntries, OthersAreRefused, OldFileReads}
 use Rattle.file.specs.declared.form.Form.{Form}
 use Rattle.file.specs.declared.form.Form.TheVariants.{Two, Three}
-use Rattle.file.specs.declared.Reading.TheVariants.{LaidOut, Refused as NotLaidOut}
-use Rattle.file.specs.declared.Writing.TheVariants.{Written, Refused}
+use Rattle.file.specs.Refusal.{refusal_of}
+use Rattle.file.specs.declared.refusal.Refusal.TheVariants.{Layout as NotLaidOut}
 use Rattle.file.proofs.Forms.{start_low, third_low, order_placed}
 use Rattle.file.proofs.Columns.{column_lt, column_again}
 use Rattle.file.proofs.Lengths.{length_file}
 use Rattle.file.proofs.Trace.{trace_of_lem}
 use Rattle.file.proofs.Traces.{old_trace_reads}
-use Rattle.file.proofs.Accepted.{entry_of, Contents, accepted_of, answered, read_refused, read_accepted}
+use Rattle.file.proofs.Accepted.{entry_of, Contents, accepted_of, chosen, unchosen, answered, read_refused, read_accepted}
 use Rattle.file.proofs.Writes.{count_refused, rest_refused, room_decides, is_writable_lem, writable_of, write_refused, write_done}
 use Rattle.file.proofs.WriteBack.{length_trace, write_back}
 use Rattle.file.proofs.ReadBack.{form_back, order_back, table_back, count_back, start_back, end_back, trace_back, laid_back}
@@ -71,7 +72,7 @@ accepted_are_the_written = (laid_back, λ file b h. (writable_back file h, sym (
 -- what reading says of the file that can be written
 pub reads_back : (form : Form) (order : Order) (t : Table) (trace : List ℕ) → Words t → is_writable form order t trace ≡ true
     → let start = table_start form + table_length t.count in
-    read_of (file_of form order t trace) ≡ LaidOut form order t.count start (start + length trace) (events_in trace)
+    read_of (file_of form order t trace) ≡ Ok (laid_out form order t.count start (start + length trace) (events_in trace))
 reads_back form order t trace q right =
     read_accepted (file_of form order t trace) (laid_back form order t trace q right)
     ∙ rw (
@@ -85,18 +86,13 @@ reads_back form order t trace q right =
 
 -- ---- what was written reads back
 
-wrote : (b : Bool) (refusal : ℕ) {size n : ℕ} → if b (Written size) (Refused refusal) ≡ Written n → (b ≡ true) × (size ≡ n)
-unfolding if
-wrote true refusal h = (refl, cc)
-wrote false refusal h = absurd (let never : ◌≡◌ {A = ℕ} 0 1 = cc in omega arith)
-
 -- an answer that gives a length comes from a file that was written, and it is its length
-pub written : (form : Form) (order : Order) (t : Table) (trace out : List ℕ) (n : ℕ) → write_of form order t trace out ≡ Written n
+pub written : (form : Form) (order : Order) (t : Table) (trace out : List ℕ) (n : ℕ) → write_of form order t trace out ≡ Ok n
     → (write_refusal form order t trace (length out) ≡ 0) × (length (file_of form order t trace) ≡ n)
 unfolding write_of
 written form order t trace out n h =
     let refusal = write_refusal form order t trace (length out) in
-    let q = wrote (eqb refusal 0) refusal h in
+    let q = chosen (eqb refusal 0) (refusal_of refusal) h in
     (eqb-true _ _ q.0, q.1)
 
 pub written_is_within : WrittenIsWithin
@@ -122,16 +118,10 @@ rest_is_unchanged form order t trace out n h =
 
 -- ---- what was refused
 
-not_wrote : (b : Bool) (size refusal : ℕ) {n : ℕ} → if b (Written size) (Refused refusal) ≡ Refused n → b ≡ false
-unfolding if
-not_wrote true size refusal h = absurd (let never : ◌≡◌ {A = ℕ} 0 1 = cc in omega arith)
-not_wrote false size refusal h = refl
-
 pub refused_changes_nothing : RefusedChangesNothing
 unfolding write_of written_on if
-refused_changes_nothing form order t trace out n h =
-    let refusal = write_refusal form order t trace (length out) in
-    rw (not_wrote (eqb refusal 0) (length (file_of form order t trace)) refusal h)
+refused_changes_nothing form order t trace out refusal h =
+    rw ((unchosen (eqb (write_refusal form order t trace (length out)) 0) (length (file_of form order t trace)) h).0)
 
 -- ---- what was accepted is written back
 
@@ -153,38 +143,33 @@ fits file out b h room =
     ∙ rw (le-ltb _ _ size)
 
 pub accepted_writes_back : AcceptedWritesBack
-accepted_writes_back file out form order count start end events b h room =
-    let a = answered file form order count start end events h in
+accepted_writes_back file out layout b h room =
+    let a = answered file layout h in
     let same = write_back file b a.accepted in
     let done = write_done (form_in file) (order_in file) (table_in file) (trace_in file) out (fits file out b a.accepted room) in
     rw (← a.start_is, ← a.end_is, ← a.order_is, ← a.form_is) (done.0 ∙ rw same, done.1 ∙ rw same)
 
 -- ---- where the parts of an accepted file are
 
-within : (file : List ℕ) → is_laid_out file ≡ true
-    → Within file (form_in file) (count_at file (start_in file)) (trace_start file) (trace_end file) (events_in (trace_in file))
-within file h =
-    let q = accepted_of file h in
+pub accepted_is_within : AcceptedIsWithin
+accepted_is_within file layout h =
+    let a = answered file layout h in
+    let q = accepted_of file a.accepted in
     let w = trace_of_lem (trace_in file) q.trace_right in
     record {
-      count_high = q.count_high;
-      events_high = w.events_high;
-      in_middle = refl;
-      whole_events = omega (arith, q.long, w.whole, length_trace file q);
-      in_file = omega arith;
-      third_last = omega (arith, q.long);
-      all_formed = w.all_formed;
+      count_high = rw (← a.count_is) q.count_high;
+      events_high = rw (← a.events_are) w.events_high;
+      in_middle = rw (← a.start_is, ← a.form_is, ← a.count_is) refl;
+      whole_events = rw (← a.end_is, ← a.start_is, ← a.events_are) (omega (arith, q.long, w.whole, length_trace file q));
+      in_file = rw (← a.end_is) (omega arith);
+      third_last = rw (← a.end_is, ← a.form_is) (omega (arith, q.long));
+      all_formed = rw (← a.events_are, ← a.start_is, ← a.end_is) w.all_formed;
     }
 
-pub accepted_is_within : AcceptedIsWithin
-accepted_is_within file form order count start end events h =
-    let a = answered file form order count start end events h in
-    rw (← a.count_is, ← a.events_are, ← a.start_is, ← a.end_is, ← a.form_is) (within file a.accepted)
-
 pub longest_file : LongestFile
-longest_file file form order count start end events h =
-    let w = accepted_is_within file form order count start end events h in
-    omega (arith, w.count_high, w.events_high, w.in_middle, w.whole_events, w.third_last, start_low form, third_low form)
+longest_file file layout h =
+    let w = accepted_is_within file layout h in
+    omega (arith, w.count_high, w.events_high, w.in_middle, w.whole_events, w.third_last, start_low layout.form, third_low layout.form)
 
 -- ---- the forms
 
@@ -205,8 +190,7 @@ two_is_nearest file h = rw h refl
 
 pub two_means_nearest : TwoMeansNearest
 two_means_nearest = (
-  λ file order count start end events h.
-      let a = answered file Two order count start end events h in sym a.order_is ∙ two_is_nearest file a.form_is,
+  λ file layout h two. let a = answered file layout h in sym a.order_is ∙ two_is_nearest file (a.form_is ∙ two),
   is_old,
 )
 
@@ -223,9 +207,10 @@ unplaced t trace room =
     (le_or_lt t.count 8)
 
 pub sweep_needs_three : SweepNeedsThree
+unfolding if
 sweep_needs_three t trace out =
     let refusal = unplaced t trace (length out) in
-    let refused = write_refused Two Sweep t trace out 16 (sym refusal) (λ e. omega arith) in
+    let refused = write_refused Two Sweep t trace out NotLaidOut (rw refusal) in
     (refusal, sym refused.0, sym refused.1)
 
 -- what the tests of a form say of its entries
@@ -248,11 +233,11 @@ entries_of Three file start end q last order =
 pub accepted_has_its_entries : AcceptedHasItsEntries
 accepted_has_its_entries file h =
     let q = accepted_of file h in
-    entries_of (form_in file) file (trace_start file) (trace_end file) q.contents_right (within file h).third_last q.order_right
+    entries_of (form_in file) file (trace_start file) (trace_end file) q.contents_right (omega (arith, q.long)) q.order_right
 
 pub others_are_refused : OthersAreRefused
 others_are_refused file two three = go (is_laid_out file) refl
   where
-    go : (b : Bool) → is_laid_out file ≡ b → read_of file ≡ NotLaidOut 16
+    go : (b : Bool) → is_laid_out file ≡ b → read_of file ≡ Err NotLaidOut
     go true e = absurd (⊎_elim two three (accepted_has_its_entries file e))
     go false e = read_refused file e

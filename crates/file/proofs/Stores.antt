@@ -1,9 +1,9 @@
 -- The parts of a file, stored from place to place.
-use mathlib.Core.Bool.{true, false}
+use mathlib.Core.Bool.{true}
 use mathlib.Core.Path.{◌≡◌, refl, sym, ap, ◌∙◌}
 use mathlib.Core.List.{List, ◌++◌}
 use Prim.Native.Nat.{ℕ, suc, ◌+◌, ◌*◌, ◌≤◌, ◌<◌}
-use borrow.Author.Tests.{le-leb, lt-leb}
+use borrow.Author.Tests.{lt-leb}
 use native.Mathlib.Omega.{arith}
 use lib.ListN.{length, drop, length-append}
 use lib.Seq.{sets}
@@ -89,16 +89,7 @@ event_stored out at kind stream tag value =
     )
     (sets_next (b ++ cell 2 0) (cell 8 value) out at 8 eight)
 
--- what is not stored: an event without bytes, and one past the last whole one
-pub refused_unstorable : (trace : List ℕ) (i : ℕ) (e : Event) → is_storable e ≡ false → (16 ≡ put_refusal trace i e) × (trace ≡ with_event trace i e)
-unfolding with_event put_refusal given ◌or_next◌ if
-refused_unstorable trace i e h = rw h (refl, refl)
-
-pub refused_past : (trace : List ℕ) (i : ℕ) (e : Event) → is_storable e ≡ true → events_in trace ≤ i → (17 ≡ put_refusal trace i e) × (trace ≡ with_event trace i e)
-unfolding with_event put_refusal given ◌or_next◌ if
-refused_past trace i e h past = rw (h, le-leb (events_in trace) i past) (refl, refl)
-
--- any other is
+-- an event that is not refused is stored
 pub stored_there : (trace : List ℕ) (i : ℕ) (e : Event) → is_storable e ≡ true → i < events_in trace
     → (0 ≡ put_refusal trace i e) × (sets trace (event_size * i) (bytes_of e) ≡ with_event trace i e)
 unfolding with_event put_refusal given ◌or_next◌ if

@@ -1,6 +1,6 @@
 -- What the test of a trace says.
-use mathlib.Core.Bool.{true, false, ◌&&◌}
-use mathlib.Core.Path.{◌≡◌}
+use mathlib.Core.Bool.{Bool, true, false, ◌&&◌, false≢true}
+use mathlib.Core.Path.{◌≡◌, refl, sym, ◌∙◌}
 use mathlib.Core.List.{List}
 use Prim.Native.Nat.{ℕ, ◌*◌, ◌%◌, ◌≤◌, ◌<◌}
 use native.Mathlib.Omega.{arith}
@@ -29,6 +29,18 @@ trace_of_lem trace h =
       events_high = leb-true _ _ b.1;
       all_formed = all_at (λ i. formed (event_at trace i)) (events_in trace) a.1;
     }
+
+-- it is no longer than 4,000 events
+pub trace_short : (trace : List ℕ) → is_trace trace ≡ true → length trace ≤ 64_000
+trace_short trace h = let w = trace_of_lem trace h in omega (arith, w.whole, w.events_high)
+
+-- one that fails is enough
+pub all_fails : (f : ℕ → Bool) (n i : ℕ) → i < n → f i ≡ false → all_to f n ≡ false
+all_fails f n i l h = go (all_to f n) refl
+  where
+    go : (b : Bool) → all_to f n ≡ b → b ≡ false
+    go true e = absurd (false≢true (sym h ∙ all_at f n e i l))
+    go false e = refl
 
 -- the length decides first, then the events
 module _ (trace : List ℕ) where

@@ -1,5 +1,6 @@
 -- What is proved of the session file.
 use Rattle.std.specs.Prelude.{true, ◌⊎◌, ◌≡◌, List, [], ◌∷◌, ◌++◌, ℕ, ◌+◌, ◌*◌, ◌%◌, ◌^◌, ◌≤◌, ◌<◌, length, take, drop}
+use Rattle.std.specs.declared.result.Result.TheVariants.{Ok, Err}
 use Rattle.table.specs.Fold.{list_to}
 use Rattle.table.specs.Ranges.{streams_max}
 use Rattle.table.specs.Admission.{reserved_at, period_at}
@@ -9,11 +10,12 @@ use Rattle.order.specs.Order.{is_order}
 use Rattle.order.specs.declared.Order.{Order}
 use Rattle.order.specs.declared.Order.TheVariants.{Nearest, Sweep}
 use Rattle.file.specs.File.{table_start, third_length, is_third_length, form_of_third, entry, table_body, event_size, events_max, bytes_of, trace_of, file_of}
-use Rattle.file.specs.Reading.{event_of, event_from, events_in, event_at, formed, is_trace, form_in, table_length, part, order_in, table_in, trace_in, column, is_laid_out, read_of}
+use Rattle.file.specs.Reading.{event_of, event_from, events_in, event_at, formed, is_trace, form_in, table_length, part, order_in, table_in, trace_in, column, is_laid_out, laid_out, read_of}
 use Rattle.file.specs.Writing.{is_writable, write_refusal, write_of, written_on, put_refusal, with_event}
 use Rattle.file.specs.Listing.{listing_table, listing_events, listing_file, sweep_events, sweep_file}
-use Rattle.file.specs.declared.Reading.TheVariants.{LaidOut, Refused as NotLaidOut}
-use Rattle.file.specs.declared.Writing.TheVariants.{Written, Refused}
+use Rattle.file.specs.declared.Layout.{Layout}
+use Rattle.file.specs.declared.refusal.Refusal.{Refusal}
+use Rattle.file.specs.declared.refusal.Refusal.TheVariants.{Layout as NotLaidOut}
 use Rattle.file.specs.declared.form.Form.{Form}
 use Rattle.file.specs.declared.form.Form.TheVariants.{Two, Three}
 use Rattle.file.specs.declared.event.Event.{Event}
@@ -42,11 +44,11 @@ trimmed t =
 -- "A written session file reads back to the same table and trace", and to the same form and order: whatever stood in the buffer, and whatever stands after the file
 abbrev pub WrittenReadsBack : Type 0
 WrittenReadsBack =
-    (form : Form) (order : Order) (t : Table) (trace out : List ℕ) (n : ℕ) → Words t → write_of form order t trace out ≡ Written n
+    (form : Form) (order : Order) (t : Table) (trace out : List ℕ) (n : ℕ) → Words t → write_of form order t trace out ≡ Ok n
     → let file = take n (written_on form order t trace out) in
     let start = table_start form + table_length t.count in
     let end = start + length trace in
-    (read_of file ≡ LaidOut form order t.count start end (events_in trace)) × (table_in file ≡ trimmed t) × (part start end file ≡ trace)
+    (read_of file ≡ Ok (laid_out form order t.count start end (events_in trace))) × (table_in file ≡ trimmed t) × (part start end file ≡ trace)
 
 -- A table that was read has numbers of 32 bits and nothing past its count. So it is read back as it is.
 abbrev pub TableReadIsTrimmed : Type 0
@@ -55,27 +57,28 @@ TableReadIsTrimmed = (file : List ℕ) → Bytes file → Words (table_in file) 
 -- "an accepted file is written again byte for byte"; document 02, Req 08: "a file is written back with as many entries as it had"
 abbrev pub AcceptedWritesBack : Type 0
 AcceptedWritesBack =
-    (file out : List ℕ) (form : Form) (order : Order) (count start end events : ℕ)
-    → Bytes file → read_of file ≡ LaidOut form order count start end events → length file ≤ length out
-    → (write_of form order (table_in file) (part start end file) out ≡ Written (length file))
-    × (written_on form order (table_in file) (part start end file) out ≡ file ++ drop (length file) out)
+    (file out : List ℕ) (layout : Layout)
+    → Bytes file → read_of file ≡ Ok layout → length file ≤ length out
+    → let trace = part layout.start layout.end file in
+    (write_of layout.form layout.order (table_in file) trace out ≡ Ok (length file))
+    × (written_on layout.form layout.order (table_in file) trace out ≡ file ++ drop (length file) out)
 
 -- "A refused call returns its number and changes no byte of session or buffer."
 abbrev pub RefusedChangesNothing : Type 0
 RefusedChangesNothing =
-    (form : Form) (order : Order) (t : Table) (trace out : List ℕ) (n : ℕ)
-    → write_of form order t trace out ≡ Refused n → written_on form order t trace out ≡ out
+    (form : Form) (order : Order) (t : Table) (trace out : List ℕ) (refusal : Refusal)
+    → write_of form order t trace out ≡ Err refusal → written_on form order t trace out ≡ out
 
 -- the file that is written is within the buffer
 abbrev pub WrittenIsWithin : Type 0
 WrittenIsWithin =
-    (form : Form) (order : Order) (t : Table) (trace out : List ℕ) (n : ℕ) → write_of form order t trace out ≡ Written n → n ≤ length out
+    (form : Form) (order : Order) (t : Table) (trace out : List ℕ) (n : ℕ) → write_of form order t trace out ≡ Ok n → n ≤ length out
 
 -- "Writing leaves bytes after the file unchanged"
 abbrev pub RestIsUnchanged : Type 0
 RestIsUnchanged =
     (form : Form) (order : Order) (t : Table) (trace out : List ℕ) (n : ℕ)
-    → write_of form order t trace out ≡ Written n → drop n (written_on form order t trace out) ≡ drop n out
+    → write_of form order t trace out ≡ Ok n → drop n (written_on form order t trace out) ≡ drop n out
 
 -- "Anything else is 16": the files that are accepted are those of some form, order, table and trace that can be written, and no others.
 abbrev pub AcceptedAreTheWritten : Type 0
@@ -87,25 +90,21 @@ AcceptedAreTheWritten =
     × (file ≡ file_of (form_in file) (order_in file) (table_in file) (trace_in file)))
 
 -- The trace of an accepted file is a part of it, and no event of it is malformed. The third body comes after it and ends the file.
-pub record Within (file : List ℕ) (form : Form) (count start end events : ℕ) : Type 0 where
-  pub count_high : count ≤ streams_max
-  pub events_high : events ≤ events_max
-  pub in_middle : start ≡ table_start form + table_length count
-  pub whole_events : end ≡ start + event_size * events
-  pub in_file : end ≤ length file
-  pub third_last : end + third_length form ≡ length file
-  pub all_formed : (i : ℕ) → i < events → formed (event_at (part start end file) i) ≡ true
+pub record Within (file : List ℕ) (layout : Layout) : Type 0 where
+  pub count_high : layout.count ≤ streams_max
+  pub events_high : layout.events ≤ events_max
+  pub in_middle : layout.start ≡ table_start layout.form + table_length layout.count
+  pub whole_events : layout.end ≡ layout.start + event_size * layout.events
+  pub in_file : layout.end ≤ length file
+  pub third_last : layout.end + third_length layout.form ≡ length file
+  pub all_formed : (i : ℕ) → i < layout.events → formed (event_at (part layout.start layout.end file) i) ≡ true
 
 abbrev pub AcceptedIsWithin : Type 0
-AcceptedIsWithin =
-    (file : List ℕ) (form : Form) (order : Order) (count start end events : ℕ)
-    → read_of file ≡ LaidOut form order count start end events → Within file form count start end events
+AcceptedIsWithin = (file : List ℕ) (layout : Layout) → read_of file ≡ Ok layout → Within file layout
 
 -- the longest file that is accepted has 64,122 bytes
 abbrev pub LongestFile : Type 0
-LongestFile =
-    (file : List ℕ) (form : Form) (order : Order) (count start end events : ℕ)
-    → read_of file ≡ LaidOut form order count start end events → length file ≤ 64_122
+LongestFile = (file : List ℕ) (layout : Layout) → read_of file ≡ Ok layout → length file ≤ 64_122
 
 -- ---- the forms
 
@@ -124,14 +123,14 @@ old_file t trace =
 -- Document 02, Req 08: "a file with two entries means nearest", and it is what it was.
 abbrev pub TwoMeansNearest : Type 0
 TwoMeansNearest =
-    ((file : List ℕ) (order : Order) (count start end events : ℕ) → read_of file ≡ LaidOut Two order count start end events → order ≡ Nearest)
+    ((file : List ℕ) (layout : Layout) → read_of file ≡ Ok layout → layout.form ≡ Two → layout.order ≡ Nearest)
     × ((order : Order) (t : Table) (trace : List ℕ) → file_of Two order t trace ≡ old_file t trace)
 
 -- So a sweep cannot be written in two entries.
 abbrev pub SweepNeedsThree : Type 0
 SweepNeedsThree =
     (t : Table) (trace out : List ℕ)
-    → (write_refusal Two Sweep t trace (length out) ≡ 16) × (write_of Two Sweep t trace out ≡ Refused 16) × (written_on Two Sweep t trace out ≡ out)
+    → (write_refusal Two Sweep t trace (length out) ≡ 16) × (write_of Two Sweep t trace out ≡ Err NotLaidOut) × (written_on Two Sweep t trace out ≡ out)
 
 -- what the contents table and the third body of a file of three entries say
 pub record ThreeEntries (file : List ℕ) : Type 0 where
@@ -149,7 +148,7 @@ AcceptedHasItsEntries = (file : List ℕ) → is_laid_out file ≡ true → (num
 
 -- and any others are refused.
 abbrev pub OthersAreRefused : Type 0
-OthersAreRefused = (file : List ℕ) → (number_at 2 file 0 ≡ 2 → ⊥) → (ThreeEntries file → ⊥) → read_of file ≡ NotLaidOut 16
+OthersAreRefused = (file : List ℕ) → (number_at 2 file 0 ≡ 2 → ⊥) → (ThreeEntries file → ⊥) → read_of file ≡ Err NotLaidOut
 
 -- ---- events
 
@@ -227,14 +226,14 @@ abbrev pub OldFileReads : Type 0
 OldFileReads =
     (t : Table) (trace : List ℕ) → Words t → t.count ≤ streams_max → OldTrace trace
     → let start = 26 + table_length t.count in
-    read_of (old_file t trace) ≡ LaidOut Two Nearest t.count start (start + length trace) (events_in trace)
+    read_of (old_file t trace) ≡ Ok (laid_out Two Nearest t.count start (start + length trace) (events_in trace))
 
 -- ---- worked cases
 
 -- Listing (P) is read as document 01 gives it, and it is the file of its table and its events.
 abbrev pub ListingReads : Type 0
 ListingReads =
-    (read_of listing_file ≡ LaidOut Two Nearest 2 58 234 11)
+    (read_of listing_file ≡ Ok (laid_out Two Nearest 2 58 234 11))
     × (table_in listing_file ≡ listing_table)
     × (list_to (event_at (trace_in listing_file)) 11 ≡ listing_events)
     × (file_of Two Nearest listing_table (trace_of listing_events) ≡ listing_file)
@@ -242,7 +241,7 @@ ListingReads =
 -- and a file of three entries, of its table, one arrival and the order sweep.
 abbrev pub SweepReads : Type 0
 SweepReads =
-    (read_of sweep_file ≡ LaidOut Three Sweep 2 70 86 1)
+    (read_of sweep_file ≡ Ok (laid_out Three Sweep 2 70 86 1))
     × (table_in sweep_file ≡ listing_table)
     × (list_to (event_at (trace_in sweep_file)) 1 ≡ sweep_events)
     × (file_of Three Sweep listing_table (trace_of sweep_events) ≡ sweep_file)

@@ -1,4 +1,5 @@
 pub mod File
+pub mod Refusal
 pub mod Reading
 pub mod Writing
 pub mod Listing

@@ -1,5 +1,7 @@
 -- What reading makes of any bytes.
 use Rattle.std.specs.Prelude.{Bool, true, false, not, ◌&&◌, List, ℕ, ◌+◌, ◌-◌, ◌*◌, ◌/◌, ◌%◌, leb, ltb, eqb, length, take, drop}
+use Rattle.std.specs.declared.result.Result.{Result}
+use Rattle.std.specs.declared.result.Result.TheVariants.{Ok, Err}
 use Rattle.table.specs.Fold.{if, all_to, list_to}
 use Rattle.table.specs.Ranges.{streams_max}
 use Rattle.table.specs.declared.Table.{Table}
@@ -10,9 +12,9 @@ use Rattle.file.specs.File.{entries_of, table_start, third_length, events_max, e
 use Rattle.file.specs.declared.form.Form.{Form}
 use Rattle.file.specs.declared.form.Form.TheVariants.{Two, Three}
 use Rattle.file.specs.declared.outline.Outline.{Outline}
-use Rattle.file.specs.declared.outline.Outline.TheVariants.{Outlined, Refused as Unfit}
-use Rattle.file.specs.declared.Reading.{Reading}
-use Rattle.file.specs.declared.Reading.TheVariants.{LaidOut, Refused}
+use Rattle.file.specs.declared.Layout.{Layout}
+use Rattle.file.specs.declared.refusal.Refusal.{Refusal}
+use Rattle.file.specs.declared.refusal.Refusal.TheVariants.{Layout as NotLaidOut}
 use Rattle.file.specs.declared.event.Event.{Event}
 use Rattle.file.specs.declared.event.Event.TheVariants.{Arrival, Turn, OwnTurn, Done, Clock, Malformed}
 
@@ -151,9 +153,11 @@ abbrev pub is_outlined : List ℕ → Bool
 is_outlined file = leb (count_at file (start_in file)) streams_max && leb (trace_start file + third_length (form_in file)) (length file)
 
 -- where the parts of any bytes are, before anything in them is judged but the count
-unfoldable pub outline_of : List ℕ → Outline
+unfoldable pub outline_of : List ℕ → Result Outline Refusal
 outline_of file =
-    if (is_outlined file) (Outlined (form_in file) (count_at file (start_in file)) (trace_start file) (trace_end file)) (Unfit 16)
+    if (is_outlined file)
+    (Ok (record { form = form_in file; count = count_at file (start_in file); start = trace_start file; end = trace_end file }))
+    (Err NotLaidOut)
 
 -- of the order "another value [..] is 16"; and "Reading does not judge the table"
 unfoldable pub is_laid_out : List ℕ → Bool
@@ -163,9 +167,14 @@ is_laid_out file =
     && is_order (third_in file)
     && is_trace (trace_in file)
 
+-- what reading says of a file that is
+abbrev pub laid_out : Form → Order → ℕ → ℕ → ℕ → ℕ → Layout
+laid_out form order count start end events =
+    record { form = form; order = order; count = count; start = start; end = end; events = events }
+
 -- "Anything else is 16."
-unfoldable pub read_of : List ℕ → Reading
+unfoldable pub read_of : List ℕ → Result Layout Refusal
 read_of file =
     if (is_laid_out file)
-    (LaidOut (form_in file) (order_in file) (count_at file (start_in file)) (trace_start file) (trace_end file) (events_in (trace_in file)))
-    (Refused 16)
+    (Ok (laid_out (form_in file) (order_in file) (count_at file (start_in file)) (trace_start file) (trace_end file) (events_in (trace_in file))))
+    (Err NotLaidOut)

@@ -1,6 +1,7 @@
 -- Writing a session file, and an event of a trace, into a buffer that is lent.
 use Rattle.std.specs.Prelude.{Bool, true, false, not, ◌&&◌, List, ◌++◌, ℕ, ◌*◌, leb, ltb, eqb, length, drop}
 use Rattle.std.proofs.lemmas.List.Edits.{sets}
+use Rattle.std.specs.declared.result.Result.{Result}
 use Rattle.table.specs.Fold.{if}
 use Rattle.table.specs.Refusal.{given, ◌or_next◌}
 use Rattle.table.specs.Ranges.{streams_max}
@@ -9,8 +10,8 @@ use Rattle.order.specs.Order.{order_number}
 use Rattle.order.specs.declared.Order.{Order}
 use Rattle.file.specs.File.{contents, table_body, file_of, events_max, event_size, bytes_of}
 use Rattle.file.specs.Reading.{events_in, is_trace}
-use Rattle.file.specs.declared.Writing.{Writing}
-use Rattle.file.specs.declared.Writing.TheVariants.{Written, Refused}
+use Rattle.file.specs.Refusal.{answer_by}
+use Rattle.file.specs.declared.refusal.Refusal.{Refusal}
 use Rattle.file.specs.declared.form.Form.{Form}
 use Rattle.file.specs.declared.form.Form.TheVariants.{Two, Three}
 use Rattle.file.specs.declared.event.Event.{Event}
@@ -31,10 +32,10 @@ write_refusal form order t trace room =
     given (not (is_writable form order t trace)) 16
     or_next given (ltb room (length (file_of form order t trace))) 17
 
-unfoldable pub write_of : Form → Order → Table → List ℕ → List ℕ → Writing
+-- how long the file is, or the refusal
+unfoldable pub write_of : Form → Order → Table → List ℕ → List ℕ → Result ℕ Refusal
 write_of form order t trace out =
-    let refusal = write_refusal form order t trace (length out) in
-    if (eqb refusal 0) (Written (length (file_of form order t trace))) (Refused refusal)
+    answer_by (write_refusal form order t trace (length out)) (length (file_of form order t trace))
 
 -- "Writing leaves bytes after the file unchanged"; "A refused call returns its number and changes no byte of session or buffer."
 unfoldable pub written_on : Form → Order → Table → List ℕ → List ℕ → List ℕ

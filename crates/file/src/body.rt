@@ -9,6 +9,7 @@ ghost use Rattle.file.specs.Reading.{table_length, column, table_at};
 
 use crate::word::{put_word, word_at};
 use cells::put_number;
+use std::array;
 use table::Table;
 
 // Where in a table body the streams start, and where the period of the first is; and how many bytes e and p of a stream have.
@@ -49,16 +50,11 @@ fn column_at(file: &[u8], from: usize, count: usize) -> [u32; Table::STREAMS_MAX
     requires { from ≤ table_start_max + 20 }
     ensures { result ≡ column (λ i. number_at 4 file.now (from + 8 * i)) count }
 {
-    let mut numbers = [0u32; Table::STREAMS_MAX];
-    let mut i = 0;
-    while i < Table::STREAMS_MAX {
-        numbers[i] = used_at(file, from, count, i);
-        i += 1;
-    }
-    numbers
+    array::from_fn(|i| used_at(file, from, count, i))
 }
 
 // The number of the stream at i, or 0 past the count.
+#[tactic(auto, using(crate::proofs::Choices::choices))]
 fn used_at(file: &[u8], from: usize, count: usize, i: usize) -> u32
     requires { (from ≤ table_start_max + 20) × (i < streams_max) }
     ensures { result ≡ if (ltb i count) (number_at 4 file.now (from + 8 * i)) 0 }
@@ -83,17 +79,14 @@ pub(crate) fn put_table(out: &mut [u8], at: usize, table: Table)
 }
 
 // Stores e and p of each stream from an index on.
+#[tactic(auto, using(crate::proofs::Stores::stream_stored), unfolding(crate::specs::File::stream_cells))]
 fn put_streams(out: &mut [u8], at: usize, table: Table)
     requires { (at ≤ table_start_max + 16) × (table.count ≤ streams_max) }
     ensures { out.new ≡ sets out.old at (stream_cells table table.count) }
 {
-    let reserved = table.reserved;
-    let period = table.period;
-    let mut i = 0;
-    while i < table.count {
+    for i in 0..table.count {
         let cell = at + STREAM_SIZE * i;
-        put_word(out, cell, reserved[i]);
-        put_word(out, cell + 4, period[i]);
-        i += 1;
+        put_word(out, cell, table.reserved[i]);
+        put_word(out, cell + 4, table.period[i]);
     }
 }

@@ -3,14 +3,16 @@ ghost use Rattle.std.specs.Prelude.{◌≡◌, ◌+◌, ◌≤◌, ◌^◌};
 ghost use Rattle.std.proofs.lemmas.List.Edits.{sets};
 ghost use Rattle.table.specs.Fold.{all_to};
 ghost use Rattle.file.specs.File.{event_size, event_cells, bytes_of};
+ghost use Rattle.file.specs.Refusal.{answer_by};
 ghost use Rattle.file.specs.Reading.{event_of, event_at, formed, is_trace};
 ghost use Rattle.file.specs.Writing.{is_storable, put_refusal, with_event};
 
+use crate::refusal::Refusal;
 use crate::word::{put_word, word_at};
 use cells::{number_at, put_number};
 
 // What an event asks for. Streams are counted from 1, a queue's places from 0.
-#[derive(Clone, Copy)]
+#[derive(Clone, Copy, Debug, PartialEq, Eq)]
 pub enum Event {
     Arrival { stream: u64, place: u64, tag: u32 },
     Turn,
@@ -30,6 +32,7 @@ impl Event {
 }
 
 // The event at i of a trace, counted from 0; past the last one, Malformed.
+#[tactic(auto, using(crate::proofs::Choices::choices), unfolding(crate::specs::Reading::event_at, crate::specs::Reading::event_from))]
 pub fn event_at(trace: &[u8], i: usize) -> Event
     ensures { result ≡ event_at trace.now i }
 {
@@ -49,53 +52,45 @@ pub fn event_at(trace: &[u8], i: usize) -> Event
 }
 
 // The event of a kind, a stream, a tag and a value; only an arrival has a tag.
+#[tactic(auto, using(crate::proofs::Choices::choices), unfolding(crate::specs::Reading::event_of))]
 fn event_of(kind: u64, stream: u64, tag: u32, value: u64) -> Event
     ensures { result ≡ event_of kind stream tag value }
 {
-    if kind == 1 {
-        return Event::Arrival {
+    match (kind, stream, tag, value) {
+        (1, _, _, _) => Event::Arrival {
             stream,
             place: value,
             tag,
-        };
-    }
-    if tag != 0 {
-        return Event::Malformed;
-    }
-    if (kind == 2) & (stream == 0) & (value == 0) {
-        return Event::Turn;
-    }
-    if kind == 3 {
-        return Event::OwnTurn {
+        },
+        (2, 0, 0, 0) => Event::Turn,
+        (3, _, 0, _) => Event::OwnTurn {
             stream,
             index: value,
-        };
+        },
+        (4, 0, 0, _) => Event::Done { duration: value },
+        (5, 0, 0, _) => Event::Clock { time: value },
+        _ => Event::Malformed,
     }
-    if (kind == 4) & (stream == 0) {
-        return Event::Done { duration: value };
-    }
-    if (kind == 5) & (stream == 0) {
-        return Event::Clock { time: value };
-    }
-    Event::Malformed
 }
 
-// Stores an event at i of a trace, counted from 0: 0, or 16, 17 and nothing is stored.
-pub fn put_event(trace: &mut [u8], i: usize, event: Event) -> u64
-    ensures value { result ≡ put_refusal trace.old i event }
+// Stores an event at i of a trace, counted from 0, or refuses and stores nothing.
+#[tactic(auto, using(crate::proofs::Choices::choices), unfolding(crate::specs::Writing::put_refusal, crate::specs::Writing::with_event))]
+pub fn put_event(trace: &mut [u8], i: usize, event: Event) -> Result<(), Refusal>
+    ensures value { result ≡ answer_by (put_refusal trace.old i event) tt }
     ensures trace_after { trace.new ≡ with_event trace.old i event }
 {
     if !is_storable(event) {
-        return 16;
+        return Err(Refusal::Layout);
     }
     if trace.len() / Event::SIZE <= i {
-        return 17;
+        return Err(Refusal::Room);
     }
     put_bytes_of(trace, Event::SIZE * i, event);
-    0
+    Ok(())
 }
 
 // Whether an event has bytes: it is not malformed, and its stream has room in one byte.
+#[tactic(auto, unfolding(crate::specs::Writing::is_storable))]
 fn is_storable(event: Event) -> bool
     ensures { result ≡ is_storable event }
 {
@@ -138,33 +133,26 @@ fn put_cells(trace: &mut [u8], at: usize, kind: u64, stream: u64, tag: u32, valu
 pub fn is_formed(event: Event) -> bool
     ensures { result ≡ formed event }
 {
-    if let Event::Malformed = event {
-        false
-    } else {
-        true
-    }
+    event != Event::Malformed
 }
 
 // Whether a trace body is as laid out.
+#[tactic(auto, unfolding(crate::specs::Reading::is_trace))]
 pub(crate) fn is_trace(trace: &[u8]) -> bool
     ensures { result ≡ is_trace trace.now }
 {
     let events = trace.len() / Event::SIZE;
-    if (trace.len() % Event::SIZE == 0) & (events <= Event::MOST) {
-        all_formed(trace, events)
-    } else {
-        false
-    }
+    (trace.len() % Event::SIZE == 0) & (events <= Event::MOST) && all_formed(trace, events)
 }
 
+#[tactic(auto, using(table::proofs::Folds::all_of, crate::proofs::Trace::all_fails))]
 fn all_formed(trace: &[u8], events: usize) -> bool
     ensures { result ≡ all_to (λ i. formed (event_at trace.now i)) events }
 {
-    let mut all = true;
-    let mut i = 0;
-    while i < events {
-        all = all & is_formed(event_at(trace, i));
-        i += 1;
+    for i in 0..events {
+        if !is_formed(event_at(trace, i)) {
+            return false;
+        }
     }
-    all
+    true
 }

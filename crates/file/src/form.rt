@@ -1,5 +1,5 @@
 // The forms of a session file: how many entries its contents table has, and how long its third body is.
-ghost use Rattle.std.specs.Prelude.{◌≡◌};
+ghost use Rattle.std.specs.Prelude.{◌≡◌, true, OkIff};
 ghost use Rattle.file.specs.File.{entries_of, table_start, third_length, is_third_length, form_of_third};
 ghost use Rattle.file.specs.Reading.{form_in};
 ghost use Rattle.file.specs.Writing.{has_place};
@@ -8,11 +8,15 @@ use cells::number_at;
 use order::Order;
 
 // A file of two entries, whose order is nearest; or one of three, which says its order.
-#[derive(Clone, Copy)]
+#[derive(Clone, Copy, Debug, PartialEq, Eq)]
 pub enum Form {
     Two,
     Three,
 }
+
+// A number is the length of no form's third body.
+#[derive(Clone, Copy, Debug, PartialEq, Eq)]
+pub struct UnknownLength;
 
 impl Form {
     // How many bytes count the entries, and how many an entry and an order have.
@@ -48,36 +52,35 @@ impl Form {
         }
     }
 
-    // Whether a number is the length of some form's third body.
-    pub fn is_third(number: u64) -> bool
-        ensures { result ≡ is_third_length number }
-    {
-        let form = Form::of_third(number);
-        number == form.third()
-    }
-
-    // The form whose third body has this length; of any other, that of two entries.
-    pub fn of_third(number: u64) -> Form
-        ensures { result ≡ form_of_third number }
-    {
-        if number == Form::ORDER_SIZE {
-            return Form::Three;
-        }
-        Form::Two
-    }
-
     // Whether a file of this form has a place for an order: one of two entries means nearest.
     pub(crate) fn has_place(self, order: Order) -> bool
         ensures { result ≡ has_place self order }
     {
         match self {
-            Form::Two => order.number() == 0,
+            Form::Two => order == Order::Nearest,
             Form::Three => true,
         }
     }
 }
 
+// The form whose third body has this length.
+impl TryFrom<u64> for Form {
+    type Error = UnknownLength;
+
+    ghost try_from_gives = { λ number result. OkIff result (is_third_length number ≡ true) (form_of_third number) };
+
+    #[tactic(auto, using(crate::proofs::Choices::choices), unfolding(crate::specs::File::is_third_length, crate::specs::File::form_of_third))]
+    fn try_from(number: u64) -> Result<Form, UnknownLength> {
+        match number {
+            0 => Ok(Form::Two),
+            Form::ORDER_SIZE => Ok(Form::Three),
+            _ => Err(UnknownLength),
+        }
+    }
+}
+
 // The form of any bytes, by the number of entries that they say.
+#[tactic(auto, using(crate::proofs::Choices::choices), unfolding(crate::specs::Reading::form_in))]
 pub(crate) fn form_in(file: &[u8]) -> Form
     ensures { result ≡ form_in file.now }
 {

@@ -7,85 +7,62 @@ mod event;
 mod form;
 mod head;
 mod outline;
+mod refusal;
 mod word;
 
-ghost use Rattle.std.specs.Prelude.{◌≡◌, ◌+◌, ◌*◌, ◌≤◌};
+ghost use Rattle.std.specs.Prelude.{◌≡◌, ◌+◌, ◌*◌, ◌≤◌, length};
 ghost use Rattle.table.specs.Ranges.{streams_max};
-ghost use Rattle.file.specs.File.{table_start, third_length, events_max, event_size};
-ghost use Rattle.file.specs.Reading.{table_length, table_in, outline_of, read_of};
+ghost use Rattle.file.specs.File.{table_start, third_length, events_max, event_size, file_of};
+ghost use Rattle.file.specs.Refusal.{answer_by};
+ghost use Rattle.file.specs.Reading.{table_length, table_in, read_of};
 ghost use Rattle.file.specs.Writing.{write_refusal, write_of, written_on};
-ghost use Rattle.file.specs.declared.outline.Outline.TheVariants.{Outlined};
 
 use body::{table_at, table_length};
 use cells::{number_at, put_bytes, put_number};
 use contents::is_contents;
 use event::is_trace;
 pub use event::{Event, event_at, is_formed, put_event};
-pub use form::Form;
 use form::form_in;
+pub use form::{Form, UnknownLength};
 pub use head::{has_contents, put_head};
 use order::Order;
 pub use outline::{Outline, outline_of};
+pub use refusal::Refusal;
 use table::Table;
 
-// What reading says: the form, the order, how many streams there are, where the trace is and how many events it has; or the refusal.
-#[derive(Clone, Copy)]
-pub enum Reading {
-    LaidOut {
-        form: Form,
-        order: Order,
-        count: usize,
-        start: usize,
-        end: usize,
-        events: usize,
-    },
-    Refused(u64),
-}
-
-// What writing says: how long the file is, or the refusal.
-#[derive(Clone, Copy)]
-pub enum Writing {
-    Written(usize),
-    Refused(u64),
+// What reading finds: the form, the order, how many streams there are, where the trace is and how many events it has.
+#[derive(Clone, Copy, Debug, PartialEq, Eq)]
+pub struct Layout {
+    pub form: Form,
+    pub order: Order,
+    pub count: usize,
+    pub start: usize,
+    pub end: usize,
+    pub events: usize,
 }
 
 // Reads any bytes. The order and every event are judged, and no number of the table but its count.
-pub fn read(file: &[u8]) -> Reading
+#[tactic(auto, using(crate::proofs::Outlines::outline_inside, crate::proofs::Outlines::judged, crate::proofs::Outlines::unfit_is_refused))]
+pub fn read(file: &[u8]) -> Result<Layout, Refusal>
     ensures { result ≡ read_of file.now }
 {
-    match outline_of(file) {
-        Outline::Outlined {
-            form,
-            count,
-            start,
-            end,
-        } => judge(file, form, count, start, end),
-        Outline::Refused(number) => Reading::Refused(number),
-    }
-}
-
-// Judges what an outline leaves: the contents table, the order and the trace.
-fn judge(file: &[u8], form: Form, count: usize, start: usize, end: usize) -> Reading
-    requires { outline_of file.now ≡ Outlined form count start end }
-    ensures { result ≡ read_of file.now }
-{
+    let outline = outline_of(file)?;
+    let form = outline.form;
+    let (start, end) = (outline.start, outline.end);
     let number = number_at(file, end, form.third() as usize);
-    if is_contents(file, form, start, end) & Order::is_number(number) {
-        let trace = &file[start..end];
-        if is_trace(trace) {
-            let order = Order::of_number(number);
-            let events = trace.len() / Event::SIZE;
-            return Reading::LaidOut {
-                form,
-                order,
-                count,
-                start,
-                end,
-                events,
-            };
-        }
+    let order = Order::try_from(number)?;
+    let trace = &file[start..end];
+    if !is_contents(file, form, start, end) | !is_trace(trace) {
+        return Err(Refusal::Layout);
     }
-    Reading::Refused(16)
+    Ok(Layout {
+        form,
+        order,
+        count: outline.count,
+        start,
+        end,
+        events: trace.len() / Event::SIZE,
+    })
 }
 
 // The table of a file, from any bytes. Reading does not judge it; opening does.
@@ -96,36 +73,48 @@ pub fn table_of(file: &[u8]) -> Table
     table_at(file, form.table_start())
 }
 
-// Writes the file of a form, an order, a table and a trace at the start of a buffer, or refuses and leaves the buffer as it was.
-pub fn write(table: Table, form: Form, order: Order, trace: &[u8], out: &mut [u8]) -> Writing
+// Writes the file of a form, an order, a table and a trace at the start of a buffer and answers how long it is, or refuses and leaves the buffer as it was.
+pub fn write(
+    table: Table,
+    form: Form,
+    order: Order,
+    trace: &[u8],
+    out: &mut [u8],
+) -> Result<usize, Refusal>
     ensures value { result ≡ write_of form order table trace.now out.old }
     ensures out_after { out.new ≡ written_on form order table trace.now out.old }
 {
-    let refusal = write_refusal(table, form, order, trace, out.len());
-    if refusal != 0 {
-        return Writing::Refused(refusal);
-    }
-    let third = form.third() as usize;
+    let length = checked_length(table, form, order, trace, out.len())?;
     let start = form.table_start() + table_length(table.count);
     let end = start + trace.len();
     put_head(out, form, table, trace.len() / Event::SIZE);
     put_bytes(out, start, trace);
-    put_number(out, end, third, order.number());
-    Writing::Written(end + third)
+    put_number(out, end, form.third() as usize, order.number());
+    Ok(length)
 }
 
-// 16 or 17, or 0 where the file can be written.
-fn write_refusal(table: Table, form: Form, order: Order, trace: &[u8], room: usize) -> u64
-    ensures { result ≡ write_refusal form order table trace.now room }
+// How long the file is, where it can be written and there is room for it.
+#[tactic(auto, using(crate::proofs::Choices::choices, crate::proofs::Lengths::length_file, crate::proofs::Trace::trace_short), unfolding(crate::specs::Writing::write_refusal, crate::specs::Writing::is_writable))]
+fn checked_length(
+    table: Table,
+    form: Form,
+    order: Order,
+    trace: &[u8],
+    room: usize,
+) -> Result<usize, Refusal>
+    ensures { result ≡ answer_by (write_refusal form order table trace.now room) (length (file_of form order table trace.now)) }
 {
     if Table::STREAMS_MAX < table.count {
-        return 16;
+        return Err(Refusal::Layout);
     }
-    if form.has_place(order) & is_trace(trace) {
-        let size = file_length(form, table.count, trace.len());
-        return if room < size { 17 } else { 0 };
+    if !form.has_place(order) | !is_trace(trace) {
+        return Err(Refusal::Layout);
     }
-    16
+    let length = file_length(form, table.count, trace.len());
+    if room < length {
+        return Err(Refusal::Room);
+    }
+    Ok(length)
 }
 
 // How long the file of this form, this many streams and a trace of this length is.

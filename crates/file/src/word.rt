@@ -16,5 +16,5 @@ pub(crate) fn word_at(bytes: &[u8], at: usize) -> u32
 pub(crate) fn put_word(out: &mut [u8], at: usize, word: u32)
     ensures { out.new ≡ sets out.old at (cell 4 word) }
 {
-    put_number(out, at, 4, word as u64);
+    put_number(out, at, 4, u64::from(word));
 }

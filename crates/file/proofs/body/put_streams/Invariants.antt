@@ -1,14 +1,8 @@
 -- `put_streams` stores two cells a turn, after those of the streams before.
 use mathlib.Core.Path.{◌≡◌}
-use Prim.Native.Nat.{◌-◌, ◌≤◌}
-use lib.ListN.{length}
 use lib.Seq.{sets}
 use Rattle.file.specs.File.{stream_cells}
 use Rattle.file.proofs.body.put_streams.Given as goal
 
 abbrev pub invariant-loop-i : goal.invariant-loop-i
-invariant-loop-i l =
-    (l.i ≤ l.table.count) × (length l.out ≡ length l.initial.out) × (l.out ≡ sets l.initial.out l.at (stream_cells l.table l.i))
-
-abbrev pub decreases-loop-i : goal.decreases-loop-i
-decreases-loop-i l = l.table.count - l.i
+invariant-loop-i l = l.out ≡ sets l.initial.out l.at (stream_cells l.table l.i)

@@ -21,8 +21,9 @@ use Rattle.logs.specs.Follow.{Among, line_by}
 use Rattle.logs.specs.Following.{awaited, Next, first_fields, next_by, nexts_at, nexts, lines_of_nexts, is_nothing}
 use Rattle.logs.specs.Laws.{Once}
 use Rattle.logs.specs.declared.Follower.{Follower}
+use Rattle.std.specs.Prelude.{Option, None, Some}
 use Rattle.logs.specs.declared.Awaited.{Awaited}
-use Rattle.logs.specs.declared.Awaited.TheVariants.{First, Event as EventAt, Nothing}
+use Rattle.logs.specs.declared.Awaited.TheVariants.{First, Event as EventAt}
 use Rattle.logs.proofs.Choosing.{itself_may_be, lines_tell_choices, choices_once}
 use Rattle.logs.proofs.Members.{map_among, among_map, Tells, once_map, among_one, one_among, once_one}
 
@@ -36,12 +37,12 @@ all_lines opened trace = if opened (suc (events_in trace)) 1
 unfoldable pub lacking : Follower → List ℕ → ℕ
 lacking f trace = suc (all_lines (eqb f.refusal 0) trace) - f.due
 
-pub none_due : (f : Follower) (trace : List ℕ) → lacking f trace ≡ 0 → awaited f trace ≡ Nothing
+pub none_due : (f : Follower) (trace : List ℕ) → lacking f trace ≡ 0 → awaited f trace ≡ None
 unfolding awaited lacking all_lines if
 none_due f trace h = go (eqb f.refusal 0) h
   where
     go : (b : Bool) → suc (if b (suc (events_in trace)) 1) - f.due ≡ 0
-        → if (leb f.due 1) First (if (b && leb (f.due - 1) (events_in trace)) (EventAt (f.due - 2)) Nothing) ≡ Nothing
+        → if (leb f.due 1) (Some First) (if (b && leb (f.due - 1) (events_in trace)) (Some (EventAt (f.due - 2))) None) ≡ None
     go true h = rw (lt-leb f.due 1 (omega arith), lt-leb (f.due - 1) (events_in trace) (omega arith))
     go false h = rw (lt-leb f.due 1 (omega arith))
 
@@ -50,7 +51,7 @@ unfolding awaited lacking all_lines if
 some_due f trace n h = go (eqb f.refusal 0) h
   where
     go : (b : Bool) → suc (if b (suc (events_in trace)) 1) - f.due ≡ suc n
-        → is_nothing (if (leb f.due 1) First (if (b && leb (f.due - 1) (events_in trace)) (EventAt (f.due - 2)) Nothing)) ≡ false
+        → is_nothing (if (leb f.due 1) (Some First) (if (b && leb (f.due - 1) (events_in trace)) (Some (EventAt (f.due - 2))) None)) ≡ false
     go true h =
         ⊎_elim
         (λ (first : f.due ≤ 1). rw (le-leb f.due 1 first))
@@ -59,15 +60,15 @@ some_due f trace n h = go (eqb f.refusal 0) h
     go false h = rw (le-leb f.due 1 (omega arith))
 
 -- where the first line is due, and where that of event i is
-pub first_due : (f : Follower) (trace : List ℕ) → f.due ≡ 1 → awaited f trace ≡ First
+pub first_due : (f : Follower) (trace : List ℕ) → f.due ≡ 1 → awaited f trace ≡ (Some First)
 unfolding awaited if
 first_due f trace e = rw (le-leb f.due 1 (omega arith))
 
-pub event_due : (f : Follower) (trace : List ℕ) (i : ℕ) → eqb f.refusal 0 ≡ true → f.due ≡ i + 2 → i < events_in trace → awaited f trace ≡ EventAt i
+pub event_due : (f : Follower) (trace : List ℕ) (i : ℕ) → eqb f.refusal 0 ≡ true → f.due ≡ i + 2 → i < events_in trace → awaited f trace ≡ Some (EventAt i)
 unfolding awaited if
 event_due f trace i opened e l =
     let same : f.due - 2 ≡ i = omega arith in
-    rw (lt-leb f.due 1 (omega arith), opened, le-leb (f.due - 1) (events_in trace) (omega arith)) (ap EventAt same)
+    rw (lt-leb f.due 1 (omega arith), opened, le-leb (f.due - 1) (events_in trace) (omega arith)) (ap (λ (n : ℕ). Some (EventAt n)) same)
 
 -- ---- the lines
 
@@ -95,12 +96,12 @@ nexts_end f trace x = go (awaited f trace)
     Ends : Next → Type 0
     Ends y = OneNewline (rendered y.fields)
 
-    go : (a : Awaited) → Among x (nexts_at f trace a) → OneNewline (rendered x.fields)
-    go First p = subst Ends (sym (among_one x _ p)) (newline_ends (first_fields f) (first_fields_lem f))
-    go (EventAt i) p =
+    go : (a : Option Awaited) → Among x (nexts_at f trace a) → OneNewline (rendered x.fields)
+    go (Some First) p = subst Ends (sym (among_one x _ p)) (newline_ends (first_fields f) (first_fields_lem f))
+    go (Some (EventAt i)) p =
         let from = among_map (next_by f.session (i + 1)) x (may_be f.session (event_at trace i)) p in
         subst Ends (sym from.2) (newline_ends _ (event_fields_lem f.session (i + 1) from.0))
-    go Nothing p = absurd p
+    go None p = absurd p
 
 -- equal lines are of the same
 abbrev line_of_next : Next → List ℕ
@@ -117,36 +118,36 @@ pub nexts_tell : (f : Follower) (trace : List ℕ) → Tells line_of_next (nexts
 unfolding Among
 nexts_tell f trace = go (awaited f trace)
   where
-    go : (a : Awaited) → Tells line_of_next (nexts_at f trace a)
-    go First x y p q h = among_one x _ p ∙ sym (among_one y _ q)
-    go (EventAt i) x y p q h = events_tell f.session (i + 1) (event_at trace i) x y p q h
-    go Nothing x y p q h = absurd p
+    go : (a : Option Awaited) → Tells line_of_next (nexts_at f trace a)
+    go (Some First) x y p q h = among_one x _ p ∙ sym (among_one y _ q)
+    go (Some (EventAt i)) x y p q h = events_tell f.session (i + 1) (event_at trace i) x y p q h
+    go None x y p q h = absurd p
 
 -- so none is there twice
 pub nexts_once : (f : Follower) (trace : List ℕ) → Once (lines_of_nexts (nexts f trace))
 unfolding Once
 nexts_once f trace = once_map line_of_next (nexts f trace) (nexts_tell f trace) (go (awaited f trace))
   where
-    go : (a : Awaited) → Once (nexts_at f trace a)
-    go First = once_one _
-    go (EventAt i) =
+    go : (a : Option Awaited) → Once (nexts_at f trace a)
+    go (Some First) = once_one _
+    go (Some (EventAt i)) =
         let s = f.session in
         let event = event_at trace i in
         once_map (next_by s (i + 1)) (may_be s event)
         (λ a b p q e. lines_tell_choices s (i + 1) event a b p q (ap line_of_next e))
         (choices_once s event)
-    go Nothing = tt
+    go None = tt
 
 -- there is one where a line is due, and none where none is
 pub some_next : (f : Follower) (trace : List ℕ) → is_nothing (awaited f trace) ≡ false → (x : Next) × Among x (nexts f trace)
 some_next f trace = go (awaited f trace)
   where
-    go : (a : Awaited) → is_nothing a ≡ false → (x : Next) × Among x (nexts_at f trace a)
-    go First e = (_, one_among _)
-    go (EventAt i) e =
+    go : (a : Option Awaited) → is_nothing a ≡ false → (x : Next) × Among x (nexts_at f trace a)
+    go (Some First) e = (_, one_among _)
+    go (Some (EventAt i)) e =
         let itself = itself_may_be f.session (i + 1) (event_at trace i) in
         (_, map_among (next_by f.session (i + 1)) itself.0 (may_be f.session (event_at trace i)) itself.1)
-    go Nothing e = absurd (true≢false e)
+    go None e = absurd (true≢false e)
 
-pub no_next : (f : Follower) (trace : List ℕ) → awaited f trace ≡ Nothing → nexts f trace ≡ []
+pub no_next : (f : Follower) (trace : List ℕ) → awaited f trace ≡ None → nexts f trace ≡ []
 no_next f trace e = ap (nexts_at f trace) e

@@ -5,12 +5,13 @@ use mathlib.Core.Logic.{◌⊎◌, inl, inr, ◌↔◌}
 use mathlib.Core.Path.{◌≡◌, refl, sym, ap, subst, ◌∙◌}
 use Prim.Native.Nat.{ℕ, ◌-◌}
 use native.Mathlib.Omega.{arith}
+use lib.Pointwise.{pointwise, bytes_decides}
 use lib.Dec.{eqb}
 use lib.ListN.{length, get_or, drop, length-append}
 use lib.Seq.{append_snoc, drop_at, ext_get_or}
 use borrow.Author.Tests.{eqb-true, eq-eqb, eqb-false, ne_eqb}
 use Rattle.table.specs.Fold.{if, all_to}
-use Rattle.table.proofs.Tests.{both}
+use Rattle.table.proofs.Tests.{both, same_test}
 use Rattle.table.proofs.Folds.{all_at, all_of}
 use Rattle.listing.specs.Line.{newline}
 use Rattle.listing.specs.Laws.{Each}
@@ -35,6 +36,11 @@ same_bytes_lem a b = (
         all_of (λ i. eqb (get_or a i 0) (get_or b i 0)) (length a) (λ i l. eq-eqb (get_or a i 0) (get_or b i 0) (ap (λ x. get_or x i 0) e)),
       ),
 )
+
+-- so it is as texts are compared
+pub compared : (a b : List ℕ) → pointwise eqb a b ≡ same_bytes a b
+compared a b =
+    same_test _ _ (λ h. (same_bytes_lem a b).1 ((bytes_decides a b).0 h)) (λ h. (bytes_decides a b).1 ((same_bytes_lem a b).0 h))
 
 -- ---- lines
 

@@ -4,16 +4,16 @@ use mathlib.Core.List.{List, [], ◌∷◌}
 use mathlib.Core.Logic.{◌⊎◌, inl, inr, ⊎_elim}
 use mathlib.Core.Path.{◌≡◌, refl, sym, ap, ◌∙◌}
 use Prim.Native.Nat.{ℕ, ◌+◌}
+use Rattle.std.specs.Prelude.{Option, None, Some}
 use Rattle.table.specs.Fold.{if}
-use Rattle.session.specs.declared.Session.{Session}
 use Rattle.listing.specs.Line.{rendered}
 use Rattle.logs.specs.Follow.{Among}
 use Rattle.logs.specs.Lines.{same_bytes}
-use Rattle.logs.specs.Following.{awaited, Next, first_fields, nexts_at, nexts, lost, first_that_is, follower, with_line, with_lines}
+use Rattle.logs.specs.Following.{awaited, Next, first_fields, nexts_at, nexts, first_that_is, follower, with_line, with_lines}
 use Rattle.logs.specs.declared.Follower.{Follower}
 use Rattle.logs.specs.declared.Awaited.{Awaited}
-use Rattle.logs.specs.declared.Awaited.TheVariants.{First, Event as EventAt, Nothing}
-use Rattle.logs.proofs.Looking.{with_failed, with_found, with_lost}
+use Rattle.logs.specs.declared.Awaited.TheVariants.{First, Event as EventAt}
+use Rattle.logs.proofs.Looking.{with_failed, with_search}
 use Rattle.logs.proofs.Splitting.{same_bytes_lem}
 use Rattle.logs.proofs.Nexts.{nexts_tell}
 
@@ -24,17 +24,17 @@ IsOf line xs x = Among x xs × (line ≡ rendered x.fields)
 -- ---- the search
 
 -- it finds one whose line it is, or there is none
-abbrev Search : Session → List ℕ → List Next → Type 0
-Search s line xs =
-    ((x : Next) × IsOf line xs x × (first_that_is s line xs ≡ record { found = true; session = x.session }))
-    ⊎ (((x : Next) → IsOf line xs x → ⊥) × (first_that_is s line xs ≡ lost s))
+abbrev Search : List ℕ → List Next → Type 0
+Search line xs =
+    ((x : Next) × IsOf line xs x × (first_that_is line xs ≡ Some x.session))
+    ⊎ (((x : Next) → IsOf line xs x → ⊥) × (first_that_is line xs ≡ None))
 
-found_or_none : (s : Session) (line : List ℕ) (xs : List Next) → Search s line xs
+found_or_none : (line : List ℕ) (xs : List Next) → Search line xs
 unfolding first_that_is Among if
-found_or_none s line [] = inr (λ x p. p.0, refl)
-found_or_none s line (x ∷ rest) = go (same_bytes line (rendered x.fields)) refl (found_or_none s line rest)
+found_or_none line [] = inr (λ x p. p.0, refl)
+found_or_none line (x ∷ rest) = go (same_bytes line (rendered x.fields)) refl (found_or_none line rest)
   where
-    go : (b : Bool) → same_bytes line (rendered x.fields) ≡ b → Search s line rest → Search s line (x ∷ rest)
+    go : (b : Bool) → same_bytes line (rendered x.fields) ≡ b → Search line rest → Search line (x ∷ rest)
     go true e later = inl (x, (inl refl, (same_bytes_lem line (rendered x.fields)).0 e), rw e)
     go false e (inl (y, (p, is), found)) = inl (y, (inr p, is), rw e found)
     go false e (inr (none, missed)) = inr (λ y (p, is). ⊎_elim (λ (same : y ≡ x). differs (is ∙ ap (λ (z : Next). rendered z.fields) same)) (λ q. none y (q, is)) p, rw e missed)
@@ -55,13 +55,13 @@ stopped f = follower f f.session f.due true
 pub step : (f : Follower) (trace line : List ℕ) → f.failed ≡ false
     → ((x : Next) × IsOf line (nexts f trace) x × (with_line f trace line ≡ onto f x))
     ⊎ (((x : Next) → IsOf line (nexts f trace) x → ⊥) × (with_line f trace line ≡ stopped f))
-step f trace line going = go (found_or_none f.session line (nexts f trace))
+step f trace line going = go (found_or_none line (nexts f trace))
   where
-    go : Search f.session line (nexts f trace)
+    go : Search line (nexts f trace)
         → ((x : Next) × IsOf line (nexts f trace) x × (with_line f trace line ≡ onto f x))
         ⊎ (((x : Next) → IsOf line (nexts f trace) x → ⊥) × (with_line f trace line ≡ stopped f))
-    go (inl (x, is, found)) = inl (x, is, with_found f trace line going (sym found) refl)
-    go (inr (none, missed)) = inr (none, with_lost f trace line going (sym missed) refl)
+    go (inl (x, is, found)) = inl (x, is, with_search f trace line (Some x.session) going found)
+    go (inr (none, missed)) = inr (none, with_search f trace line None going missed)
 
 -- lines tell which it is
 pub step_onto : (f : Follower) (trace line : List ℕ) (x : Next) → f.failed ≡ false → IsOf line (nexts f trace) x → with_line f trace line ≡ onto f x
@@ -80,10 +80,10 @@ pub stopped_nexts : (f : Follower) (trace : List ℕ) → nexts (stopped f) trac
 unfolding awaited first_fields
 stopped_nexts f trace = go (awaited f trace)
   where
-    go : (a : Awaited) → nexts_at (stopped f) trace a ≡ nexts_at f trace a
-    go First = refl
-    go (EventAt i) = refl
-    go Nothing = refl
+    go : (a : Option Awaited) → nexts_at (stopped f) trace a ≡ nexts_at f trace a
+    go (Some First) = refl
+    go (Some (EventAt i)) = refl
+    go None = refl
 
 pub stays_stopped : (f : Follower) (trace : List ℕ) (lines : List (List ℕ)) → f.failed ≡ true → with_lines f trace lines ≡ f
 unfolding with_lines

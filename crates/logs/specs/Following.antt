@@ -1,5 +1,5 @@
 -- How a listing is followed, line by line, and what is said of it. The quotes are document 02, Req 09.
-use Rattle.std.specs.Prelude.{Bool, true, false, not, ◌&&◌, List, [], ◌∷◌, map, ℕ, ◌+◌, ◌-◌, length, leb, eqb}
+use Rattle.std.specs.Prelude.{Option, None, Some, Bool, true, false, not, ◌&&◌, List, [], ◌∷◌, map, ℕ, ◌+◌, ◌-◌, length, leb, eqb}
 use Rattle.table.specs.Fold.{if}
 use Rattle.table.specs.Admission.{admission_of}
 use Rattle.table.specs.Margin.{over_in}
@@ -16,8 +16,7 @@ use Rattle.logs.specs.Lines.{lines_of, left_of, same_bytes}
 use Rattle.logs.specs.declared.Follower.{Follower}
 use Rattle.logs.specs.declared.Fed.{Fed}
 use Rattle.logs.specs.declared.Awaited.{Awaited}
-use Rattle.logs.specs.declared.Awaited.TheVariants.{First, Event as EventAt, Nothing}
-use Rattle.logs.specs.declared.choices.Found.{Found}
+use Rattle.logs.specs.declared.Awaited.TheVariants.{First, Event as EventAt}
 
 -- ---- how far a listing was followed
 
@@ -44,10 +43,10 @@ unfoldable pub trace_of : List ℕ → List ℕ
 trace_of file = if (is_laid_out file) (trace_in file) []
 
 -- the line that is due, where "the header is line 1" and that of the first event line 2: the first, which is the header or the refusal; that of an event, counted from 0; or none
-unfoldable pub awaited : Follower → List ℕ → Awaited
+unfoldable pub awaited : Follower → List ℕ → Option Awaited
 awaited f trace =
-    if (leb f.due 1) First
-    (if (eqb f.refusal 0 && leb (f.due - 1) (events_in trace)) (EventAt (f.due - 2)) Nothing)
+    if (leb f.due 1) (Some First)
+    (if (eqb f.refusal 0 && leb (f.due - 1) (events_in trace)) (Some (EventAt (f.due - 2))) None)
 
 -- ---- what may stand there
 
@@ -62,10 +61,10 @@ first_fields f = if (eqb f.refusal 0) header_fields (refused_fields f.refusal f.
 abbrev pub next_by : Session → ℕ → Event → Next
 next_by s n event = let o = applied s n event in record { fields = fields_of o.line; session = o.session }
 
-abbrev pub nexts_at : Follower → List ℕ → Awaited → List Next
-nexts_at f trace First = record { fields = first_fields f; session = f.session } ∷ []
-nexts_at f trace (EventAt i) = map (next_by f.session (i + 1)) (may_be f.session (event_at trace i))
-nexts_at f trace Nothing = []
+abbrev pub nexts_at : Follower → List ℕ → Option Awaited → List Next
+nexts_at f trace (Some First) = record { fields = first_fields f; session = f.session } ∷ []
+nexts_at f trace (Some (EventAt i)) = map (next_by f.session (i + 1)) (may_be f.session (event_at trace i))
+nexts_at f trace None = []
 
 abbrev pub nexts : Follower → List ℕ → List Next
 nexts f trace = nexts_at f trace (awaited f trace)
@@ -76,25 +75,21 @@ lines_of_nexts xs = map (λ (x : Next). rendered x.fields) xs
 
 -- ---- following
 
--- the first of them that is this line, with the session after it
-abbrev pub lost : Session → Found
-lost s = record { found = false; session = s }
-
-unfoldable pub first_that_is : Session → List ℕ → List Next → Found
-first_that_is s line [] = lost s
-first_that_is s line (x ∷ rest) =
-    if (same_bytes line (rendered x.fields)) (record { found = true; session = x.session }) (first_that_is s line rest)
+-- the first of them that is this line: the session after it
+unfoldable pub first_that_is : List ℕ → List Next → Option Session
+first_that_is line [] = None
+first_that_is line (x ∷ rest) = if (same_bytes line (rendered x.fields)) (Some x.session) (first_that_is line rest)
 
 -- one line more: it follows, or it does not, and then nothing more is looked at
 abbrev pub follower : Follower → Session → ℕ → Bool → Follower
 follower f s due failed = record { session = s; refusal = f.refusal; over = f.over; due = due; failed = failed }
 
+abbrev pub followed : Follower → Option Session → Follower
+followed f (Some s) = follower f s (f.due + 1) false
+followed f None = follower f f.session f.due true
+
 unfoldable pub with_line : Follower → List ℕ → List ℕ → Follower
-with_line f trace line =
-    let search = first_that_is f.session line (nexts f trace) in
-    if f.failed f
-    (if search.found (follower f search.session (f.due + 1) false)
-    (follower f f.session f.due true))
+with_line f trace line = if f.failed f (followed f (first_that_is line (nexts f trace)))
 
 unfoldable pub with_lines : Follower → List ℕ → List (List ℕ) → Follower
 with_lines f trace [] = f
@@ -112,10 +107,10 @@ pub data Checked : Type 0 where
   rejected : ℕ → List (List ℕ) → Checked
 
 -- nothing more is due
-abbrev pub is_nothing : Awaited → Bool
-is_nothing First = false
-is_nothing (EventAt i) = false
-is_nothing Nothing = true
+abbrev pub is_nothing : Option Awaited → Bool
+is_nothing (Some First) = false
+is_nothing (Some (EventAt i)) = false
+is_nothing None = true
 
 -- "A missing, a surplus or an unended line does not follow": a listing is whole where every line followed, nothing is left behind the last and no line is due
 unfoldable pub is_whole : Follower → List ℕ → List ℕ → Bool

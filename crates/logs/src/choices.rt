@@ -1,13 +1,11 @@
 // What may stand for an event: itself or, where it is a turn that sends, an own turn of any request in the set.
-ghost use Rattle.std.specs.Prelude.{◌≡◌, [], ◌∷◌, map, ◌<◌, take, get_or};
+ghost use Rattle.std.specs.Prelude.{◌≡◌, [], ◌∷◌, map, ◌<◌, get_or};
 ghost use Rattle.table.specs.Ranges.{streams_max};
 ghost use Rattle.stream.specs.Stream.{queue_max};
-ghost use Rattle.listing.specs.Line.{text_holding, Within};
-ghost use Rattle.logs.specs.Choices.{sends, is_first, is_choice, own_turn_of, cells_max, choices_from, is_send, may_be};
+ghost use Rattle.logs.specs.Choices.{sends, alike, is_first, is_choice, own_turn_of, cells_max, choices_from, is_send, may_be};
 ghost use Rattle.logs.specs.Following.{next_by, lines_of_nexts, first_that_is};
-ghost use Rattle.logs.specs.Inner.{found_if};
+ghost use Rattle.logs.specs.Inner.{found_if, only_at};
 
-use crate::same;
 use calls::Call;
 use file::Event;
 use listing::Text;
@@ -15,19 +13,12 @@ use session::Session;
 use stream::Stream;
 use table::Table;
 
-// Whether a line was found, and the session after it; where it was not, the one before it.
-#[derive(Clone, Copy)]
-pub(crate) struct Found {
-    pub found: bool,
-    pub session: Session,
-}
-
 // The cells of all queues are counted through, those of each stream behind those of the one before it.
 const CELLS: usize = Table::STREAMS_MAX * Stream::QUEUE_MAX;
 
-// Looks for a line among those of what may stand for an event.
-pub(crate) fn search(session: Session, number: u64, event: Event, line: &[u8]) -> Found
-    ensures { result ≡ first_that_is session line.now (map (next_by session number) (may_be session event)) }
+// Looks for a line among those of what may stand for an event, and has the session after it.
+pub(crate) fn search(session: Session, number: u64, event: Event, line: &[u8]) -> Option<Session>
+    ensures { result ≡ first_that_is line.now (map (next_by session number) (may_be session event)) }
 {
     if is_send(session, event) {
         return search_choices(session, number, line);
@@ -36,86 +27,70 @@ pub(crate) fn search(session: Session, number: u64, event: Event, line: &[u8]) -
 }
 
 // Looks for it among those of the requests that may be sent.
-fn search_choices(session: Session, number: u64, line: &[u8]) -> Found
-    ensures { result ≡ first_that_is session line.now (map (next_by session number) (choices_from session 0 cells_max)) }
+fn search_choices(session: Session, number: u64, line: &[u8]) -> Option<Session>
+    ensures { result ≡ first_that_is line.now (map (next_by session number) (choices_from session 0 cells_max)) }
 {
-    let mut m: usize = 0;
-    while m < CELLS {
+    for m in 0..CELLS {
         if is_choice(session, m / Stream::QUEUE_MAX, m % Stream::QUEUE_MAX) {
             let search = search_event(session, number, own_turn_of(m), line);
-            if search.found {
+            if search.is_some() {
                 return search;
             }
         }
-        m += 1;
     }
-    Found {
-        found: false,
-        session,
-    }
+    None
 }
 
 // Whether it is that of an event.
-fn search_event(session: Session, number: u64, event: Event, line: &[u8]) -> Found
-    ensures { result ≡ first_that_is session line.now (next_by session number event ∷ []) }
+fn search_event(session: Session, number: u64, event: Event, line: &[u8]) -> Option<Session>
+    ensures { result ≡ first_that_is line.now (next_by session number event ∷ []) }
 {
     let stepped = trace::step(session, number, event);
-    let after = stepped.session;
-    let text = stepped.text;
-    search_text(session, after, text, line)
+    search_text(stepped.session, stepped.text, line)
 }
 
-// Whether it is that of a text, with the session before it and the one after it.
-pub(crate) fn search_text(before: Session, after: Session, text: Text, line: &[u8]) -> Found
-    requires { Within text }
-    ensures { result ≡ found_if before after line.now (take text.len text.bytes) }
+// Whether it is that of a text, with the session after it.
+pub(crate) fn search_text(after: Session, text: Text, line: &[u8]) -> Option<Session>
+    ensures { result ≡ found_if after line.now text }
 {
-    let bytes = text.bytes;
-    let len = text.len;
-    if same::same_bytes(line, &bytes[..len]) {
-        return Found {
-            found: true,
-            session: after,
-        };
+    if line == text.as_bytes() {
+        return Some(after);
     }
-    Found {
-        found: false,
-        session: before,
-    }
+    None
 }
 
 // Line k of what may stand for an event, counted from 0; there is nothing in one past the last.
 pub(crate) fn line_at(session: Session, number: u64, event: Event, k: usize) -> Text
-    ensures value { result ≡ text_holding (get_or (lines_of_nexts (map (next_by session number) (may_be session event))) k []) }
-    ensures within { Within result }
+    ensures { result ≡ get_or (lines_of_nexts (map (next_by session number) (may_be session event))) k [] }
 {
     if is_send(session, event) {
         return line_of_choice(session, number, k);
     }
     let stepped = trace::step(session, number, event);
-    let text = stepped.text;
-    same::only(text, k)
+    only(stepped.text, k)
 }
 
 // Line k of the requests that may be sent.
 fn line_of_choice(session: Session, number: u64, k: usize) -> Text
-    ensures value { result ≡ text_holding (get_or (lines_of_nexts (map (next_by session number) (choices_from session 0 cells_max))) k []) }
-    ensures within { Within result }
+    ensures { result ≡ get_or (lines_of_nexts (map (next_by session number) (choices_from session 0 cells_max))) k [] }
 {
     let mut ahead = k;
-    let mut m: usize = 0;
-    while m < CELLS {
+    for m in 0..CELLS {
         if is_choice(session, m / Stream::QUEUE_MAX, m % Stream::QUEUE_MAX) {
             if ahead == 0 {
-                let stepped = trace::step(session, number, own_turn_of(m));
-                let text = stepped.text;
-                return text;
+                return trace::step(session, number, own_turn_of(m)).text;
             }
             ahead -= 1;
         }
-        m += 1;
     }
-    same::no_line()
+    Text::empty()
+}
+
+// Line k of a single one.
+pub(crate) fn only(text: Text, k: usize) -> Text
+    ensures { result ≡ only_at text k }
+{
+    if k == 0 { text } else { Text::empty() }
 }
 
 // The own turn of the request at a cell.
@@ -143,10 +118,7 @@ fn is_choice(session: Session, i: usize, j: usize) -> bool
         stream: i as u64 + 1,
         index: j as u64,
     };
-    if sends(session, call) {
-        return is_first(x, j);
-    }
-    false
+    sends(session, call) && is_first(x, j)
 }
 
 // Whether no earlier request of a queue has the place and the tag of this one.
@@ -154,32 +126,27 @@ fn is_first(x: Stream, j: usize) -> bool
     requires { j < queue_max }
     ensures { result ≡ is_first x j }
 {
-    let places = x.places;
-    let tags = x.tags;
-    let place = places[j];
-    let tag = tags[j];
-    let mut first = true;
-    let mut k: usize = 0;
-    while k < j {
-        let alike = (places[k] == place) & (tags[k] == tag);
-        first = first & !alike;
-        k += 1;
+    for k in 0..j {
+        if alike(x, k, j) {
+            return false;
+        }
     }
-    first
+    true
+}
+
+// Whether two requests of a queue have the same place and tag.
+fn alike(x: Stream, j: usize, k: usize) -> bool
+    requires { (j < queue_max) × (k < queue_max) }
+    ensures { result ≡ alike x j k }
+{
+    x.places[j] == x.places[k] && x.tags[j] == x.tags[k]
 }
 
 // Whether an event is a turn that sends.
 fn is_send(session: Session, event: Event) -> bool
     ensures { result ≡ is_send session event }
 {
-    match event {
-        Event::Arrival { .. } => false,
-        Event::Turn => sends(session, Call::Turn),
-        Event::OwnTurn { .. } => false,
-        Event::Done { .. } => false,
-        Event::Clock { .. } => false,
-        Event::Malformed => false,
-    }
+    matches!(event, Event::Turn) && sends(session, Call::Turn)
 }
 
 // Whether a call is answered by 21.
@@ -187,6 +154,5 @@ fn sends(session: Session, call: Call) -> bool
     ensures { result ≡ sends session call }
 {
     let answer = session.call(call);
-    let reply = answer.reply;
-    reply.number() == 21
+    answer.reply.number() == 21
 }

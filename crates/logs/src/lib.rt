@@ -3,11 +3,9 @@
 
 mod candidates;
 mod choices;
-mod same;
 
 ghost use Rattle.std.specs.Prelude.{◌≡◌, [], ◌≤◌, length, get_or};
-ghost use Rattle.listing.specs.Line.{text_holding, Within};
-ghost use Rattle.logs.specs.Following.{refused_at, opened_at, begun, trace_of, awaited, follower, with_line, fed_by, is_whole, checked_by, report_of};
+ghost use Rattle.logs.specs.Following.{refused_at, opened_at, begun, trace_of, awaited, with_line, fed_by, is_whole, checked_by, report_of};
 
 use file::{Event, Reading};
 use listing::Text;
@@ -32,12 +30,11 @@ pub struct Fed {
     pub left: usize,
 }
 
-// The line that is due: the first, that of an event, counted from 0, or none.
-#[derive(Clone, Copy)]
+// A line that is due: the first, or that of an event, counted from 0.
+#[derive(Clone, Copy, Debug, PartialEq, Eq)]
 pub(crate) enum Awaited {
     First,
     Event(usize),
-    Nothing,
 }
 
 impl Follower {
@@ -88,14 +85,11 @@ impl Follower {
         let trace = trace_of(file);
         let mut follower = self;
         let mut start: usize = 0;
-        let mut i: usize = 0;
-        while i < piece.len() {
-            let end = i + 1;
-            if piece[i] == b'\n' {
-                follower = follower.with_line(trace, &piece[start..end]);
-                start = end;
+        for (i, byte) in piece.iter().enumerate() {
+            if *byte == b'\n' {
+                follower = follower.with_line(trace, &piece[start..i + 1]);
+                start = i + 1;
             }
-            i = end;
         }
         Fed {
             follower,
@@ -110,38 +104,30 @@ impl Follower {
         if self.failed {
             return self;
         }
-        let search = self.search(trace, line);
-        let session = search.session;
-        if search.found {
-            return self.at(session, self.due + 1, false);
-        }
-        let before = self.session;
-        self.at(before, self.due, true)
-    }
-
-    fn at(self, session: Session, due: usize, failed: bool) -> Follower
-        ensures { result ≡ follower self session due failed }
-    {
-        Follower {
-            session,
-            refusal: self.refusal,
-            over: self.over,
-            due,
-            failed,
+        match self.search(trace, line) {
+            Some(session) => Follower {
+                session,
+                due: self.due + 1,
+                ..self
+            },
+            None => Follower {
+                failed: true,
+                ..self
+            },
         }
     }
 
-    // Which line is due: the header is line 1, and that of the first event line 2.
-    pub(crate) fn awaited(self, trace: &[u8]) -> Awaited
+    // Which line is due, or none: the header is line 1, and that of the first event line 2.
+    pub(crate) fn awaited(self, trace: &[u8]) -> Option<Awaited>
         ensures { result ≡ awaited self trace.now }
     {
         if self.due <= 1 {
-            return Awaited::First;
+            return Some(Awaited::First);
         }
         if (self.refusal == 0) & (self.due - 1 <= trace.len() / Event::SIZE) {
-            return Awaited::Event(self.due - 2);
+            return Some(Awaited::Event(self.due - 2));
         }
-        Awaited::Nothing
+        None
     }
 
     // Whether a line did not follow, so that nothing more is looked at.
@@ -153,16 +139,11 @@ impl Follower {
 
     // Line k of what is said of a listing, counted from 0, where these bytes are left behind its last line: `accepted`; or the number of the line that does not follow, and then each that could have stood there. There is nothing in a line past the last.
     pub fn report(self, file: &[u8], left: &[u8], k: usize) -> Text
-        ensures value { result ≡ text_holding (get_or (report_of (checked_by self (trace_of file.now) left.now)) k []) }
-        ensures within { Within result }
+        ensures { result ≡ get_or (report_of (checked_by self (trace_of file.now) left.now)) k [] }
     {
         let trace = trace_of(file);
-        let whole = self.is_whole(trace, left);
-        if whole {
-            if k == 0 {
-                return listing::accepted();
-            }
-            return same::no_line();
+        if self.is_whole(trace, left) {
+            return choices::only(listing::accepted(), k);
         }
         if k == 0 {
             return listing::place(self.due as u64);
@@ -174,15 +155,7 @@ impl Follower {
     fn is_whole(self, trace: &[u8], left: &[u8]) -> bool
         ensures { result ≡ is_whole self trace.now left.now }
     {
-        if self.failed | (left.len() != 0) {
-            return false;
-        }
-        let awaited = self.awaited(trace);
-        match awaited {
-            Awaited::First => false,
-            Awaited::Event(_) => false,
-            Awaited::Nothing => true,
-        }
+        !self.failed & left.is_empty() & self.awaited(trace).is_none()
     }
 }
 

@@ -2,7 +2,6 @@
 #![tactic(auto)]
 
 ghost use Rattle.std.specs.Prelude.{◌≡◌};
-ghost use Rattle.listing.specs.Line.{Within};
 ghost use Rattle.trace.specs.Trace.{call_of, called, applied, handed};
 
 use calls::Call;
@@ -11,7 +10,7 @@ use listing::Text;
 use session::Session;
 
 // The session after an event, and the line that is printed for it.
-#[derive(Clone, Copy)]
+#[derive(Drop)]
 pub struct Stepped {
     pub session: Session,
     pub text: Text,
@@ -33,8 +32,7 @@ pub fn call_of(event: Event) -> Option<Call>
 
 // Applies an event, which is counted from 1.
 pub fn step(session: Session, number: u64, event: Event) -> Stepped
-    ensures value { result ≡ handed (applied session number event) }
-    ensures within { Within result.text }
+    ensures { result ≡ handed (applied session number event) }
 {
     if let Some(call) = call_of(event) {
         return called(session, number, call);
@@ -45,8 +43,7 @@ pub fn step(session: Session, number: u64, event: Event) -> Stepped
 
 // Makes a call, and renders its answer.
 fn called(session: Session, number: u64, call: Call) -> Stepped
-    ensures value { result ≡ handed (called session number call) }
-    ensures within { Within result.text }
+    ensures { result ≡ handed (called session number call) }
 {
     let answer = session.call(call);
     let after = answer.session;

@@ -5,16 +5,13 @@ use Rattle.trace.proofs.called.Goals as goal
 
 pub returns : goal.returns
 unfolding called handed line_of
-returns c = record {
-  value =
-      rw (
-        c.line-text.ensures.value,
-        c.tag.ensures,
-        c.micros.ensures,
-        c.value.ensures,
-        c.stream.ensures,
-        c.number.ensures,
-        c.call-answer.ensures,
-      );
-  within = c.line-text.ensures.within;
-}
+returns c =
+    rw (
+      c.line-text.ensures,
+      c.tag.ensures,
+      c.micros.ensures,
+      c.value.ensures,
+      c.stream.ensures,
+      c.number.ensures,
+      c.call-answer.ensures,
+    )

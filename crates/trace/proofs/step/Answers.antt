@@ -3,10 +3,10 @@ use mathlib.Core.Path.{sym, ◌∙◌}
 use Rattle.trace.specs.Trace.{applied, handed}
 use Rattle.trace.proofs.step.Goals as goal
 
-pub returns-in-Some-clause-value : goal.returns-in-Some-clause-value
+pub returns-in-Some : goal.returns-in-Some
 unfolding applied handed
-returns-in-Some-clause-value c = rw (sym c.call_of.ensures ∙ c.in-Some.is) c.called.ensures.value
+returns-in-Some c = rw (sym c.call_of.ensures ∙ c.in-Some.is) c.called.ensures
 
-pub returns-clause-value : goal.returns-clause-value
+pub returns : goal.returns
 unfolding applied handed
-returns-clause-value c = rw (c.line-text.ensures.value, c.micros.ensures, sym c.call_of.ensures ∙ c.in_default.is)
+returns c = rw (c.line-text.ensures, c.micros.ensures, sym c.call_of.ensures ∙ c.in_default.is)

@@ -5,6 +5,7 @@ use Prim.Native.Nat.{ℕ}
 use Rattle.logs.specs.Following.{fed_by}
 use Rattle.logs.proofs.Feeding.{taken_none, taken_line, taken_byte, taken_all}
 use Rattle.logs.proofs.Follower.feed.Goals as goal
+use Rattle.logs.proofs.Follower.feed.Goals.{then-byte-eq10, else-byte-eq10}
 
 pub loop-i-init : goal.loop-i-init
 loop-i-init c = taken_none _ _ _
@@ -12,19 +13,19 @@ loop-i-init c = taken_none _ _ _
 pub slice_bounds-with_line-count : goal.slice_bounds-with_line-count
 slice_bounds-with_line-count c = omega (arith, c.loop-i.invariant.begun)
 
-pub loop-i-preserved-then-piece-i-eq10 : goal.loop-i-preserved-then-piece-i-eq10
-loop-i-preserved-then-piece-i-eq10 c =
-    rw c.with_line-follower.ensures (taken_line c.loop-i.invariant c.loop-i-test.true c.if-piece-i-eq10.true)
-
 pub loop-i-preserved : goal.loop-i-preserved
 loop-i-preserved c =
-    taken_byte c.loop-i.invariant c.loop-i-test.true c.if-piece-i-eq10.false
+    let at = c.loop-i in
+    elim c.if-byte-eq10.branch [
+      | then-byte-eq10 w ↦ rw (w.follower-is, w.start-is, w.with_line-follower.ensures) (taken_line at.invariant c.loop-i-test.true w.if-byte-eq10.true)
+      | else-byte-eq10 w ↦ rw (w.follower-is, w.start-is) (taken_byte at.invariant c.loop-i-test.true w.if-byte-eq10.false)
+    ]
 
 pub overflow_sub-result : goal.overflow_sub-result
 overflow_sub-result c = omega (arith, c.loop-i.invariant.begun, c.loop-i.invariant.within)
 
-pub returns : goal.returns
-returns c =
+pub returns-clause-value : goal.returns-clause-value
+returns-clause-value c =
     let a = c.args in
     let whole = taken_all _ _ _ _ _ _ c.loop-i.invariant c.loop-i-test.false in
-    record { value = whole ∙ ap (λ (trace : List ℕ). fed_by a.self trace a.piece.now) c.trace_of-trace.ensures; left_in_bounds = omega arith }
+    whole ∙ ap (λ (trace : List ℕ). fed_by a.self trace a.piece.now) c.trace_of-trace.ensures

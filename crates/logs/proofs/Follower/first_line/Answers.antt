@@ -6,8 +6,8 @@ use Rattle.logs.proofs.Follower.first_line.Goals as goal
 
 pub returns-then-self-eq0 : goal.returns-then-self-eq0
 unfolding first_fields if
-returns-then-self-eq0 c = record { value = rw (eq-eqb _ 0 c.if-self-eq0.true) c.header.ensures.value; within = c.header.ensures.within }
+returns-then-self-eq0 c = rw (eq-eqb _ 0 c.if-self-eq0.true) c.header.ensures
 
 pub returns : goal.returns
 unfolding first_fields if
-returns c = record { value = rw (ne_eqb _ 0 c.if-self-eq0.false) c.refused.ensures.value; within = c.refused.ensures.within }
+returns c = rw (ne_eqb _ 0 c.if-self-eq0.false) c.refused.ensures

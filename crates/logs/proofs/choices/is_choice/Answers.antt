@@ -19,6 +19,11 @@ past-queue s i j past = go (sends s (Call.OwnTurn (i + 1) j)) refl
     go true e = absurd (omega (arith, (choice_in_queue s i j e).1))
     go false e = rw e
 
+-- and what is not sent is none
+unsent : (s : Session) (i j : ℕ) → sends s (Call.OwnTurn (i + 1) j) ≡ false → false ≡ is_choice s i j
+unfolding is_choice
+unsent s i j e = rw e
+
 pub returns-then-x-j : goal.returns-then-x-j
 returns-then-x-j c =
     let a = c.args in
@@ -28,6 +33,7 @@ pub returns-then-sends : goal.returns-then-sends
 unfolding is_choice
 returns-then-sends c = c.is_first.ensures ∙ rw (sym c.sends.ensures ∙ c.if-sends.true)
 
-pub returns : goal.returns
-unfolding is_choice
-returns c = rw (sym c.sends.ensures ∙ c.if-sends.false)
+pub returns-else-sends : goal.returns-else-sends
+returns-else-sends c =
+    let a = c.args in
+    c.if-sends.false ∙ unsent a.session a.i a.j (sym c.sends.ensures ∙ c.if-sends.false)

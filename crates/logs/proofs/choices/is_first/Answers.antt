@@ -1,20 +1,24 @@
-use mathlib.Core.Path.{refl, ap, ◌∙◌}
+use mathlib.Core.Path.{◌≡◌, refl, sym}
 use native.Mathlib.Numerals.{add-one}
 use native.Mathlib.Omega.{arith}
 use Rattle.table.specs.Fold.{all_to}
-use Rattle.table.proofs.Loops.{all_passed}
-use Rattle.logs.specs.Choices.{alike, is_first}
+use Rattle.logs.specs.Choices.{is_first}
+use Rattle.logs.proofs.Looking.{one_alike}
 use Rattle.logs.proofs.choices.is_first.Goals as goal
 
 pub loop-k-init : goal.loop-k-init
 unfolding all_to
-loop-k-init c = (omega arith, refl)
+loop-k-init c = refl
+
+pub returns-then-alike : goal.returns-then-alike
+returns-then-alike c = sym (one_alike c.args.x c.args.j c.loop-k.k (omega arith) c.if-alike.ensures)
 
 pub loop-k-preserved : goal.loop-k-preserved
 unfolding all_to
-loop-k-preserved c = (omega arith, rw (add-one, c.loop-k.invariant.1))
+loop-k-preserved c = rw (add-one, c.loop-k.invariant, sym c.if-alike.ensures)
 
 pub returns : goal.returns
-unfolding is_first alike
+unfolding is_first
 returns c =
-    c.loop-k.invariant.1 ∙ ap (all_to _) (all_passed _ _ c.loop-k.invariant.0 c.loop-k-test.false)
+    let all : c.loop-k.k ≡ c.args.j = omega arith in
+    sym (rw all at c.loop-k.invariant)

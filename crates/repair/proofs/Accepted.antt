@@ -130,16 +130,17 @@ module _ (file : List ℕ) (two : form_in file ≡ Two) (h : is_laid_out file �
 
 pub sound_comes_out_equal : SoundComesOutEqual
 unfolding salvaged_file
-sound_comes_out_equal file order count start end events bytes read =
-    let a = answered file Two order count start end events read in
-    let q = nothing_changed file a.form_is a.accepted in
-    let nearest : order_in file ≡ Nearest = a.order_is ∙ two_means_nearest.0 file order count start end events read in
-    (q.0, rw (q.1, ← a.form_is, ← nearest) (write_back file bytes a.accepted), q.2)
+sound_comes_out_equal file layout bytes read two =
+    let a = answered file layout read in
+    let form : form_in file ≡ Two = a.form_is ∙ two in
+    let q = nothing_changed file form a.accepted in
+    let nearest : order_in file ≡ Nearest = a.order_is ∙ two_means_nearest.0 file layout read two in
+    (q.0, rw (q.1, ← form, ← nearest) (write_back file bytes a.accepted), q.2)
 
 pub twice_changes_nothing : TwiceChangesNothing
 unfolding salvaged_file
 twice_changes_nothing old bytes fine =
     let s = salvaged_is_accepted old bytes fine in
-    let a = answered (salvaged_file old) Two Nearest _ _ _ _ s.0 in
+    let a = answered (salvaged_file old) _ s.0 in
     let q = nothing_changed (salvaged_file old) a.form_is a.accepted in
     (q.0, rw (q.1, s.1, s.2), q.2)

@@ -1,11 +1,10 @@
 -- The first 106 bytes of a file say as much as the whole: they hold the contents, and the table body of eight streams.
-use mathlib.Core.Bool.{Bool, true, false}
-use mathlib.Core.Path.{◌≡◌, refl, sym, ap, ◌∙◌}
+use mathlib.Core.Bool.{true}
+use mathlib.Core.Path.{◌≡◌, sym, ap, ◌∙◌}
 use mathlib.Core.List.{List, ◌++◌}
 use Prim.Native.Nat.{ℕ, ◌+◌, ◌*◌, ◌≤◌}
 use native.Mathlib.Omega.{arith}
 use lib.ListN.{length, length-append}
-use Rattle.table.specs.Fold.{if}
 use Rattle.table.proofs.Tests.{same_test}
 use Rattle.cells.specs.Cells.{number_at}
 use Rattle.cells.proofs.Numbers.{number_before}
@@ -20,6 +19,7 @@ use Rattle.repair.specs.Pieces.{taken_of}
 use Rattle.repair.specs.Laws.{TraceStartsEarly, HeadIsEnough}
 use Rattle.repair.proofs.Kept.{start_two, outlined}
 use Rattle.repair.proofs.Refused.{refused_as_said}
+use Rattle.repair.proofs.Taking.{found_is}
 
 module _ (head more : List ℕ) (long : 106 ≤ length head) where
   abbrev whole : List ℕ
@@ -108,9 +108,7 @@ pub head_is_enough : HeadIsEnough
 head_is_enough head more long = (same_taken head more long, same_table head more long, same_contents head more long)
 
 pub trace_starts_early : TraceStartsEarly
-unfolding taken_of if
-trace_starts_early old = go (is_salvageable old) refl
-  where
-    go : (b : Bool) → is_salvageable old ≡ b → (taken_of old).start ≤ 106
-    go true h = let q = outlined old h in rw h (omega (arith, start_two old h, q.count_high))
-    go false h = rw h (omega arith)
+trace_starts_early old taken h =
+    let f = found_is old taken (sym h) in
+    let q = outlined old f.fine in
+    omega (arith, f.start_is, start_two old f.fine, q.count_high)

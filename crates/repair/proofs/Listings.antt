@@ -8,16 +8,14 @@ use native.Mathlib.Omega.{arith}
 use borrow.Author.Tests.{le-leb, lt-leb, le-ltb, ltb-true}
 use lib.Dec.{ltb}
 use lib.ListN.{length}
+use Rattle.std.specs.declared.result.Result.TheVariants.{Ok, Err}
 use Rattle.table.specs.Fold.{if}
+use Rattle.file.specs.declared.refusal.Refusal.TheVariants.{Room as NoRoom}
 use Rattle.repair.specs.Salvage.{put_on}
 use Rattle.repair.specs.Pieces.{changes_in, rest_after, is_refused, list_of, list_on}
 use Rattle.repair.specs.Laws.{PieceIsListed}
 use Rattle.repair.specs.declared.pieces.Rest.{Rest}
-use Rattle.repair.specs.declared.pieces.Listed.{Listed}
 use Rattle.repair.proofs.Kept.{changes_few}
-
-abbrev pub unlisted : Rest → Listed
-unlisted rest = record { number = 17; changes = 0; rest = rest }
 
 -- nothing is refused where there is a place for each change and the end is within 63 bits
 not_refused : (rest : Rest) (piece : List ℕ) (places : ℕ) → length (changes_in rest piece) ≤ places → rest.at + length piece < 2 ^ 63
@@ -32,7 +30,7 @@ piece_is_listed rest piece places few low =
 
 module _ (rest : Rest) (piece : List ℕ) (changes : List (List ℕ)) where
   refused_then : is_refused rest piece (length changes) ≡ true
-      → (unlisted rest ≡ list_of rest piece (length changes)) × (changes ≡ list_on rest piece changes)
+      → (Err NoRoom ≡ list_of rest piece (length changes)) × (changes ≡ list_on rest piece changes)
   unfolding list_of list_on if
   refused_then h = (rw h, rw h)
 
@@ -47,7 +45,7 @@ module _ (rest : Rest) (piece : List ℕ) (changes : List (List ℕ)) where
 
   -- the start is past 63 bits, or there are too few places
   pub first_refused : (listed : ℕ) → listed ≡ length (changes_in rest piece) → (ltb 9_223_372_036_854_775_807 rest.at || ltb (length changes) listed) ≡ true
-      → (unlisted rest ≡ list_of rest piece (length changes)) × (changes ≡ list_on rest piece changes)
+      → (Err NoRoom ≡ list_of rest piece (length changes)) × (changes ≡ list_on rest piece changes)
   unfolding is_refused
   first_refused listed e h = refused_then (⊎_elim far few (some_test _ _ h))
     where
@@ -59,11 +57,11 @@ module _ (rest : Rest) (piece : List ℕ) (changes : List (List ℕ)) where
 
   -- the end is
   pub then_refused : 9_223_372_036_854_775_807 - rest.at < length piece → rest.at ≤ 9_223_372_036_854_775_807
-      → (unlisted rest ≡ list_of rest piece (length changes)) × (changes ≡ list_on rest piece changes)
+      → (Err NoRoom ≡ list_of rest piece (length changes)) × (changes ≡ list_on rest piece changes)
   then_refused l low = refused_then (far_refused (omega arith))
 
   pub then_listed : length (changes_in rest piece) ≤ length changes → rest.at + length piece ≤ 9_223_372_036_854_775_807
-      → (record { number = 0; changes = length (changes_in rest piece); rest = rest_after rest piece } ≡ list_of rest piece (length changes))
+      → (Ok (record { changes = length (changes_in rest piece); rest = rest_after rest piece }) ≡ list_of rest piece (length changes))
       × (put_on (changes_in rest piece) changes ≡ list_on rest piece changes)
   unfolding list_of list_on if
   then_listed few low =

@@ -5,7 +5,6 @@ use mathlib.Core.Path.{◌≡◌, refl, sym, ap, ◌∙◌}
 use mathlib.Core.List.{List, [], ◌++◌, append-nil}
 use Prim.Native.Nat.{ℕ, ◌≤◌}
 use lib.ListN.{length}
-use Rattle.table.specs.Fold.{if}
 use Rattle.file.specs.File.{events_max}
 use Rattle.file.specs.Reading.{trace_start, trace_in, table_in, has_contents}
 use Rattle.file.specs.declared.form.Form.TheVariants.{Two}
@@ -34,20 +33,16 @@ same_of head more first fine =
     rw (none, append-nil head) (record { taken = refl; table = refl; contents = λ count events. refl }))
     first
 
-taken_none : (old : List ℕ) → is_salvageable old ≡ true → (taken_of old).number ≡ 0
-unfolding taken_of if
-taken_none old fine = rw fine refl
-
 pub in_pieces_as_whole : InPiecesAsWhole
 unfolding salvaged_file changes_of contents_stay
-in_pieces_as_whole head more pieces last first fine whole parts =
+in_pieces_as_whole head more taken pieces last first found whole parts =
     let old = head ++ more in
-    let s = same_of head more first fine in
-    let f = found_is old (taken_of head) (sym s.taken) (taken_none head fine) in
+    let s = same_of head more first (found_is head taken (sym found)).fine in
+    let f = found_is old taken (sym (s.taken ∙ found)) in
     let trace : joined pieces last ≡ trace_in old = sym parts ∙ rw f.start_is (sym (trace_rest old f.fine)) in
     let p = pieces_are_whole pieces last whole in
     let kept : kept_by events_max pieces last ≡ kept_of events_max (trace_in old) = p.0 events_max ∙ ap (kept_of events_max) trace in
     let count : count_by events_max pieces last ≡ kept_count events_max (trace_in old) = p.1 events_max ∙ ap (kept_count events_max) trace in
-    let rest : Rest = record { at = (taken_of head).start; room = events_max } in
+    let rest : Rest = record { at = taken.start; room = events_max } in
     let listed : listed_by rest pieces last ≡ trace_changes events_max (trace_start old) (trace_in old) = p.2 rest ∙ rw (trace, f.start_is) refl in
     (f.fine, rw (kept, s.table) refl, rw (count, listed, f.count_is, s.contents (count_in old) (kept_count events_max (trace_in old))) refl)

@@ -1,12 +1,12 @@
 -- What salvaging refuses, puts into the buffer and lists.
-use mathlib.Core.Bool.{Bool, true, false, ◌||◌}
-use mathlib.Core.Logic.{◌⊎◌, ⊎_elim}
+use mathlib.Core.Bool.{Bool, true, false, not, ◌||◌}
 use mathlib.Core.Path.{◌≡◌, refl, sym, ap, ◌∙◌}
 use mathlib.Core.List.{List, ◌++◌, map, append-nil, append_assoc}
 use Prim.Native.Nat.{ℕ, ◌+◌, ◌-◌, ◌*◌, ◌≤◌}
 use native.Mathlib.Omega.{arith}
 use borrow.Author.Tests.{eqb-false}
 use lib.Dec.{ltb, eqb}
+use mir.Val.{bool_byte}
 use lib.ListN.{length, take, drop, length-append, length-drop, length-map}
 use lib.Seq.{sets, take_all, take-length, drop-length, take_at, drop_at, drop-drop}
 use Rattle.table.specs.Fold.{if}
@@ -83,15 +83,10 @@ answered_is_there old out changes none =
 -- ---- the list
 
 -- what is counted of it before it is put
-pub listed_is : (stay : Bool) (contents at : ℕ) (trace : List ℕ)
-    → ((stay ≡ true) × (contents ≡ 0)) ⊎ ((stay ≡ false) × (contents ≡ 1))
-    → contents + (events_in trace - kept_count events_max trace + length (cuts_of 0 trace)) ≡ length (list_from stay at trace)
-listed_is stay contents at trace came =
-    let n = changes_length events_max at trace in
-    ⊎_elim
-    (λ (q : (stay ≡ true) × (contents ≡ 0)). omega (arith, q.1, n, ap length (list_stays stay at trace q.0)))
-    (λ (q : (stay ≡ false) × (contents ≡ 1)). omega (arith, q.1, n, ap length (list_changed stay at trace q.0)))
-    came
+pub listed_is : (stay : Bool) (at : ℕ) (trace : List ℕ)
+    → bool_byte (not stay) + (events_in trace - kept_count events_max trace + length (cuts_of 0 trace)) ≡ length (list_from stay at trace)
+listed_is true at trace = omega (arith, changes_length events_max at trace, ap length (list_stays true at trace refl))
+listed_is false at trace = omega (arith, changes_length events_max at trace, ap length (list_changed false at trace refl))
 
 -- ---- the file
 

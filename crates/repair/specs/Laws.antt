@@ -1,17 +1,19 @@
 -- What is proved of salvaging.
 use Rattle.std.specs.Prelude.{true, false, ◌≡◌, ◌⊎◌, List, [], ◌∷◌, ◌++◌, map, ℕ, suc, ◌+◌, ◌-◌, ◌*◌, ◌%◌, ◌/◌, ◌^◌, ◌≤◌, ◌<◌, eqb, length, take, drop}
+use Rattle.std.specs.declared.result.Result.TheVariants.{Ok}
+use Rattle.std.specs.Result.{IsOk}
 use Rattle.table.specs.Fold.{if, list_to}
-use Rattle.order.specs.declared.Order.{Order}
 use Rattle.order.specs.declared.Order.TheVariants.{Nearest}
 use Rattle.cells.specs.Cells.{number_at, Bytes}
 use Rattle.file.specs.File.{events_max, event_size, trace_of, file_of}
-use Rattle.file.specs.Reading.{events_in, event_at, formed, trace_start, trace_in, table_in, has_contents, read_of}
+use Rattle.file.specs.Reading.{events_in, event_at, formed, trace_start, trace_in, table_in, has_contents, laid_out, read_of}
 use Rattle.file.specs.declared.form.Form.TheVariants.{Two}
 use Rattle.file.specs.declared.event.Event.{Event}
-use Rattle.file.specs.declared.Reading.TheVariants.{LaidOut}
+use Rattle.file.specs.declared.Layout.{Layout}
 use Rattle.repair.specs.Salvage.{is_salvageable, is_kept, count_in, kept_of, kept_count, salvaged_file, contents_change, pair_of, trace_changes, changes_of, salvage_refusal, salvage_of, salvaged_on, listed_on}
 use Rattle.repair.specs.Pieces.{table_end_max, taken_of, changes_in, rest_after, list_of}
 use Rattle.repair.specs.Cases.{Case, contents_cases, dropped_cases, cut_cases, refused_cases, answer_of, RoomCase, room_cases, four_events}
+use Rattle.repair.specs.declared.Taken.{Taken}
 use Rattle.repair.specs.declared.pieces.Rest.{Rest}
 use Rattle.repair.specs.declared.change.Change.{Change}
 
@@ -66,7 +68,7 @@ SalvagedIsAccepted =
     (old : List ℕ) → Bytes old → is_salvageable old ≡ true
     → let new = salvaged_file old in
     let kept = kept_count events_max (trace_in old) in
-    (read_of new ≡ LaidOut Two Nearest (count_in old) (trace_start old) (trace_start old + event_size * kept) kept)
+    (read_of new ≡ Ok (laid_out Two Nearest (count_in old) (trace_start old) (trace_start old + event_size * kept) kept))
     × (table_in new ≡ table_in old)
     × (trace_in new ≡ kept_of events_max (trace_in old))
 
@@ -85,7 +87,7 @@ KeptAreTheFirst =
 -- "A sound two-entry file comes out equal with an empty list."
 abbrev pub SoundComesOutEqual : Type 0
 SoundComesOutEqual =
-    (file : List ℕ) (order : Order) (count start end events : ℕ) → Bytes file → read_of file ≡ LaidOut Two order count start end events
+    (file : List ℕ) (layout : Layout) → Bytes file → read_of file ≡ Ok layout → layout.form ≡ Two
     → (is_salvageable file ≡ true) × (salvaged_file file ≡ file) × (changes_of file ≡ [])
 
 -- "Salvaging twice changes nothing more."
@@ -157,7 +159,7 @@ ChangesAreInPlace = (old : List ℕ) → is_salvageable old ≡ true → AllInPl
 
 -- A trace that is taken starts no further than at 106,
 abbrev pub TraceStartsEarly : Type 0
-TraceStartsEarly = (old : List ℕ) → (taken_of old).start ≤ table_end_max
+TraceStartsEarly = (old : List ℕ) (taken : Taken) → taken_of old ≡ Ok taken → taken.start ≤ table_end_max
 
 -- so that the first 106 bytes of a file say as much as the whole: what is taken, which table, and whether the contents stay.
 abbrev pub HeadIsEnough : Type 0
@@ -203,19 +205,19 @@ PiecesAreWhole =
 -- So what is made of an old file that is read in pieces, from its first bytes and the pieces of its trace, is what is made of it whole: the new file and the list. The first bytes are 106 or more, or all that there are.
 abbrev pub InPiecesAsWhole : Type 0
 InPiecesAsWhole =
-    (head more : List ℕ) (pieces : Pieces) (last : List ℕ) → (table_end_max ≤ length head) ⊎ (more ≡ []) → is_salvageable head ≡ true
-    → Whole pieces → drop (taken_of head).start (head ++ more) ≡ joined pieces last
+    (head more : List ℕ) (taken : Taken) (pieces : Pieces) (last : List ℕ) → (table_end_max ≤ length head) ⊎ (more ≡ []) → taken_of head ≡ Ok taken
+    → Whole pieces → drop taken.start (head ++ more) ≡ joined pieces last
     → let old = head ++ more in
     let kept = count_by events_max pieces last in
     (is_salvageable old ≡ true)
     × (file_of Two Nearest (table_in head) (kept_by events_max pieces last) ≡ salvaged_file old)
-    × ((if (has_contents Two head (taken_of head).count kept) [] (contents_change ∷ [])) ++ listed_by (record { at = (taken_of head).start; room = events_max }) pieces last ≡ changes_of old)
+    × ((if (has_contents Two head taken.count kept) [] (contents_change ∷ [])) ++ listed_by (record { at = taken.start; room = events_max }) pieces last ≡ changes_of old)
 
 -- A piece is listed whole where there is a place for each of its events and for a torn rest, as long as it ends within 63 bits.
 abbrev pub PieceIsListed : Type 0
 PieceIsListed =
     (rest : Rest) (piece : List ℕ) (places : ℕ) → (length piece + 15) / 16 ≤ places → rest.at + length piece < 2 ^ 63
-    → (list_of rest piece places).number ≡ 0
+    → IsOk (list_of rest piece places)
 
 -- ---- worked cases
 

@@ -1,14 +1,14 @@
 // The changes that are listed of a file that is salvaged.
 ghost use Rattle.std.specs.Prelude.{◌≡◌};
-ghost use Rattle.listing.specs.Line.{text_of, Within};
+ghost use Rattle.listing.specs.Line.{text_of};
 ghost use Rattle.repair.specs.Salvage.{contents_change, dropped_at, cut_at, pair_of, change_of};
-ghost use Rattle.repair.specs.Line.{change_fields};
+ghost use Rattle.repair.specs.Line.{change_word, change_fields};
 
 use listing::Text;
 
-// The contents table rewritten, an event dropped or the tail cut, and the position in the old file.
+// The contents table rewritten, an event dropped or the tail cut, and the position in the old file. The kind is a number since the C interface hands it out.
 #[repr(C)]
-#[derive(Clone, Copy)]
+#[derive(Clone, Copy, Debug, PartialEq, Eq)]
 pub struct Change {
     pub kind: u64,
     pub position: u64,
@@ -48,35 +48,43 @@ impl Change {
         }
     }
 
-    // The change that two numbers are.
-    pub fn of(pair: [u64; 2]) -> Change
-        ensures { result ≡ change_of pair }
+    // The line of a change: its word, and the position. A kind that there is not has the word of a cut.
+    #[tactic(auto, unfolding(crate::specs::Line::change_fields))]
+    pub fn line(self) -> Text
+        ensures { result ≡ text_of (change_fields self) }
     {
+        listing::worded(self.word(), &[self.position])
+    }
+
+    #[tactic(auto, using(file::proofs::Choices::choices), unfolding(listing::specs::Line::ascii))]
+    fn word(self) -> &'static [u8]
+        ensures { result.now ≡ change_word self.kind }
+    {
+        match self.kind {
+            Change::CONTENTS => b"contents",
+            Change::DROPPED => b"dropped",
+            _ => b"cut",
+        }
+    }
+}
+
+// The change that two numbers are.
+impl From<[u64; 2]> for Change {
+    ghost from_gives = { λ pair change. change ≡ change_of pair };
+
+    fn from(pair: [u64; 2]) -> Change {
         Change {
             kind: pair[0],
             position: pair[1],
         }
     }
+}
 
-    // A change as two numbers.
-    pub fn pair(self) -> [u64; 2]
-        ensures { result ≡ pair_of self }
-    {
-        [self.kind, self.position]
-    }
+// A change as two numbers.
+impl From<Change> for [u64; 2] {
+    ghost from_gives = { λ change pair. pair ≡ pair_of change };
 
-    // The line of a change: its word, and the position. A kind that there is not has the word of a cut.
-    pub fn line(self) -> Text
-        ensures value { result ≡ text_of (change_fields self) }
-        ensures within { Within result }
-    {
-        let place = [self.position];
-        if self.kind == Change::CONTENTS {
-            return listing::worded(b"contents", &place);
-        }
-        if self.kind == Change::DROPPED {
-            return listing::worded(b"dropped", &place);
-        }
-        listing::worded(b"cut", &place)
+    fn from(change: Change) -> [u64; 2] {
+        [change.kind, change.position]
     }
 }

@@ -18,14 +18,11 @@ fn is_kept(trace: &[u8], i: usize, kept: usize, room: usize) -> bool
 pub(crate) fn kept_in(trace: &[u8], room: usize) -> usize
     ensures { result ≡ kept_count room trace.now }
 {
-    let events = trace.len() / Event::SIZE;
     let mut kept: usize = 0;
-    let mut i: usize = 0;
-    while i < events {
+    for i in 0..trace.len() / Event::SIZE {
         if is_kept(trace, i, kept, room) {
             kept += 1;
         }
-        i += 1;
     }
     kept
 }
@@ -35,16 +32,13 @@ pub fn keep(trace: &[u8], room: usize, out: &mut [u8]) -> usize
     ensures value { result ≡ kept_count room trace.now }
     ensures out_after { out.new ≡ sets out.old 0 (kept_of room trace.now) }
 {
-    let events = trace.len() / Event::SIZE;
     let mut kept: usize = 0;
-    let mut i: usize = 0;
-    while i < events {
+    for i in 0..trace.len() / Event::SIZE {
         if is_kept(trace, i, kept, room) {
             let at = Event::SIZE * i;
             cells::put_bytes(out, Event::SIZE * kept, &trace[at..at + Event::SIZE]);
             kept += 1;
         }
-        i += 1;
     }
     kept
 }
@@ -59,7 +53,7 @@ pub(crate) fn put_changes(trace: &[u8], at: u64, room: usize, changes: &mut [[u6
     let dropped = put_drops(trace, at, room, changes);
     if trace.len() % Event::SIZE != 0 {
         let cut = Change::cut(at + (Event::SIZE * events) as u64);
-        changes[dropped] = cut.pair();
+        changes[dropped] = cut.into();
     }
 }
 
@@ -72,15 +66,13 @@ fn put_drops(trace: &[u8], at: u64, room: usize, changes: &mut [[u64; 2]]) -> us
 {
     let events = trace.len() / Event::SIZE;
     let mut kept: usize = 0;
-    let mut i: usize = 0;
-    while i < events {
+    for i in 0..events {
         if is_kept(trace, i, kept, room) {
             kept += 1;
         } else {
             let dropped = Change::dropped(at + (Event::SIZE * i) as u64);
-            changes[i - kept] = dropped.pair();
+            changes[i - kept] = dropped.into();
         }
-        i += 1;
     }
     events - kept
 }

@@ -7,6 +7,7 @@ mod pieces;
 
 ghost use Rattle.std.specs.Prelude.{true, ◌≡◌, ◌++◌, ◌+◌, ◌-◌, ◌≤◌, ◌^◌, length, drop};
 ghost use Rattle.file.specs.File.{events_max};
+ghost use Rattle.file.specs.Refusal.{refusal_number};
 ghost use Rattle.file.specs.Reading.{events_in, trace_start, trace_in};
 ghost use Rattle.repair.specs.Salvage.{is_salvageable, kept_count, salvaged_file, put_on, cuts_of, list_from, salvage_of, salvaged_on, listed_on};
 ghost use Rattle.repair.specs.Pieces.{taken_of};
@@ -14,20 +15,19 @@ ghost use Rattle.repair.specs.Pieces.{taken_of};
 pub use change::Change;
 pub use events::keep;
 use events::{kept_in, put_changes};
-use file::{Event, Form, Outline};
+use file::{Event, Form, Refusal};
 pub use pieces::{Listed, Rest};
 
-// What is taken of an old file: how many streams it has, where its trace starts, and 0; or the refusal, and zeros.
-#[derive(Clone, Copy)]
+// What is taken of an old file: how many streams it has, and where its trace starts.
+#[derive(Clone, Copy, Debug, PartialEq, Eq)]
 pub struct Taken {
-    pub number: u64,
     pub count: usize,
     pub start: usize,
 }
 
-// How long the file is that was written and how many changes are listed, and 0; or the refusal, and zeros.
+// How long the file is that was written and how many changes are listed, and 0; or the refusal, and zeros. The C interface hands it out.
 #[repr(C)]
-#[derive(Clone, Copy)]
+#[derive(Clone, Copy, Debug, PartialEq, Eq)]
 pub struct Salvaged {
     pub number: u64,
     pub length: usize,
@@ -35,34 +35,16 @@ pub struct Salvaged {
 }
 
 // Takes the table body from the place just after two entries. The first bytes of a file tell as much as the whole.
-pub fn take(old: &[u8]) -> Taken
+pub fn take(old: &[u8]) -> Result<Taken, Refusal>
     ensures { result ≡ taken_of old.now }
 {
-    match file::outline_of(old) {
-        Outline::Outlined {
-            form,
-            count,
-            start,
-            end: _,
-        } => match form {
-            Form::Two => Taken {
-                number: 0,
-                count,
-                start,
-            },
-            Form::Three => untaken(),
-        },
-        Outline::Refused(_) => untaken(),
-    }
-}
-
-fn untaken() -> Taken
-    ensures { result ≡ record { number = 16; count = 0; start = 0 } }
-{
-    Taken {
-        number: 16,
-        count: 0,
-        start: 0,
+    let outline = file::outline_of(old)?;
+    match outline.form {
+        Form::Two => Ok(Taken {
+            count: outline.count,
+            start: outline.start,
+        }),
+        Form::Three => Err(Refusal::Layout),
     }
 }
 
@@ -72,19 +54,18 @@ pub fn salvage(old: &[u8], out: &mut [u8], changes: &mut [[u64; 2]]) -> Salvaged
     ensures out_after { out.new ≡ salvaged_on old.now out.old changes.old }
     ensures changes_after { changes.new ≡ listed_on old.now out.old changes.old }
 {
-    let taken = take(old);
-    if taken.number != 0 {
-        return unsalvaged(taken.number);
-    }
+    let taken = match take(old) {
+        Ok(taken) => taken,
+        Err(refusal) => return unsalvaged(refusal),
+    };
     let start = taken.start;
     let trace = &old[start..];
     let kept = kept_in(trace, Event::MOST);
     let length = start + Event::SIZE * kept;
     let stay = file::has_contents(old, Form::Two, taken.count, kept);
-    let contents: usize = if stay { 0 } else { 1 };
-    let listed = contents + listed_in(trace, kept);
+    let listed = usize::from(!stay) + listed_in(trace, kept);
     if (out.len() < length) | (changes.len() < listed) {
-        return unsalvaged(17);
+        return unsalvaged(Refusal::Room);
     }
     put_file(old, start, kept, out);
     put_list(stay, trace, start as u64, changes);
@@ -115,30 +96,27 @@ fn put_list(stay: bool, trace: &[u8], start: u64, changes: &mut [[u64; 2]])
         put_changes(trace, start, Event::MOST, changes);
     } else {
         let contents = Change::contents();
-        changes[0] = contents.pair();
+        changes[0] = contents.into();
         put_changes(trace, start, Event::MOST, &mut changes[1..]);
     }
 }
 
-fn unsalvaged(number: u64) -> Salvaged
-    ensures { result ≡ record { number = number; length = 0; changes = 0 } }
+fn unsalvaged(refusal: Refusal) -> Salvaged
+    ensures { result ≡ record { number = refusal_number refusal; length = 0; changes = 0 } }
 {
     Salvaged {
-        number,
+        number: refusal.number(),
         length: 0,
         changes: 0,
     }
 }
 
 // How many changes are listed of a trace of which so many events are kept.
+#[tactic(auto, using(file::proofs::Choices::choices))]
 pub(crate) fn listed_in(trace: &[u8], kept: usize) -> usize
     requires { kept ≤ events_in trace.now }
     ensures { result ≡ events_in trace.now - kept + length (cuts_of 0 trace.now) }
 {
-    let dropped = trace.len() / Event::SIZE - kept;
-    if trace.len() % Event::SIZE == 0 {
-        dropped
-    } else {
-        dropped + 1
-    }
+    let torn = trace.len() % Event::SIZE != 0;
+    trace.len() / Event::SIZE - kept + usize::from(torn)
 }

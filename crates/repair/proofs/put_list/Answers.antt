@@ -8,7 +8,7 @@ use lib.ListN.{length, length-set}
 use Rattle.repair.specs.Salvage.{contents_change, pair_of, trace_changes}
 use Rattle.repair.proofs.Lists.{list_stays, list_changed, length_behind, behind_first}
 use Rattle.repair.proofs.put_list.Goals as goal
-use Rattle.repair.proofs.put_list.Goals.{After-pair, Else-stay, Then-stay}
+use Rattle.repair.proofs.put_list.Goals.{After-into, Else-stay, Then-stay}
 
 -- how long the list is
 stays : (c : Then-stay) → let a = c.args in length (trace_changes 4_000 a.start a.trace.now) ≤ length a.changes.now
@@ -23,8 +23,8 @@ pub put_changes-requires : goal.put_changes-requires
 put_changes-requires c = record { trace_bound = c.requires.trace_bound; trace_in_bounds = stays (goal.at.put_changes-requires c).Then-stay }
 
 -- the pair is that of the contents
-named : (c : After-pair) → c.pair.result ≡ pair_of contents_change
-named c = c.pair.ensures ∙ rw c.contents-contents.ensures refl
+named : (c : After-into) → c.into.result ≡ pair_of contents_change
+named c = c.into.ensures ∙ rw c.contents-contents.ensures refl
 
 pub bounds-changes-0 : goal.bounds-changes-0
 bounds-changes-0 c = omega (arith, changed (goal.at.bounds-changes-0 c).Else-stay)
@@ -32,14 +32,14 @@ bounds-changes-0 c = omega (arith, changed (goal.at.bounds-changes-0 c).Else-sta
 pub slice_bounds-put_changes-count : goal.slice_bounds-put_changes-count
 slice_bounds-put_changes-count c =
     let a = c.args in
-    omega (arith, changed (goal.at.slice_bounds-put_changes-count c).Else-stay, length-set a.changes.now 0 c.pair.result)
+    omega (arith, changed (goal.at.slice_bounds-put_changes-count c).Else-stay, length-set a.changes.now 0 c.into.result)
 
 pub slice_bounds-put_changes-start : goal.slice_bounds-put_changes-start
 slice_bounds-put_changes-start c = let l = slice_bounds-put_changes-count c in search rules
 
 pub put_changes-requires-else-stay : goal.put_changes-requires-else-stay
 put_changes-requires-else-stay c =
-    record { trace_bound = c.requires.trace_bound; trace_in_bounds = rw (named (goal.at.put_changes-requires-else-stay c).After-pair) (omega (arith, changed (goal.at.put_changes-requires-else-stay c).Else-stay, length_behind contents_change [] c.args.changes.now (omega (arith, changed (goal.at.put_changes-requires-else-stay c).Else-stay)))) }
+    record { trace_bound = c.requires.trace_bound; trace_in_bounds = rw (named (goal.at.put_changes-requires-else-stay c).After-into) (omega (arith, changed (goal.at.put_changes-requires-else-stay c).Else-stay, length_behind contents_change [] c.args.changes.now (omega (arith, changed (goal.at.put_changes-requires-else-stay c).Else-stay)))) }
 
 pub returns-then-stay : goal.returns-then-stay
 returns-then-stay c =
@@ -48,5 +48,5 @@ returns-then-stay c =
 pub returns-else-stay : goal.returns-else-stay
 returns-else-stay c =
     let a = c.args in
-    rw (c.put_changes-else-stay.ensures, named (goal.at.returns-else-stay c).After-pair, list_changed a.stay a.start a.trace.now c.if-stay.false)
+    rw (c.put_changes-else-stay.ensures, named (goal.at.returns-else-stay c).After-into, list_changed a.stay a.start a.trace.now c.if-stay.false)
     (behind_first contents_change (trace_changes 4_000 a.start a.trace.now) a.changes.now (omega (arith, changed (goal.at.returns-else-stay c).Else-stay)))

@@ -1,5 +1,4 @@
 -- `salvage` judges and measures before it puts anything: each way out is a law of `Salvaging`.
-use mathlib.Core.Logic.{inl, inr}
 use mathlib.Core.Path.{◌≡◌, refl, sym, ◌∙◌}
 use mathlib.Core.List.{List}
 use Prim.Native.Nat.{ℕ, ◌+◌, ◌*◌, ◌^◌, ◌≤◌, ◌<◌}
@@ -17,28 +16,28 @@ use Rattle.repair.proofs.Refused.{enough_room}
 use Rattle.repair.proofs.Taking.{Found, refused_is, found_is}
 use Rattle.repair.proofs.Salvaging.{sixteen, seventeen, done, listed_is, the_trace}
 use Rattle.repair.proofs.salvage.Goals as goal
-use Rattle.repair.proofs.salvage.Goals.{After-has_contents-stay, After-kept_in-kept, After-listed_in, Else-out-length, Else-taken-ne0, then-stay, else-stay}
+use Rattle.repair.proofs.salvage.Goals.{After-has_contents-stay, After-kept_in-kept, After-listed_in, Else-out-length, In-Ok}
 
-pub returns-then-taken-ne0 : goal.returns-then-taken-ne0
-returns-then-taken-ne0 c =
+pub returns-in-Err : goal.returns-in-Err
+returns-in-Err c =
     let a = c.args in
-    let refused = refused_is a.old.now c.take-taken.result c.take-taken.ensures c.if-taken-ne0.true in
+    let refused = refused_is a.old.now c.in-Err.refusal c.in-Err.ensures in
     let q = sixteen a.old.now a.out.now a.changes.now refused.0 in
     record { value = c.unsalvaged.ensures ∙ rw refused.1 q.0; out_after = q.1; changes_after = q.2 }
 
 -- past the first test there is something to salvage
-found : (c : Else-taken-ne0) → Found c.args.old.now c.take-taken.result
-found c = found_is _ _ c.take-taken.ensures c.if-taken-ne0.false
+found : (c : In-Ok) → Found c.args.old.now c.in-Ok.taken
+found c = found_is _ _ c.in-Ok.ensures
 
 pub slice_bounds-trace-count : goal.slice_bounds-trace-count
 slice_bounds-trace-count c =
-    let f = found (goal.at.slice_bounds-trace-count c).Else-taken-ne0 in
+    let f = found (goal.at.slice_bounds-trace-count c).In-Ok in
     rw f.start_is (outlined _ f.fine).long
 
 -- what is counted is what is kept of the trace
 kept-is : (c : After-kept_in-kept) → c.kept_in-kept.result ≡ kept_count events_max (trace_in c.args.old.now)
 kept-is c =
-    let f = found_is _ _ c.take-taken.ensures c.if-taken-ne0.false in
+    let f = found_is _ _ c.in-Ok.ensures in
     c.kept_in-kept.ensures ∙ rw (f.start_is, the_trace _ f.fine) refl
 
 -- a slice is no longer than 63 bits can say
@@ -50,10 +49,10 @@ kept_low c = rw (kept-is c) (kept_few events_max (trace_in c.args.old.now)).0
 
 -- and so is the length of the file
 length_is : (c : After-kept_in-kept)
-    → c.take-taken.result.start + event_size * c.kept_in-kept.result
+    → c.in-Ok.taken.start + event_size * c.kept_in-kept.result
     ≡ length (salvaged_file c.args.old.now)
 length_is c =
-    let f = found_is _ _ c.take-taken.ensures c.if-taken-ne0.false in
+    let f = found_is _ _ c.in-Ok.ensures in
     rw (kept-is c, f.start_is) (sym (salvaged_length _ f.fine))
 
 pub slice_bounds-trace-start : goal.slice_bounds-trace-start
@@ -64,51 +63,50 @@ overflow_mul-length c = omega (arith, kept_low (goal.at.overflow_mul-length c).A
 
 pub overflow_add-length : goal.overflow_add-length
 overflow_add-length c =
-    let f = found (goal.at.overflow_add-length c).Else-taken-ne0 in
-    let l : c.take-taken.result.start ≤ length c.args.old.now = rw f.start_is (outlined _ f.fine).long in
+    let f = found (goal.at.overflow_add-length c).In-Ok in
+    let l : c.in-Ok.taken.start ≤ length c.args.old.now = rw f.start_is (outlined _ f.fine).long in
     omega (arith, kept_low (goal.at.overflow_add-length c).After-kept_in-kept, l)
 
 pub listed_in-requires : goal.listed_in-requires
 listed_in-requires c =
-    let f = found (goal.at.listed_in-requires c).Else-taken-ne0 in
+    let f = found (goal.at.listed_in-requires c).In-Ok in
     rw (kept-is (goal.at.listed_in-requires c).After-kept_in-kept, f.start_is, the_trace _ f.fine) (kept_few events_max (trace_in c.args.old.now)).1
 
 -- and of the list
 stay-is : (c : After-has_contents-stay) → c.has_contents-stay.result ≡ contents_stay c.args.old.now
 unfolding contents_stay
 stay-is c =
-    let f = found_is _ _ c.take-taken.ensures c.if-taken-ne0.false in
+    let f = found_is _ _ c.in-Ok.ensures in
     c.has_contents-stay.ensures ∙ rw (c.kept_in-kept.ensures, f.start_is, the_trace _ f.fine, f.count_is) refl
 
 count_is : (c : After-listed_in)
-    → c.if-stay.contents + c.listed_in.result ≡ length (changes_of c.args.old.now)
+    → c.from.result + c.listed_in.result ≡ length (changes_of c.args.old.now)
 unfolding changes_of contents_stay
 count_is c =
     let old = c.args.old.now in
-    let f = found_is _ _ c.take-taken.ensures c.if-taken-ne0.false in
+    let f = found_is _ _ c.in-Ok.ensures in
     let kept : c.kept_in-kept.result ≡ kept_count events_max (trace_in old)
     = c.kept_in-kept.ensures ∙ rw (f.start_is, the_trace _ f.fine) refl in
     let stay : c.has_contents-stay.result ≡ contents_stay old = c.has_contents-stay.ensures ∙ rw (kept, f.count_is) refl in
-    rw (c.listed_in.ensures, kept, f.start_is, the_trace old f.fine, ← stay)
-    (listed_is c.has_contents-stay.result c.if-stay.contents (trace_start old) (trace_in old)
-    (elim c.if-stay.branch [ then-stay w ↦ inl (w.if-stay.true, w.contents-is) | else-stay w ↦ inr (w.if-stay.false, w.contents-is) ]))
+    rw (c.from.ensures, c.listed_in.ensures, kept, f.start_is, the_trace old f.fine, ← stay)
+    (listed_is c.has_contents-stay.result (trace_start old) (trace_in old))
 
 pub overflow_add-listed : goal.overflow_add-listed
 overflow_add-listed c =
     let old = c.args.old.now in
-    omega (arith, count_is (goal.at.overflow_add-listed c).After-listed_in, (enough_room old (found (goal.at.overflow_add-listed c).Else-taken-ne0).fine).2)
+    omega (arith, count_is (goal.at.overflow_add-listed c).After-listed_in, (enough_room old (found (goal.at.overflow_add-listed c).In-Ok).fine).2)
 
 pub returns-then-out-length : goal.returns-then-out-length
 returns-then-out-length c =
     let a = c.args in
-    let f = found (goal.at.returns-then-out-length c).Else-taken-ne0 in
+    let f = found (goal.at.returns-then-out-length c).In-Ok in
     let q = seventeen a.old.now a.out.now a.changes.now f.fine (rw (length_is (goal.at.returns-then-out-length c).After-kept_in-kept, count_is (goal.at.returns-then-out-length c).After-listed_in) at c.if-out-length.true) in
     record { value = c.unsalvaged-then-out-length.ensures ∙ q.0; out_after = q.1; changes_after = q.2 }
 
 -- past both tests there is room for both
 room : (c : Else-out-length)
-    → c.take-taken.result.start + event_size * c.kept_in-kept.result ≡ length (salvaged_file c.args.old.now)
-    → c.if-stay.contents + c.listed_in.result ≡ length (changes_of c.args.old.now)
+    → c.in-Ok.taken.start + event_size * c.kept_in-kept.result ≡ length (salvaged_file c.args.old.now)
+    → c.from.result + c.listed_in.result ≡ length (changes_of c.args.old.now)
     → let a = c.args in
     (length (salvaged_file a.old.now) ≤ length a.out.now) × (length (changes_of a.old.now) ≤ length a.changes.now)
 room c size count =
@@ -118,7 +116,7 @@ room c size count =
 
 pub put_file-requires : goal.put_file-requires
 put_file-requires c =
-    let f = found (goal.at.put_file-requires c).Else-taken-ne0 in
+    let f = found (goal.at.put_file-requires c).In-Ok in
     record {
       value = (f.fine, f.start_is, kept-is (goal.at.put_file-requires c).After-kept_in-kept);
       in_bounds = (room (goal.at.put_file-requires c).Else-out-length (length_is (goal.at.put_file-requires c).After-kept_in-kept) (count_is (goal.at.put_file-requires c).After-listed_in)).0;
@@ -132,7 +130,7 @@ changes-fit old h = h
 pub put_list-requires : goal.put_list-requires
 put_list-requires c =
     let old = c.args.old.now in
-    let f = found (goal.at.put_list-requires c).Else-taken-ne0 in
+    let f = found (goal.at.put_list-requires c).In-Ok in
     let start = f.start_is in
     let trace = the_trace old f.fine in
     record {
@@ -145,6 +143,6 @@ unfolding changes_of
 returns c =
     let a = c.args in
     let old = a.old.now in
-    let f = found (goal.at.returns c).Else-taken-ne0 in
+    let f = found (goal.at.returns c).In-Ok in
     let q = done old a.out.now a.changes.now f.fine (rw (length_is (goal.at.returns c).After-kept_in-kept, count_is (goal.at.returns c).After-listed_in) at c.if-out-length.false) in
     record { value = rw (length_is (goal.at.returns c).After-kept_in-kept, count_is (goal.at.returns c).After-listed_in) q.0; out_after = c.put_file.ensures ∙ q.1; changes_after = c.put_list.ensures ∙ rw (f.start_is, the_trace old f.fine, stay-is (goal.at.returns c).After-has_contents-stay) q.2 }

@@ -1,15 +1,10 @@
 -- `keep` copies the events that are kept: those that the loop has passed stand at the start of the buffer.
 use mathlib.Core.Path.{◌≡◌}
-use Prim.Native.Nat.{◌-◌, ◌≤◌}
 use lib.Seq.{sets}
 use Rattle.table.specs.Fold.{count_to}
-use Rattle.file.specs.Reading.{events_in}
 use Rattle.repair.specs.Salvage.{is_kept, kept_to}
 use Rattle.repair.proofs.events.keep.Given as goal
 
 abbrev pub invariant-loop-i : goal.invariant-loop-i
 invariant-loop-i l =
-    (l.i ≤ events_in l.trace) × (l.kept ≡ count_to (is_kept l.room l.trace) l.i) × (l.out ≡ sets l.initial.out 0 (kept_to l.room l.trace l.i))
-
-abbrev pub decreases-loop-i : goal.decreases-loop-i
-decreases-loop-i l = l.events - l.i
+    (l.kept ≡ count_to (is_kept l.room l.trace) l.i) × (l.out ≡ sets l.initial.out 0 (kept_to l.room l.trace l.i))

@@ -1,13 +1,8 @@
 -- `kept_in` counts the events that are kept: those that the loop has passed are counted.
 use mathlib.Core.Path.{◌≡◌}
-use Prim.Native.Nat.{◌≤◌, ◌-◌}
 use Rattle.table.specs.Fold.{count_to}
-use Rattle.file.specs.Reading.{events_in}
 use Rattle.repair.specs.Salvage.{is_kept}
 use Rattle.repair.proofs.events.kept_in.Given as goal
 
 abbrev pub invariant-loop-i : goal.invariant-loop-i
-invariant-loop-i l = (l.i ≤ events_in l.trace) × (l.kept ≡ count_to (is_kept l.room l.trace) l.i)
-
-abbrev pub decreases-loop-i : goal.decreases-loop-i
-decreases-loop-i l = l.events - l.i
+invariant-loop-i l = l.kept ≡ count_to (is_kept l.room l.trace) l.i

@@ -43,7 +43,7 @@ returns-then-trace-ne0 c =
     let a = c.args in
     let torn = c.if-trace-ne0.true in
     let drops = drops_to a.room a.at a.trace.now (events_in a.trace.now) in
-    rw (c.pair.ensures, c.cut-cut.ensures, c.put_drops-dropped.ensures.changes_after, c.put_drops-dropped.ensures.value, a_cut a.room a.at a.trace.now torn)
+    rw (c.into.ensures, c.cut-cut.ensures, c.put_drops-dropped.ensures.changes_after, c.put_drops-dropped.ensures.value, a_cut a.room a.at a.trace.now torn)
     (one_more drops _ a.changes.now (cut_fits (goal.at.returns-then-trace-ne0 c).Start torn))
 
 pub returns-else-trace-ne0 : goal.returns-else-trace-ne0

@@ -1,19 +1,13 @@
 -- `put_drops` lists the events that are not kept: those that the loop has passed stand at the start of the list.
 use mathlib.Core.Path.{◌≡◌}
 use mathlib.Core.List.{◌++◌, map}
-use Prim.Native.Nat.{◌≤◌, ◌-◌}
-use lib.ListN.{length, drop}
+use Prim.Native.Nat.{◌-◌}
+use lib.ListN.{drop}
 use Rattle.table.specs.Fold.{count_to}
-use Rattle.file.specs.Reading.{events_in}
 use Rattle.repair.specs.Salvage.{is_kept, pair_of, drops_to}
 use Rattle.repair.proofs.events.put_drops.Given as goal
 
 abbrev pub invariant-loop-i : goal.invariant-loop-i
 invariant-loop-i l =
-    (l.i ≤ events_in l.trace)
-    × (l.kept ≡ count_to (is_kept l.room l.trace) l.i)
+    (l.kept ≡ count_to (is_kept l.room l.trace) l.i)
     × (l.changes ≡ map pair_of (drops_to l.room l.at l.trace l.i) ++ drop (l.i - l.kept) l.initial.changes)
-    × (length l.changes ≡ length l.initial.changes)
-
-abbrev pub decreases-loop-i : goal.decreases-loop-i
-decreases-loop-i l = l.events - l.i

@@ -26,7 +26,7 @@ pub returns-then-at-changes : goal.returns-then-at-changes
 returns-then-at-changes c =
     let a = c.args in
     let q = first_refused a.self a.piece.now a.changes.now c.listed_in-listed.result (counted (goal.at.returns-then-at-changes c).After-listed_in-listed) c.if-at-changes.true in
-    record { value = c.refused.ensures ∙ q.0; changes_after = q.1 }
+    record { value = q.0; changes_after = q.1 }
 
 -- past the first test the start is in 63 bits, and there are places enough
 low : (c : Else-at-changes) → let a = c.args in (a.self.at ≤ 9_223_372_036_854_775_807) × (c.listed_in-listed.result ≤ length a.changes.now)
@@ -39,7 +39,7 @@ pub returns-then-at-piece : goal.returns-then-at-piece
 returns-then-at-piece c =
     let a = c.args in
     let q = then_refused a.self a.piece.now a.changes.now c.if-at-piece.true (low (goal.at.returns-then-at-piece c).Else-at-changes).0 in
-    record { value = c.refused-then-at-piece.ensures ∙ q.0; changes_after = q.1 }
+    record { value = q.0; changes_after = q.1 }
 
 -- past both, so is the end
 room : (c : Else-at-piece) → let a = c.args in

@@ -10,7 +10,8 @@ use Rattle.table.specs.Fold.{if}
 use Rattle.table.proofs.Tests.{by_if}
 use Rattle.listing.specs.Line.{space, newline}
 use Rattle.notes.specs.declared.Notes.{Notes}
-use Rattle.notes.specs.declared.Composed.TheVariants as composed
+use Rattle.std.specs.Prelude.{Err}
+use Rattle.notes.specs.declared.Flaw.TheVariants as flaw
 use Rattle.notes.specs.declared.line.Line.{Line}
 use Rattle.notes.specs.declared.line.Line.TheVariants.{Blank, Worst, Span, Padding, Ordered, Stream, Call, Wrong}
 use Rattle.notes.specs.declared.draft.Place.{Place}
@@ -125,7 +126,7 @@ wrong_stays n trace [] h = refl
 wrong_stays n trace (byte ∷ bytes) h = ap (λ (r : Read). bytes_read r bytes) (byte_stopped n trace byte h) ∙ wrong_stays n trace bytes h
 
 module _ (n : Notes) (trace : List ℕ) (h : n.wrong ≡ true) (more out : List ℕ) where
-  composed_wrong : composed_of (bytes_read (read n trace) more) out ≡ filed (composed.Wrong n.line (fault_by n) (expected_by n)) out
+  composed_wrong : composed_of (bytes_read (read n trace) more) out ≡ filed (Err (flaw.Wrong n.line (fault_by n) (expected_by n))) out
   composed_wrong =
       ap (λ (r : Read). composed_of r out) (wrong_stays n trace more h)
       ∙ ap (λ (r : Read). filed_by r.notes r.trace out) (byte_stopped n trace newline h)
@@ -153,7 +154,7 @@ module _ (n : Notes) (trace more out : List ℕ) where
         go (inr (e, f)) =
             ap composed_after e
             ∙ composed_wrong (stopped (with_draft n d h)) trace refl more out
-            ∙ ap (λ (f : Fault). filed (composed.Wrong n.line f (expected_by n)) out) fault
+            ∙ ap (λ (f : Fault). filed (Err (flaw.Wrong n.line f (expected_by n))) out) fault
             ∙ sym (ap composed_after f ∙ composed_wrong (stopped n) trace refl more out)
 
 pub return_is_dropped : ReturnIsDropped

@@ -1,4 +1,5 @@
 -- A line of notes is taken as what its words say; and a line that is shown is read as that line.
+use Rattle.std.specs.Prelude.{Option, None}
 use mathlib.Core.Bool.{Bool, true, false, false≢true}
 use mathlib.Core.Path.{◌≡◌, refl, sym, ap, ◌∙◌}
 use mathlib.Core.List.{List, [], ◌∷◌, ◌++◌, map}
@@ -106,10 +107,10 @@ digits_no_newline (d ∷ ds) p = (λ e. omega (arith, p.0.0, e), digits_no_newli
 
 -- ---- a line, read byte by byte
 
-module _ (line numbers : ℕ) (form : Form) (order : Order) (table : Table) (events began : ℕ) (trace : List ℕ) where
+module _ (line numbers : ℕ) (form : Form) (order : Order) (table : Table) (events : ℕ) (began : Option ℕ) (trace : List ℕ) where
   -- the notes with a line so far, and what is heard of it
   abbrev so_far : Draft → Heard → Notes
-  so_far d h = record { line = line; numbers = numbers; form = form; order = order; table = table; events = events; began = began; draft = d; heard = h; refused = 0; wrong = false }
+  so_far d h = record { line = line; numbers = numbers; form = form; order = order; table = table; events = events; began = began; draft = d; heard = h; refused = None; wrong = false }
 
   abbrev at_draft : Draft → Heard → Read
   at_draft d h = read (so_far d h) trace

@@ -1,4 +1,5 @@
 -- What is shown of a file is composed to that file: line by line, first the numbers of the table, then the order if it has a third entry, then the streams, then the events.
+use Rattle.std.specs.Prelude.{Option, None, Some}
 use mathlib.Core.Bool.{true, false}
 use mathlib.Core.Path.{◌≡◌, refl, sym, ap, ◌∙◌}
 use mathlib.Core.List.{List, [], ◌++◌}
@@ -20,11 +21,10 @@ use Rattle.order.specs.declared.Order.TheVariants.{Nearest}
 use Rattle.file.specs.declared.form.Form.{Form}
 use Rattle.file.specs.declared.form.Form.TheVariants.{Two, Three}
 use Rattle.file.specs.File.{event_size, events_max, bytes_of, stream_cells, table_body, file_of}
-use Rattle.file.specs.Reading.{events_in, event_at, formed, is_trace, column, count_at, start_in, trace_start, trace_end, form_in, order_in, trace_in, table_at, table_in, is_laid_out}
+use Rattle.file.specs.Reading.{laid_out, events_in, event_at, formed, is_trace, column, count_at, start_in, trace_start, trace_end, form_in, order_in, trace_in, table_at, table_in, is_laid_out}
 use Rattle.file.specs.Writing.{put_refusal, with_event, is_writable, write_refusal, write_of, written_on}
 use Rattle.file.specs.Laws.{Words, trimmed}
 use Rattle.file.proofs.Accepted.{read_accepted}
-use Rattle.file.specs.declared.Reading.TheVariants.{LaidOut}
 use Rattle.file.proofs.Columns.{column_at}
 use Rattle.file.proofs.Events.{event_writes_back}
 use Rattle.file.proofs.Round.{table_read_is_trimmed, accepted_is_within, accepted_writes_back, two_means_nearest}
@@ -104,16 +104,16 @@ head_range Two = (omega arith, omega arith)
 head_range Three = (omega arith, omega arith)
 
 -- the line of the first event, which stands after `first` others, once there is one
-abbrev began_of : ℕ → ℕ → ℕ
-began_of first zero = 0
-began_of first (suc e) = first + 1
+abbrev began_of : ℕ → ℕ → Option ℕ
+began_of first zero = None
+began_of first (suc e) = Some (first + 1)
 
-began_there : (first e : ℕ) (form : Form) (order : Order) (t : Table) → began_by (noted (e + (first + 1)) 3 form order t e (began_of first e)) ≡ first + 1
+began_there : (first e : ℕ) (form : Form) (order : Order) (t : Table) → began_by (noted (e + (first + 1)) 3 form order t e (began_of first e)) ≡ Some (first + 1)
 unfolding began_by if
-began_there first zero form order t = omega arith
+began_there first zero form order t = ap Some (omega arith)
 began_there first (suc e) form order t = rw (ne_eqb (suc e) 0 (λ z. omega (arith, z)))
 
-began_is : (first e : ℕ) → began_of first e ≡ if (eqb e 0) 0 (first + 1)
+began_is : (first e : ℕ) → began_of first e ≡ if (eqb e 0) None (Some (first + 1))
 unfolding if
 began_is first zero = refl
 began_is first (suc e) = rw (ne_eqb (suc e) 0 (λ z. omega (arith, z)))
@@ -128,7 +128,7 @@ module _ (form : Form) (order : Order) (nearest : form ≡ Two → order ≡ Nea
   line_there = line_at form order t trace
 
   -- a line more: it is read as the line that was shown
-  line_more : (m line numbers : ℕ) (f : Form) (o : Order) (table : Table) (events began : ℕ) (so_far : List ℕ) (l : Line) (next : Notes) → line_there m ≡ l → Fits l
+  line_more : (m line numbers : ℕ) (f : Form) (o : Order) (table : Table) (events : ℕ) (began : Option ℕ) (so_far : List ℕ) (l : Line) (next : Notes) → line_there m ≡ l → Fits l
       → read_of m ≡ read (noted line numbers f o table events began) so_far → after (noted line numbers f o table events began) l ≡ next → next.wrong ≡ false → line_refusal so_far events l ≡ 0
       → read_of (suc m) ≡ read next (trace_after so_far events l)
   unfolding shown_to refused_by if
@@ -145,12 +145,12 @@ module _ (form : Form) (order : Order) (nearest : form ≡ Two → order ≡ Nea
   streams_of j =
       record { worst = t.worst; span = t.span; padding = t.padding; count = j; reserved = column (reserved_at t) j; period = column (period_at t) j }
 
-  numbers_read : read_of 3 ≡ read (noted 4 3 Two Nearest (streams_of 0) 0 0) buffer
+  numbers_read : read_of 3 ≡ read (noted 4 3 Two Nearest (streams_of 0) 0 None) buffer
   unfolding shown_to bytes_read line_at after_number next_line if column list_to
   numbers_read =
-      line_more 2 3 2 Two Nearest (with_span (with_worst no_table t.worst) t.span) 0 0 buffer (Padding t.padding) (noted 4 3 Two Nearest (streams_of 0) 0 0) refl w.padding_fits
-      (line_more 1 2 1 Two Nearest (with_worst no_table t.worst) 0 0 buffer (Span t.span) (noted 3 2 Two Nearest (with_span (with_worst no_table t.worst) t.span) 0 0) refl w.span_fits
-      (line_more 0 1 0 Two Nearest no_table 0 0 buffer (Worst t.worst) (noted 2 1 Two Nearest (with_worst no_table t.worst) 0 0) refl w.worst_fits refl refl refl refl)
+      line_more 2 3 2 Two Nearest (with_span (with_worst no_table t.worst) t.span) 0 None buffer (Padding t.padding) (noted 4 3 Two Nearest (streams_of 0) 0 None) refl w.padding_fits
+      (line_more 1 2 1 Two Nearest (with_worst no_table t.worst) 0 None buffer (Span t.span) (noted 3 2 Two Nearest (with_span (with_worst no_table t.worst) t.span) 0 None) refl w.span_fits
+      (line_more 0 1 0 Two Nearest no_table 0 None buffer (Worst t.worst) (noted 2 1 Two Nearest (with_worst no_table t.worst) 0 None) refl w.worst_fits refl refl refl refl)
       refl refl refl)
       refl refl refl
 
@@ -159,11 +159,11 @@ module _ (form : Form) (order : Order) (nearest : form ≡ Two → order ≡ Nea
   unfolding line_at if
   order_there is = rw is
 
-  head_read : (f : Form) → form ≡ f → read_of (head_lines f) ≡ read (noted (head_lines f + 1) 3 f order (streams_of 0) 0 0) buffer
+  head_read : (f : Form) → form ≡ f → read_of (head_lines f) ≡ read (noted (head_lines f + 1) 3 f order (streams_of 0) 0 None) buffer
   unfolding takes_order after_order next_line if
-  head_read Two is = numbers_read ∙ ap (λ (o : Order). read (noted 4 3 Two o (streams_of 0) 0 0) buffer) (sym (nearest is))
+  head_read Two is = numbers_read ∙ ap (λ (o : Order). read (noted 4 3 Two o (streams_of 0) 0 None) buffer) (sym (nearest is))
   head_read Three is =
-      line_more 3 4 3 Two Nearest (streams_of 0) 0 0 buffer (Ordered order) (noted 5 3 Three order (streams_of 0) 0 0) (order_there is) tt numbers_read refl refl refl
+      line_more 3 4 3 Two Nearest (streams_of 0) 0 None buffer (Ordered order) (noted 5 3 Three order (streams_of 0) 0 None) (order_there is) tt numbers_read refl refl refl
 
   abbrev head : ℕ
   head = head_lines form
@@ -187,14 +187,14 @@ module _ (form : Form) (order : Order) (nearest : form ≡ Two → order ≡ Nea
   stream_there j h = after_there j ∙ rw (lt-ltb j t.count h, lt-ltb j streams_max (omega (arith, few, h)))
 
   stream_taken : (j : ℕ) → j < streams_max
-      → after (noted (j + (head + 1)) 3 form order (streams_of j) 0 0) (Stream (reserved_at t j) (period_at t j)) ≡ noted (suc j + (head + 1)) 3 form order (streams_of (suc j)) 0 0
+      → after (noted (j + (head + 1)) 3 form order (streams_of j) 0 None) (Stream (reserved_at t j) (period_at t j)) ≡ noted (suc j + (head + 1)) 3 form order (streams_of (suc j)) 0 None
   unfolding after_stream if
   stream_taken j h =
       let e : j + (head + 1) + 1 ≡ suc j + (head + 1) = omega arith in
       let more : j + 1 ≡ suc j = omega arith in
       rw (lt-ltb j streams_max h, next_line_lem (j + (head + 1)) (omega (arith, h, (head_range form).1)), e, more, column_more (reserved_at t) j h, column_more (period_at t) j h)
 
-  streams_read : (j : ℕ) → j ≤ t.count → read_of (j + head) ≡ read (noted (j + (head + 1)) 3 form order (streams_of j) 0 0) buffer
+  streams_read : (j : ℕ) → j ≤ t.count → read_of (j + head) ≡ read (noted (j + (head + 1)) 3 form order (streams_of j) 0 None) buffer
   streams_read zero h =
       let none : 0 + head ≡ head = omega arith in
       let first : 0 + (head + 1) ≡ head + 1 = omega arith in
@@ -202,7 +202,7 @@ module _ (form : Form) (order : Order) (nearest : form ≡ Two → order ≡ Nea
   streams_read (suc j) h =
       let m : suc j + head ≡ suc (j + head) = omega arith in
       ap read_of m
-      ∙ line_more (j + head) (j + (head + 1)) 3 form order (streams_of j) 0 0 buffer (Stream (reserved_at t j) (period_at t j)) (noted (suc j + (head + 1)) 3 form order (streams_of (suc j)) 0 0)
+      ∙ line_more (j + head) (j + (head + 1)) 3 form order (streams_of j) 0 None buffer (Stream (reserved_at t j) (period_at t j)) (noted (suc j + (head + 1)) 3 form order (streams_of (suc j)) 0 None)
       (stream_there j h)
       (w.reserved_fits j, w.period_fits j)
       (streams_read j (omega arith))
@@ -221,7 +221,7 @@ module _ (form : Form) (order : Order) (nearest : form ≡ Two → order ≡ Nea
       ap line_there past ∙ after_there (e + t.count) ∙ rw (le-ltb (e + t.count) t.count (omega arith), at)
 
   event_taken : (e : ℕ) → e < events_max
-      → after (noted (e + (lines + 1)) 3 form order (trimmed t) e (began_of lines e)) (Call (event_at trace e)) ≡ noted (suc e + (lines + 1)) 3 form order (trimmed t) (suc e) (lines + 1)
+      → after (noted (e + (lines + 1)) 3 form order (trimmed t) e (began_of lines e)) (Call (event_at trace e)) ≡ noted (suc e + (lines + 1)) 3 form order (trimmed t) (suc e) (Some (lines + 1))
   unfolding after_event if
   event_taken e h =
       let k : e + (lines + 1) + 1 ≡ suc e + (lines + 1) = omega arith in
@@ -246,7 +246,7 @@ module _ (form : Form) (order : Order) (nearest : form ≡ Two → order ≡ Nea
   events_read (suc e) h =
       let m : suc e + lines ≡ suc (e + lines) = omega arith in
       ap read_of m
-      ∙ line_more (e + lines) (e + (lines + 1)) 3 form order (trimmed t) e (began_of lines e) (stored buffer trace e) (Call (event_at trace e)) (noted (suc e + (lines + 1)) 3 form order (trimmed t) (suc e) (lines + 1))
+      ∙ line_more (e + lines) (e + (lines + 1)) 3 form order (trimmed t) e (began_of lines e) (stored buffer trace e) (Call (event_at trace e)) (noted (suc e + (lines + 1)) 3 form order (trimmed t) (suc e) (Some (lines + 1)))
       (event_there e)
       (event_writes_back trace e b (well e (omega arith))).0
       (events_read e (omega arith))
@@ -261,7 +261,7 @@ abbrev written_of : List ℕ → Read → Filed
 written_of out r = filed_by (ended r.notes r.trace).notes (ended r.notes r.trace).trace out
 
 -- the end of the notes leaves a blank line, which says nothing
-at_end : (line : ℕ) (form : Form) (order : Order) (events began : ℕ) (table : Table) (trace out : List ℕ) → events ≤ events_in trace
+at_end : (line : ℕ) (form : Form) (order : Order) (events : ℕ) (began : Option ℕ) (table : Table) (trace out : List ℕ) → events ≤ events_in trace
     → written_of out (read (noted line 3 form order table events began) trace)
     ≡ filed (told table.count began (write_of form order table (take (event_size * events) trace) out)) (written_on form order table (take (event_size * events) trace) out)
 unfolding byte_read line_ended refused_by fields_line if
@@ -272,8 +272,9 @@ two_nearest : (file : List ℕ) → is_laid_out file ≡ true → form_in file �
 two_nearest file h is =
     let count = count_at file (start_in file) in
     let events = events_in (trace_in file) in
-    two_means_nearest.0 file (order_in file) count (trace_start file) (trace_end file) events
-    (read_accepted file h ∙ ap (λ (form : Form). LaidOut form (order_in file) count (trace_start file) (trace_end file) events) is)
+    two_means_nearest.0 file (laid_out (form_in file) (order_in file) count (trace_start file) (trace_end file) events)
+    (read_accepted file h)
+    is
 
 pub shown_composes : ShownComposes
 unfolding table_at
@@ -285,13 +286,13 @@ shown_composes file buffer out b h room space =
     let e = events_in trace in
     let first = t.count + head_lines form in
     let a = read_accepted file h in
-    let inside = accepted_is_within file _ _ _ _ _ _ a in
+    let inside = accepted_is_within file _ a in
     let table = table_read_is_trimmed file b in
     let bytes = bytes_part (trace_end file - trace_start file) (trace_start file) file b in
     let index : head_lines form + t.count + e ≡ e + first = omega arith in
     let size : length trace ≤ event_size * e = omega (arith, length-take (trace_end file - trace_start file) (drop (trace_start file) file), inside.whole_events) in
     let stores = stored_are trace bytes inside.all_formed buffer room e (omega arith) in
-    let back = accepted_writes_back file out _ _ _ _ _ _ b a space in
+    let back = accepted_writes_back file out _ b a space in
     ap (λ (m : ℕ). written_of out (bytes_read (read started buffer) (shown_to form order t trace m))) index
     ∙ ap (written_of out) (events_read form order (two_nearest file h) t table.0 inside.count_high trace bytes inside.all_formed inside.events_high buffer room e (omega arith))
     ∙ at_end (e + (first + 1)) form order e (began_of first e) (trimmed t) (stored buffer trace e) out (omega (arith, stores.1, room))
@@ -322,5 +323,5 @@ table_composes t buffer out w few fits =
     let done = write_done Two Nearest (trimmed t) [] out (file_taken (trimmed t) (length out) few (rw same fits)) in
     ap (λ (m : ℕ). written_of out (bytes_read (read started buffer) (shown_to Two Nearest t [] m))) none
     ∙ ap (written_of out) (streams_read Two Nearest (λ _. refl) t w few [] (λ i. omega arith) (λ i l. absurd (omega arith)) (omega arith) buffer (omega arith) t.count (omega arith))
-    ∙ at_end (t.count + (head_lines Two + 1)) Two Nearest 0 0 (trimmed t) buffer out (omega arith)
+    ∙ at_end (t.count + (head_lines Two + 1)) Two Nearest 0 None (trimmed t) buffer out (omega arith)
     ∙ rw (done.0, done.1, same)

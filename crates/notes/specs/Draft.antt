@@ -1,5 +1,5 @@
 -- A line of notes, read byte by byte: up to four fields, parted by spaces or tabs, and a comment. The first field is a word of up to eight letters; behind it stand numbers, or behind "order" a name, which is such a word too.
-use Rattle.std.specs.Prelude.{Bool, true, false, ◌&&◌, ◌||◌, List, [], ◌∷◌, ℕ, ◌+◌, ◌-◌, ◌*◌, ◌^◌, leb, ltb, eqb}
+use Rattle.std.specs.Prelude.{Bool, true, false, ◌&&◌, ◌||◌, List, [], ◌∷◌, ℕ, ◌+◌, ◌-◌, ◌*◌, ◌^◌, leb, ltb, eqb, Option, None, Some}
 use Prim.Native.Char.{code}
 use Prim.Native.String.{String}
 use Rattle.table.specs.Fold.{if}
@@ -7,6 +7,8 @@ use Rattle.listing.specs.Line.{ascii, space, zero_digit}
 use Rattle.notes.specs.declared.draft.Place.{Place}
 use Rattle.notes.specs.declared.draft.Place.TheVariants.{Between, Within, Comment, Returned, Stray, Amiss}
 use Rattle.notes.specs.declared.draft.Draft.{Draft}
+use Rattle.notes.specs.declared.draft.Kind.{Kind}
+use Rattle.notes.specs.declared.draft.Kind.TheVariants.{Name, Number}
 
 -- a word as it is held: its letters are digits to the base 256
 unfoldable pub held_after : ℕ → List ℕ → ℕ
@@ -50,6 +52,15 @@ longer false n byte = n * 10 + (byte - zero_digit)
 
 unfoldable pub lengthens : Bool → ℕ → ℕ → Bool
 lengthens name n byte = if name (is_letter byte) (is_digit byte) && ltb (longer name n byte) (2 ^ 64)
+
+-- what it is held as then, where there is such a byte and the room
+unfoldable pub longer_if : Bool → ℕ → ℕ → Option ℕ
+longer_if name n byte = if (lengthens name n byte) (Some (longer name n byte)) None
+
+-- which of the two a word is
+abbrev pub is_name_kind : Kind → Bool
+is_name_kind Name = true
+is_name_kind Number = false
 
 -- a byte more in the word, which is a name, and in a field behind it
 unfoldable pub lettered : Draft → ℕ → Draft

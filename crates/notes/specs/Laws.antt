@@ -1,5 +1,5 @@
 -- What is proved of notes.
-use Rattle.std.specs.Prelude.{true, false, ◌≡◌, List, [], ◌∷◌, ◌++◌, map, ℕ, ◌+◌, ◌*◌, ◌^◌, ◌≤◌, ◌<◌, eqb, length, drop, replicate}
+use Rattle.std.specs.Prelude.{true, false, ◌≡◌, List, [], ◌∷◌, ◌++◌, map, ℕ, ◌+◌, ◌*◌, ◌^◌, ◌≤◌, ◌<◌, eqb, length, drop, replicate, Option, None, Some, Result, Ok}
 use Prim.Native.Char.{code}
 use Rattle.table.specs.Fold.{if}
 use Rattle.table.specs.Ranges.{streams_max}
@@ -18,6 +18,7 @@ use Rattle.listing.specs.Laws.{Each}
 use Rattle.notes.specs.declared.Notes.{Notes}
 use Rattle.notes.specs.declared.Composed.{Composed}
 use Rattle.notes.specs.declared.Composed.TheVariants.{Written, Streamless}
+use Rattle.notes.specs.declared.Flaw.{Flaw}
 use Rattle.notes.specs.declared.line.Line.{Line}
 use Rattle.notes.specs.declared.draft.Draft.{Draft}
 use Rattle.notes.specs.declared.line.Line.TheVariants.{Blank, Worst, Span, Padding, Ordered, Stream, Call, Wrong}
@@ -42,7 +43,7 @@ Fits Wrong = ⊥
 -- A line that is shown is read as that line, wherever it may stand; where the trace refuses its event, the notes have heard of it.
 abbrev pub LineReadsBack : Type 0
 LineReadsBack =
-    (line numbers : ℕ) (form : Form) (order : Order) (table : Table) (events began : ℕ) (trace : List ℕ) (l : Line) → Fits l
+    (line numbers : ℕ) (form : Form) (order : Order) (table : Table) (events : ℕ) (began : Option ℕ) (trace : List ℕ) (l : Line) → Fits l
     → let n = noted line numbers form order table events began in
     (after n l).wrong ≡ false → bytes_read (read n trace) (rendered (line_shown l)) ≡ read (refused_by (after n l) (line_refusal trace events l)) (trace_after trace events l)
 
@@ -57,7 +58,7 @@ LineByWords = (line : List ℕ) → line_of (drawn blank line) ≡ line_of_words
 -- So a line of notes is taken as what its words say, where that may stand; where it may not, the line is told with what was expected, and the trace stays.
 abbrev pub LineIsJudged : Type 0
 LineIsJudged =
-    (line numbers : ℕ) (form : Form) (order : Order) (table : Table) (events began : ℕ) (trace bytes : List ℕ) → Each (λ byte. byte ≡ newline → ⊥) bytes
+    (line numbers : ℕ) (form : Form) (order : Order) (table : Table) (events : ℕ) (began : Option ℕ) (trace bytes : List ℕ) → Each (λ byte. byte ≡ newline → ⊥) bytes
     → let n = noted line numbers form order table events began in
     let l = line_of_words (words_of bytes) in
     let r = bytes_read (read n trace) (bytes ++ (newline ∷ [])) in
@@ -103,8 +104,8 @@ ReturnIsDropped =
     → composed_of (bytes_read r (carriage_return ∷ newline ∷ more)) out ≡ composed_of (bytes_read r (newline ∷ more)) out
 
 -- what composing says of a file of so many bytes, whose table has streams, or whose first event stands right after the head of its notes, or which has none
-abbrev pub said_of : Form → Table → List ℕ → ℕ → Composed
-said_of form t trace len = written_by t.count (if (eqb (events_in trace) 0) 0 (t.count + head_lines form + 1)) len
+abbrev pub said_of : Form → Table → List ℕ → ℕ → Result Composed Flaw
+said_of form t trace len = Ok (written_by t.count (if (eqb (events_in trace) 0) None (Some (t.count + head_lines form + 1))) len)
 
 -- What is shown of a file is composed to that file, byte for byte, whatever stood in the buffers that are lent for the trace and the file, if they have the room.
 abbrev pub ShownComposes : Type 0
@@ -119,7 +120,7 @@ TableComposes =
     (t : Table) (buffer out : List ℕ) → Words t → t.count ≤ streams_max
     → let file = file_of Two Nearest t [] in
     length file ≤ length out
-    → composed_of (bytes_read (read started buffer) (notes_of Two Nearest t [])) out ≡ filed (written_by t.count 0 (length file)) (file ++ drop (length file) out)
+    → composed_of (bytes_read (read started buffer) (notes_of Two Nearest t [])) out ≡ filed (Ok (written_by t.count None (length file))) (file ++ drop (length file) out)
 
 -- What a message quotes is of the wrong line, whether it ended with a newline or with the notes.
 abbrev pub HeardStays : Type 0
@@ -129,7 +130,7 @@ HeardStays = (n : Notes) (trace : List ℕ) → (ended n trace).notes.wrong ≡ 
 abbrev pub NothingElseWritten : Type 0
 NothingElseWritten =
     (n : Notes) (trace out : List ℕ)
-    → ((len : ℕ) → (filed_by n trace out).reply ≡ Written len → ⊥) → ((len event : ℕ) → (filed_by n trace out).reply ≡ Streamless len event → ⊥)
+    → ((len : ℕ) → (filed_by n trace out).reply ≡ Ok (Written len) → ⊥) → ((len : ℕ) (event : Option ℕ) → (filed_by n trace out).reply ≡ Ok (Streamless len event) → ⊥)
     → (filed_by n trace out).out ≡ out
 
 -- what composing makes of some notes, in buffers of zeros for so many events and a file of so many bytes
@@ -147,8 +148,8 @@ with_order =
 
 abbrev pub ListingComposes : Type 0
 ListingComposes =
-    (composed_in 11 234 hand_written ≡ filed (Written 234) listing_file)
-    × (composed_in 1 90 with_order ≡ filed (Written 90) sweep_file)
+    (composed_in 11 234 hand_written ≡ filed (Ok (Written 234)) listing_file)
+    × (composed_in 1 90 with_order ≡ filed (Ok (Written 90)) sweep_file)
 
 -- Each case of `Cases` comes out as it stands there.
 abbrev pub CasesHold : Type 0

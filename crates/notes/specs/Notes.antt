@@ -1,5 +1,5 @@
 -- Notes, read line by line into a table and a trace: the three table numbers in order, then an order if there is one, then streams, then events.
-use Rattle.std.specs.Prelude.{Bool, true, false, not, ◌&&◌, List, [], ◌∷◌, ℕ, ◌+◌, ◌-◌, ◌*◌, ◌^◌, ltb, eqb, take, replicate, set}
+use Rattle.std.specs.Prelude.{Bool, true, false, ◌&&◌, List, [], ◌∷◌, ℕ, ◌+◌, ◌-◌, ◌*◌, ◌^◌, ltb, eqb, take, replicate, set, Option, None, Some, Result, Ok, Err}
 use Rattle.table.specs.Fold.{if}
 use Rattle.table.specs.Ranges.{streams_max}
 use Rattle.table.specs.Admission.{with_padding}
@@ -9,13 +9,17 @@ use Rattle.order.specs.declared.Order.TheVariants.{Nearest}
 use Rattle.file.specs.File.{third_length, events_max, event_size}
 use Rattle.file.specs.Reading.{events_in}
 use Rattle.file.specs.Writing.{write_of, written_on, put_refusal, with_event}
-use Rattle.file.specs.declared.Writing.{Writing}
+use Rattle.file.specs.Refusal.{refusal_of}
+use Rattle.file.specs.declared.refusal.Refusal.{Refusal}
+use Rattle.file.specs.declared.refusal.Refusal.TheVariants.{Room as NoRoom}
 use Rattle.file.specs.declared.form.Form.{Form}
 use Rattle.file.specs.declared.form.Form.TheVariants.{Two, Three}
 use Rattle.listing.specs.Line.{newline}
 use Rattle.notes.specs.declared.Notes.{Notes}
 use Rattle.notes.specs.declared.Composed.{Composed}
-use Rattle.notes.specs.declared.Composed.TheVariants.{Written, Streamless, Wrong, Unfinished, Refused}
+use Rattle.notes.specs.declared.Composed.TheVariants.{Written, Streamless}
+use Rattle.notes.specs.declared.Flaw.{Flaw}
+use Rattle.notes.specs.declared.Flaw.TheVariants.{Wrong, Unfinished, Refused}
 use Rattle.notes.specs.declared.Expected.{Expected}
 use Rattle.notes.specs.declared.Expected.TheVariants.{Worst, Span, Padding, OrderStreamOrEvent, StreamOrEvent, Event, NoMore}
 use Rattle.notes.specs.declared.line.Line.{Line}
@@ -24,17 +28,17 @@ use Rattle.notes.specs.Line.{line_of}
 use Rattle.notes.specs.Heard.{unheard, heard_with}
 use Rattle.notes.specs.Fault.{fault_by}
 
--- notes at the start of a line: its number, how many table numbers have been read, the form and the order of their file, the table so far, and how many events, each of which is in the trace, and the line of the first, or 0
-abbrev pub noted : ℕ → ℕ → Form → Order → Table → ℕ → ℕ → Notes
+-- notes at the start of a line: its number, how many table numbers have been read, the form and the order of their file, the table so far, and how many events, each of which is in the trace, and the line of the first
+abbrev pub noted : ℕ → ℕ → Form → Order → Table → ℕ → Option ℕ → Notes
 noted line numbers form order table events began =
-    record { line = line; numbers = numbers; form = form; order = order; table = table; events = events; began = began; draft = blank; heard = unheard; refused = 0; wrong = false }
+    record { line = line; numbers = numbers; form = form; order = order; table = table; events = events; began = began; draft = blank; heard = unheard; refused = None; wrong = false }
 
 abbrev pub no_table : Table
 no_table = record { worst = 0; span = 0; padding = 0; count = 0; reserved = replicate streams_max 0; period = replicate streams_max 0 }
 
 -- document 02, Req 08: "a file with two entries means nearest"
 abbrev pub started : Notes
-started = noted 1 0 Two Nearest no_table 0 0
+started = noted 1 0 Two Nearest no_table 0 None
 
 -- the same notes, of which the line that is being read is wrong
 abbrev pub stopped : Notes → Notes
@@ -46,7 +50,7 @@ unfoldable pub next_line : ℕ → ℕ
 next_line line = if (ltb line (2 ^ 64 - 1)) (line + 1) line
 
 -- the notes after a right line, which has given them this many table numbers, this table and this many events, of which the first stood there
-abbrev pub advanced : Notes → ℕ → Table → ℕ → ℕ → Notes
+abbrev pub advanced : Notes → ℕ → Table → ℕ → Option ℕ → Notes
 advanced n numbers table events began =
     record { line = next_line n.line; numbers = numbers; form = n.form; order = n.order; table = table; events = events; began = began; draft = blank; heard = unheard; refused = n.refused; wrong = false }
 
@@ -91,8 +95,8 @@ after_stream n e p =
     (advanced n 3 (with_stream n.table e p) 0 n.began)
     (stopped n)
 
-unfoldable pub began_by : Notes → ℕ
-began_by n = if (eqb n.events 0) n.line n.began
+unfoldable pub began_by : Notes → Option ℕ
+began_by n = if (eqb n.events 0) (Some n.line) n.began
 
 unfoldable pub after_event : Notes → Notes
 after_event n =
@@ -149,11 +153,13 @@ line_refusal trace i (Line.Stream e p) = 0
 line_refusal trace i (Line.Call event) = put_refusal trace i event
 line_refusal trace i Line.Wrong = 0
 
--- and the notes that have heard of it
+-- and the notes that have heard of it, if it is
+abbrev pub refused_as : Notes → Refusal → Notes
+refused_as n refusal =
+    record { line = n.line; numbers = n.numbers; form = n.form; order = n.order; table = n.table; events = n.events; began = n.began; draft = n.draft; heard = n.heard; refused = Some refusal; wrong = n.wrong }
+
 unfoldable pub refused_by : Notes → ℕ → Notes
-refused_by n number =
-    if (eqb number 0) n
-    (record { line = n.line; numbers = n.numbers; form = n.form; order = n.order; table = n.table; events = n.events; began = n.began; draft = n.draft; heard = n.heard; refused = number; wrong = n.wrong })
+refused_by n number = if (eqb number 0) n (refused_as n (refusal_of number))
 
 -- a line has ended: a wrong one leaves the trace as it was
 unfoldable pub line_ended : Notes → List ℕ → Read
@@ -192,31 +198,36 @@ bytes_read r (byte ∷ rest) = bytes_read (byte_read r byte) rest
 
 -- what composing answers, and the buffer afterwards
 pub record Filed : Type 0 where
-  pub reply : Composed
+  pub reply : Result Composed Flaw
   pub out : List ℕ
 
-abbrev pub filed : Composed → List ℕ → Filed
+abbrev pub filed : Result Composed Flaw → List ℕ → Filed
 filed reply out = record { reply = reply; out = out }
 
 -- a file whose table has no stream is written, and told as such: opening refuses it by 1
-unfoldable pub written_by : ℕ → ℕ → ℕ → Composed
+unfoldable pub written_by : ℕ → Option ℕ → ℕ → Composed
 written_by streams began len = if (eqb streams 0) (Streamless len began) (Written len)
 
-abbrev pub told : ℕ → ℕ → Writing → Composed
-told streams began (Writing.Written len) = written_by streams began len
-told streams began (Writing.Refused number) = Refused number
+abbrev pub told : ℕ → Option ℕ → Result ℕ Refusal → Result Composed Flaw
+told streams began (Ok len) = Ok (written_by streams began len)
+told streams began (Err refusal) = Err (Refused refusal)
 
 -- the events at the start of a trace
 abbrev pub trace_of_notes : Notes → List ℕ → List ℕ
 trace_of_notes n trace = take (event_size * n.events) trace
 
--- Notes that are right and whole are written as a session file; of others nothing is. Where the trace refused an event, that is told; 17 is for another trace, which is shorter.
+-- an event that was refused goes before what is written
+abbrev pub unless_refused : Option Refusal → List ℕ → Filed → Filed
+unless_refused None out written = written
+unless_refused (Some refusal) out written = filed (Err (Refused refusal)) out
+
+-- Notes that are right and whole are written as a session file; of others nothing is. Where the trace refused an event, that is told; 17, no room, is for another trace, which is shorter.
 unfoldable pub filed_by : Notes → List ℕ → List ℕ → Filed
 filed_by n trace out =
-    if n.wrong (filed (Wrong n.line (fault_by n) (expected_by n)) out)
-    (if (ltb n.numbers 3) (filed (Unfinished (expected_by n)) out)
-    (if (not (eqb n.refused 0)) (filed (Refused n.refused) out)
-    (if (ltb (events_in trace) n.events) (filed (Refused 17) out)
+    if n.wrong (filed (Err (Wrong n.line (fault_by n) (expected_by n))) out)
+    (if (ltb n.numbers 3) (filed (Err (Unfinished (expected_by n))) out)
+    (unless_refused n.refused out
+    (if (ltb (events_in trace) n.events) (filed (Err (Refused NoRoom)) out)
     (filed (told n.table.count n.began (write_of n.form n.order n.table (trace_of_notes n trace) out))
     (written_on n.form n.order n.table (trace_of_notes n trace) out)))))
 

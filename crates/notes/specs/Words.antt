@@ -1,8 +1,7 @@
 -- The notation, said of a whole line at once: its words, and the line that they make. `Laws` has that reading byte by byte comes to the same.
-use Rattle.std.specs.Prelude.{Bool, true, ◌&&◌, List, [], ◌∷◌, ◌++◌, map, ℕ, ◌^◌, ltb, eqb}
+use Rattle.std.specs.Prelude.{Bool, true, ◌&&◌, List, [], ◌∷◌, ◌++◌, map, ℕ, ◌^◌, ltb, eqb, Option, None, Some}
 use Rattle.table.specs.Fold.{if}
 use Rattle.listing.specs.Laws.{spelt_after}
-use Rattle.notes.specs.declared.word.Value.{Value}
 use Rattle.notes.specs.declared.line.Line.{Line}
 use Rattle.notes.specs.declared.line.Line.TheVariants.{Blank, Wrong}
 use Rattle.notes.specs.Draft.{held_after, takes_name, is_gap, hash, carriage_return, is_letter, is_digit}
@@ -51,8 +50,8 @@ unfoldable pub value_of : Bool → List ℕ → ℕ
 value_of names word = if names (held_after 0 word) (spelt_after 0 word)
 
 -- what a word is held as, where it is as it should be
-unfoldable pub read_as : Bool → List ℕ → Value
-read_as names word = if (is_value names word) (Value.Right (value_of names word)) Value.Wrong
+unfoldable pub read_as : Bool → List ℕ → Option ℕ
+read_as names word = if (is_value names word) (Some (value_of names word)) None
 
 -- the line of some words: a name, and up to three numbers, or names as they are held
 abbrev pub numbers_line : ℕ → List ℕ → Line

@@ -1,10 +1,10 @@
 // A line that is being read, byte by byte.
-ghost use Rattle.std.specs.Prelude.{◌≡◌, true};
-ghost use Rattle.notes.specs.Draft.{takes_name, blank, amiss, placed, is_letter, is_digit, longer, lengthens, lettered, valued, in_field, begun, is_gap, after_gap, after_field, with_byte};
+ghost use Rattle.std.specs.Prelude.{◌≡◌, true, ◌+◌, ◌*◌, ◌^◌, ◌<◌, SomeIff};
+ghost use Rattle.notes.specs.Draft.{takes_name, blank, amiss, placed, is_name_kind, longer_if, lettered, valued, in_field, begun, is_gap, after_gap, after_field, with_byte};
 
 // Where in a line its last byte stands: between fields, within one, in a comment, at a carriage return that may end the line,
 // after one that does not, or where no right line can follow, because of the field that was begun last.
-#[derive(Clone, Copy)]
+#[derive(Clone, Copy, Debug, PartialEq, Eq)]
 pub enum Place {
     Between,
     Within,
@@ -26,8 +26,12 @@ pub struct Draft {
     pub last: u64,
 }
 
-// Every word of seven letters is below this, and none of eight.
-const SEVEN_LETTERS: u64 = 72_057_594_037_927_936;
+// What a word consists of: the letters of a name, or the digits of a number.
+#[derive(Clone, Copy, Debug, PartialEq, Eq)]
+pub enum Kind {
+    Name,
+    Number,
+}
 
 // The word that takes a name.
 const ORDER: u64 = 0x6f_72_64_65_72;
@@ -68,6 +72,7 @@ impl Draft {
     }
 
     // A byte after a gap, or at the start.
+    #[tactic(auto, using(file::proofs::Choices::choices), unfolding(crate::specs::Draft::after_gap))]
     fn after_gap(self, byte: u8) -> Draft
         ensures { result ≡ after_gap self byte }
     {
@@ -84,6 +89,7 @@ impl Draft {
     }
 
     // A byte after one of a field.
+    #[tactic(auto, using(file::proofs::Choices::choices), unfolding(crate::specs::Draft::after_field))]
     fn after_field(self, byte: u8) -> Draft
         ensures { result ≡ after_field self byte }
     {
@@ -102,17 +108,11 @@ impl Draft {
     fn at(self, place: Place) -> Draft
         ensures { result ≡ placed self place }
     {
-        Draft {
-            place,
-            fields: self.fields,
-            word: self.word,
-            earlier: self.earlier,
-            before: self.before,
-            last: self.last,
-        }
+        Draft { place, ..self }
     }
 
     // The first byte of a field, before which the fields so far move up; a fifth one is too many.
+    #[tactic(auto, using(file::proofs::Choices::choices), unfolding(crate::specs::Draft::begun))]
     fn begun(self, byte: u8) -> Draft
         ensures { result ≡ begun self byte }
     {
@@ -120,24 +120,22 @@ impl Draft {
             let next = Draft {
                 place: Place::Within,
                 fields: self.fields + 1,
-                word: self.word,
                 earlier: self.before,
                 before: self.last,
                 last: 0,
+                ..self
             };
             return next.in_field(byte);
         }
         Draft {
             place: Place::Amiss,
             fields: 5,
-            word: self.word,
-            earlier: self.earlier,
-            before: self.before,
-            last: self.last,
+            ..self
         }
     }
 
     // A byte of the field that is being read: a letter in the first, and a letter or a digit in the others.
+    #[tactic(auto, using(file::proofs::Choices::choices), unfolding(crate::specs::Draft::in_field))]
     fn in_field(self, byte: u8) -> Draft
         ensures { result ≡ in_field self byte }
     {
@@ -148,38 +146,34 @@ impl Draft {
     }
 
     // A letter more in the word.
+    #[tactic(auto, using(file::proofs::Choices::choices), unfolding(crate::specs::Draft::lettered, crate::specs::Draft::longer_if))]
     fn lettered(self, byte: u8) -> Draft
         ensures { result ≡ lettered self byte }
     {
-        if lengthens(true, self.word, byte) {
-            return Draft {
+        match Kind::Name.longer(self.word, byte) {
+            Some(word) => Draft {
                 place: Place::Within,
                 fields: 1,
-                word: longer(true, self.word, byte),
-                earlier: self.earlier,
-                before: self.before,
-                last: self.last,
-            };
+                word,
+                ..self
+            },
+            None => self.amiss(),
         }
-        self.amiss()
     }
 
     // A letter or a digit more in the name or the number that is being read behind the word.
+    #[tactic(auto, using(file::proofs::Choices::choices), unfolding(crate::specs::Draft::valued, crate::specs::Draft::longer_if))]
     fn valued(self, byte: u8) -> Draft
         ensures { result ≡ valued self byte }
     {
-        let name = takes_name(self.word);
-        if lengthens(name, self.last, byte) {
-            return Draft {
+        match kind_behind(self.word).longer(self.last, byte) {
+            Some(last) => Draft {
                 place: Place::Within,
-                fields: self.fields,
-                word: self.word,
-                earlier: self.earlier,
-                before: self.before,
-                last: longer(name, self.last, byte),
-            };
+                last,
+                ..self
+            },
+            None => self.amiss(),
         }
-        self.amiss()
     }
 }
 
@@ -197,38 +191,33 @@ pub(crate) fn takes_name(word: u64) -> bool
     word == ORDER
 }
 
-fn is_letter(byte: u8) -> bool
-    ensures { result ≡ is_letter byte }
+// Which of the two stands behind a word.
+fn kind_behind(word: u64) -> Kind
+    ensures { is_name_kind result ≡ takes_name word }
 {
-    (b'a' <= byte) & (byte <= b'z')
+    if takes_name(word) {
+        Kind::Name
+    } else {
+        Kind::Number
+    }
 }
 
-pub(crate) fn is_digit(byte: u8) -> bool
-    ensures { result ≡ is_digit byte }
-{
-    (b'0' <= byte) & (byte <= b'9')
+impl Kind {
+    // What n is held as with a byte more, if that is a letter of a name or a digit of a number, and 64 bits have room for it.
+    pub(crate) fn longer(self, n: u64, byte: u8) -> Option<u64>
+        ensures { result ≡ longer_if (is_name_kind self) n byte }
+    {
+        match self {
+            Kind::Name if byte.is_ascii_lowercase() => behind(n, 256, u64::from(byte)),
+            Kind::Number if byte.is_ascii_digit() => behind(n, 10, u64::from(byte - b'0')),
+            _ => None,
+        }
+    }
 }
 
-// Whether a byte is a letter of a name, or a digit of a number, for which 64 bits have room behind n.
-pub(crate) fn lengthens(name: bool, n: u64, byte: u8) -> bool
-    ensures { result ≡ lengthens name n byte }
+// A digit more behind a number to a base, if 64 bits have room for it; a letter is one to the base 256.
+fn behind(n: u64, base: u64, digit: u64) -> Option<u64>
+    ensures { SomeIff result (n * base + digit < 2 ^ 64) (n * base + digit) }
 {
-    if name {
-        return is_letter(byte) & (n < SEVEN_LETTERS);
-    }
-    if is_digit(byte) {
-        return n <= (u64::MAX - (byte - b'0') as u64) / 10;
-    }
-    false
-}
-
-// What it is held as with that byte, for which there is room.
-pub(crate) fn longer(name: bool, n: u64, byte: u8) -> u64
-    requires { lengthens name n byte ≡ true }
-    ensures { result ≡ longer name n byte }
-{
-    if name {
-        return n * 256 + byte as u64;
-    }
-    n * 10 + (byte - b'0') as u64
+    n.checked_mul(base)?.checked_add(digit)
 }

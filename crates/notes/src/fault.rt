@@ -1,17 +1,16 @@
 // What is wrong with a line.
 ghost use Rattle.std.specs.Prelude.{◌≡◌};
-ghost use Rattle.notes.specs.Fault.{is_stray, is_amiss, stream_fault, event_fault, right_fault, count_fault, field_fault, value_fault, fault_of};
+ghost use Rattle.notes.specs.Fault.{stream_fault, event_fault, right_fault, count_fault, field_fault, value_fault, fault_by};
 
 use crate::Notes;
 use crate::draft::{Draft, Place, takes_name};
-use crate::heard::Heard;
 use crate::line::{Line, line_of};
 use crate::numbers::{fits, is_known, is_right, room_at, takes};
 
 // A carriage return within the line; a byte order mark; no word of notes; more or fewer numbers than the word takes, or another number of names than one;
 // no number; a number for which so many bits have no room; no order; a line that stands where it may not; a ninth stream; an event after 4,000.
 // The word, the number or the name is what the notes have heard of the line.
-#[derive(Clone, Copy)]
+#[derive(Clone, Copy, Debug, PartialEq, Eq)]
 pub enum Fault {
     Return,
     Mark,
@@ -26,46 +25,63 @@ pub enum Fault {
     LateEvent,
 }
 
-// What is wrong with a line, from its start on, after so many numbers of the table and so many events.
-pub(crate) fn fault_of(draft: Draft, heard: Heard, numbers: u64, events: usize) -> Fault
-    ensures { result ≡ fault_of draft heard numbers events }
-{
-    let word = heard.word;
-    let place = draft.place;
-    if is_stray(place) {
-        return Fault::Return;
+impl Notes {
+    // What is wrong with the line that is being read, from its start on.
+    #[tactic(auto, using(file::proofs::Choices::choices, crate::proofs::Faults::amiss_test, crate::proofs::Faults::stray_test, crate::proofs::Faults::takes_few), unfolding(crate::specs::Fault::fault_of))]
+    pub(crate) fn fault(self) -> Fault
+        ensures { result ≡ fault_by self }
+    {
+        let draft = self.draft;
+        if draft.place == Place::Stray {
+            return Fault::Return;
+        }
+        if self.heard.word.is_marked() {
+            return Fault::Mark;
+        }
+        if !is_known(draft.word) | ((draft.place == Place::Amiss) & (draft.fields == 1)) {
+            return Fault::Word;
+        }
+        if takes(draft.word) + 1 < draft.fields {
+            return count_fault(draft.word);
+        }
+        self.value_fault()
     }
-    if word.is_marked() {
-        return Fault::Mark;
-    }
-    let known = is_known(draft.word);
-    if !known | (is_amiss(place) & (draft.fields == 1)) {
-        return Fault::Word;
-    }
-    let takes = takes(draft.word);
-    if takes + 1 < draft.fields {
-        return count_fault(draft.word);
-    }
-    value_fault(draft, heard.number.digits, numbers, events)
-}
 
-// What is wrong behind a word of notes; whether the number that was heard has digits only.
-fn value_fault(draft: Draft, digits: bool, numbers: u64, events: usize) -> Fault
-    ensures { result ≡ value_fault draft digits numbers events }
-{
-    let place = draft.place;
-    let spoilt = is_amiss(place);
-    if spoilt | !fits(draft) {
-        return field_fault(draft, digits);
+    // What is wrong behind a word of notes.
+    #[tactic(auto, using(file::proofs::Choices::choices, crate::proofs::Faults::amiss_test), unfolding(crate::specs::Fault::value_fault))]
+    fn value_fault(self) -> Fault
+        ensures { result ≡ value_fault self.draft self.heard.number.digits self.numbers self.events }
+    {
+        let draft = self.draft;
+        if (draft.place == Place::Amiss) | !fits(draft) {
+            return field_fault(draft, self.heard.number.digits);
+        }
+        let line = line_of(draft);
+        if is_right(line) {
+            return self.right_fault(line);
+        }
+        count_fault(draft.word)
     }
-    let line = line_of(draft);
-    if is_right(line) {
-        return right_fault(numbers, events, line);
+
+    // What is wrong with a line that is right by itself: a stream or an event too many, or one that comes too early or too late.
+    fn right_fault(self, line: Line) -> Fault
+        ensures { result ≡ right_fault self.numbers self.events line }
+    {
+        match line {
+            Line::Stream { .. } => stream_fault(self.numbers, self.events),
+            Line::Call(_) => event_fault(self.numbers),
+            Line::Blank
+            | Line::Worst(_)
+            | Line::Span(_)
+            | Line::Padding(_)
+            | Line::Ordered(_)
+            | Line::Wrong => Fault::Misplaced,
+        }
     }
-    count_fault(draft.word)
 }
 
 // More or fewer fields behind a word than it takes.
+#[tactic(auto, using(file::proofs::Choices::choices), unfolding(crate::specs::Fault::count_fault))]
 fn count_fault(word: u64) -> Fault
     ensures { result ≡ count_fault word }
 {
@@ -75,37 +91,22 @@ fn count_fault(word: u64) -> Fault
     Fault::Numbers(takes(word))
 }
 
-// What is wrong with a field behind a word that is not as it should be.
+// What is wrong with a field behind a word that is not as it should be; whether the number that was heard has digits only.
+#[tactic(auto, using(file::proofs::Choices::choices, crate::proofs::Faults::amiss_test), unfolding(crate::specs::Fault::field_fault))]
 fn field_fault(draft: Draft, digits: bool) -> Fault
     ensures { result ≡ field_fault draft digits }
 {
     if takes_name(draft.word) {
         return Fault::NoOrder;
     }
-    let place = draft.place;
-    if is_amiss(place) & !digits {
+    if (draft.place == Place::Amiss) & !digits {
         return Fault::NoNumber;
     }
     Fault::TooLarge(room_at(draft))
 }
 
-// What is wrong with a line that is right by itself.
-fn right_fault(numbers: u64, events: usize, line: Line) -> Fault
-    ensures { result ≡ right_fault numbers events line }
-{
-    match line {
-        Line::Stream { .. } => stream_fault(numbers, events),
-        Line::Call(_) => event_fault(numbers),
-        Line::Blank
-        | Line::Worst(_)
-        | Line::Span(_)
-        | Line::Padding(_)
-        | Line::Ordered(_)
-        | Line::Wrong => Fault::Misplaced,
-    }
-}
-
 // A stream too many, or one that comes too early or too late.
+#[tactic(auto, using(file::proofs::Choices::choices), unfolding(crate::specs::Fault::stream_fault))]
 fn stream_fault(numbers: u64, events: usize) -> Fault
     ensures { result ≡ stream_fault numbers events }
 {
@@ -116,6 +117,7 @@ fn stream_fault(numbers: u64, events: usize) -> Fault
 }
 
 // An event too many, or one that comes too early.
+#[tactic(auto, using(file::proofs::Choices::choices), unfolding(crate::specs::Fault::event_fault))]
 fn event_fault(numbers: u64) -> Fault
     ensures { result ≡ event_fault numbers }
 {
@@ -123,22 +125,4 @@ fn event_fault(numbers: u64) -> Fault
         return Fault::LateEvent;
     }
     Fault::Misplaced
-}
-
-fn is_stray(place: Place) -> bool
-    ensures { result ≡ is_stray place }
-{
-    match place {
-        Place::Stray => true,
-        Place::Between | Place::Within | Place::Comment | Place::Returned | Place::Amiss => false,
-    }
-}
-
-fn is_amiss(place: Place) -> bool
-    ensures { result ≡ is_amiss place }
-{
-    match place {
-        Place::Amiss => true,
-        Place::Between | Place::Within | Place::Comment | Place::Returned | Place::Stray => false,
-    }
 }

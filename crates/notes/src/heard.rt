@@ -1,16 +1,16 @@
 // What a message can quote of a line that is being read.
-ghost use Rattle.std.specs.Prelude.{false, ◌≡◌};
-ghost use Rattle.notes.specs.Heard.{no_field, field_with, is_marked, heard_of, unheard, heard_in, opens_at, is_end, heard_with};
+ghost use Rattle.std.specs.Prelude.{false, ◌≡◌, ltb, min, take};
+ghost use Rattle.notes.specs.Heard.{kept, no_field, field_with, is_marked, heard_of, unheard, heard_in, opens_at, is_end, heard_with};
 
-use crate::draft::{Draft, Place, is_digit, is_gap};
+use crate::draft::{Draft, Place, is_gap};
 use crate::numbers::fits;
 
 // A field: its first bytes, how many there are, and whether each is a digit. One that is longer than what is kept counts as one byte longer.
 #[derive(Clone, Copy)]
 pub struct Field {
-    pub bytes: [u8; Field::KEPT],
-    pub len: usize,
-    pub digits: bool,
+    bytes: [u8; Field::KEPT],
+    len: usize,
+    pub(crate) digits: bool,
 }
 
 // The word of a line, the first of its numbers or names that is wrong, or else the last, and whether the last byte stands in one of them.
@@ -22,7 +22,7 @@ pub struct Heard {
 }
 
 impl Field {
-    pub const KEPT: usize = 20;
+    const KEPT: usize = 20;
 
     // No byte of a field yet.
     fn none() -> Field
@@ -39,30 +39,36 @@ impl Field {
     fn with(self, byte: u8) -> Field
         ensures { result ≡ field_with self byte }
     {
-        let digits = self.digits & is_digit(byte);
-        let mut bytes = self.bytes;
-        let len = self.len;
-        if Field::KEPT <= len {
-            return Field {
-                bytes,
-                len: Field::KEPT + 1,
-                digits,
-            };
+        let mut next = self;
+        next.digits &= byte.is_ascii_digit();
+        if Field::KEPT <= self.len {
+            next.len = Field::KEPT + 1;
+            return next;
         }
-        bytes[len] = byte;
-        Field {
-            bytes,
-            len: len + 1,
-            digits,
-        }
+        next.bytes[self.len] = byte;
+        next.len += 1;
+        next
+    }
+
+    // What is kept of the field.
+    pub fn start(&self) -> &[u8]
+        ensures { result.now ≡ take (min self.now.len kept) self.now.bytes }
+    {
+        &self.bytes[..self.len.min(Field::KEPT)]
+    }
+
+    // Whether the field is longer.
+    pub fn is_cut(self) -> bool
+        ensures { result ≡ ltb kept self.len }
+    {
+        Field::KEPT < self.len
     }
 
     // Whether the field begins with a byte order mark.
     pub(crate) fn is_marked(self) -> bool
         ensures { result ≡ is_marked self }
     {
-        let bytes = self.bytes;
-        (bytes[0] == 0xef) & (bytes[1] == 0xbb) & (bytes[2] == 0xbf)
+        self.bytes.starts_with(&[0xef, 0xbb, 0xbf])
     }
 }
 
@@ -79,6 +85,7 @@ impl Heard {
     }
 
     // What is heard with a byte more of a line, which was this one before it.
+    #[tactic(auto, using(file::proofs::Choices::choices), unfolding(crate::specs::Heard::heard_with))]
     pub(crate) fn with(self, draft: Draft, byte: u8) -> Heard
         ensures { result ≡ heard_with self draft byte }
     {
@@ -89,31 +96,27 @@ impl Heard {
             return self.within(draft.fields == 1, byte);
         }
         if opens(draft) {
-            let next = self.emptied();
-            return next.within(draft.fields == 0, byte);
+            return self.emptied().within(draft.fields == 0, byte);
         }
         self
     }
 
     // A byte more in the first field, the word, or in the number or name behind it.
+    #[tactic(auto, using(file::proofs::Choices::choices), unfolding(crate::specs::Heard::heard_in))]
     fn within(self, first: bool, byte: u8) -> Heard
         ensures { result ≡ heard_in self first byte }
     {
-        let word = self.word;
-        let number = self.number;
         if first {
-            let longer = word.with(byte);
             return Heard {
-                word: longer,
-                number,
+                word: self.word.with(byte),
                 inside: true,
+                ..self
             };
         }
-        let longer = number.with(byte);
         Heard {
-            word,
-            number: longer,
+            number: self.number.with(byte),
             inside: true,
+            ..self
         }
     }
 
@@ -121,20 +124,20 @@ impl Heard {
     fn shut(self) -> Heard
         ensures { result ≡ heard_of self.word self.number false }
     {
-        let mut next = self;
-        next.inside = false;
-        next
+        Heard {
+            inside: false,
+            ..self
+        }
     }
 
     // No byte of the next number yet.
     fn emptied(self) -> Heard
         ensures { result ≡ heard_of self.word no_field false }
     {
-        let word = self.word;
         Heard {
-            word,
             number: Field::none(),
             inside: false,
+            ..self
         }
     }
 }
@@ -150,9 +153,5 @@ fn is_end(byte: u8) -> bool
 fn opens(draft: Draft) -> bool
     ensures { result ≡ opens_at draft.place draft }
 {
-    let place = draft.place;
-    match place {
-        Place::Between => fits(draft),
-        Place::Within | Place::Comment | Place::Returned | Place::Stray | Place::Amiss => false,
-    }
+    (draft.place == Place::Between) & fits(draft)
 }

@@ -10,22 +10,23 @@ mod numbers;
 mod word;
 
 ghost use Rattle.std.specs.Prelude.{◌≡◌, ◌<◌};
-ghost use Rattle.table.specs.Admission.{with_padding};
-ghost use Rattle.notes.specs.Notes.{started, stopped, next_line, advanced, with_worst, with_span, after_number, takes_order, after_order, after_stream, began_by, after_event, after, expected_by, lengthened, written_by, told, read, line_refusal, refused_by, trace_after, line_ended, byte_read, bytes_read, filed_by, ended};
+ghost use Rattle.file.specs.Refusal.{answer_by};
+ghost use Rattle.notes.specs.declared.Flaw.TheVariants.{Refused};
+ghost use Rattle.notes.specs.Notes.{started, stopped, next_line, advanced, after_number, takes_order, after_order, after_stream, began_by, after_event, after, expected_by, lengthened, written_by, read, line_refusal, trace_after, line_ended, byte_read, bytes_read, filed_by, ended};
 
-pub use draft::{Draft, Place, is_gap};
+pub use draft::{Draft, Kind, Place, is_gap};
 pub use fault::Fault;
-use fault::fault_of;
-use file::{Event, Form, Writing};
+use file::{Event, Form, Refusal};
 pub use heard::{Field, Heard};
 use line::line_of;
 pub use line::{Line, head_lines, line_at, shown};
 use order::Order;
 use table::Table;
-pub use word::{Value, read_as};
+pub use word::read_as;
 
 // What has been read of some notes: the number of the line that is being read, how many of the three table numbers there are,
-// the form of the file, which has a third entry where there was an order, and that order, the table so far, how many events there are and in which line the first stands, or 0, the line so far and what a message can quote of it, the number by which an event was refused its place in the trace, or 0, and whether the line is wrong. Then nothing more is read.
+// the form of the file, which has a third entry where there was an order, and that order, the table so far, how many events there are and in which line the first stands, the line so far and what a message can quote of it, why an event was refused its place in the trace, and whether the line is wrong. Then nothing more is read.
+// Form and order stand side by side, and so does whether the line is wrong with what has been read of it: OrderIsOfItsLine and LineIsJudged speak of each.
 #[derive(Clone, Copy)]
 pub struct Notes {
     pub line: u64,
@@ -34,15 +35,15 @@ pub struct Notes {
     pub order: Order,
     pub table: Table,
     pub events: usize,
-    pub began: u64,
+    pub began: Option<u64>,
     pub draft: Draft,
     pub heard: Heard,
-    pub refused: u64,
+    pub refused: Option<Refusal>,
     pub wrong: bool,
 }
 
 // What may stand in the next line.
-#[derive(Clone, Copy)]
+#[derive(Clone, Copy, Debug, PartialEq, Eq)]
 pub enum Expected {
     Worst,
     Span,
@@ -53,21 +54,31 @@ pub enum Expected {
     NoMore,
 }
 
-// What composing says: how long the file is, that its table has no stream and in which line the first event stands, or 0, which line is wrong and what with it, that the notes end too early, or the refusal of the writer.
-#[derive(Clone, Copy)]
+// A file that was written: how long it is, and, where its table has no stream, in which line the first event stands.
+#[derive(Clone, Copy, Debug, PartialEq, Eq)]
 pub enum Composed {
     Written(usize),
-    Streamless {
-        len: usize,
-        event: u64,
-    },
+    Streamless { len: usize, event: Option<u64> },
+}
+
+// Why no file is written: which line is wrong and what with it, that the notes end too early, or the refusal of the writer.
+#[derive(Clone, Copy, Debug, PartialEq, Eq)]
+pub enum Flaw {
     Wrong {
         line: u64,
         fault: Fault,
         expected: Expected,
     },
     Unfinished(Expected),
-    Refused(u64),
+    Refused(Refusal),
+}
+
+impl From<Refusal> for Flaw {
+    ghost from_gives = { λ refusal flaw. flaw ≡ Refused refusal };
+
+    fn from(refusal: Refusal) -> Flaw {
+        Flaw::Refused(refusal)
+    }
 }
 
 // Reads some bytes more of some notes, whose events are at the start of a trace.
@@ -76,22 +87,19 @@ pub fn feed(notes: Notes, bytes: &[u8], trace: &mut [u8]) -> Notes
     ensures trace_after { trace.new ≡ (bytes_read (read notes trace.old) bytes.now).trace }
 {
     let mut so_far = notes;
-    let mut i = 0;
-    while i < bytes.len() {
-        so_far = with_byte(so_far, bytes[i], trace);
-        i += 1;
+    for byte in bytes {
+        so_far = with_byte(so_far, *byte, trace);
     }
     so_far
 }
 
 // Ends some notes, and writes their session file at the start of a buffer; of notes that are wrong or not whole it writes nothing.
-pub fn finish(notes: Notes, trace: &mut [u8], out: &mut [u8]) -> Composed
+pub fn finish(notes: Notes, trace: &mut [u8], out: &mut [u8]) -> Result<Composed, Flaw>
     ensures value { result ≡ (filed_by (ended notes trace.old).notes (ended notes trace.old).trace out.old).reply }
     ensures trace_after { trace.new ≡ (ended notes trace.old).trace }
     ensures out_after { out.new ≡ (filed_by (ended notes trace.old).notes (ended notes trace.old).trace out.old).out }
 {
-    let last = with_byte(notes, b'\n', trace);
-    last.filed(trace, out)
+    with_byte(notes, b'\n', trace).filed(trace, out)
 }
 
 // One byte more.
@@ -113,25 +121,30 @@ fn end_line(notes: Notes, trace: &mut [u8]) -> Notes
     ensures value { result ≡ (line_ended notes trace.old).notes }
     ensures trace_after { trace.new ≡ (line_ended notes trace.old).trace }
 {
-    let draft = notes.draft;
-    let line = line_of(draft);
+    let line = line_of(notes.draft);
     let next = notes.after(line);
     if next.wrong {
         return next;
     }
-    let number = put_line(trace, notes.events, line);
-    next.refused_by(number)
+    match put_line(trace, notes.events, line) {
+        Ok(()) => next,
+        Err(refusal) => Notes {
+            refused: Some(refusal),
+            ..next
+        },
+    }
 }
 
-// Stores the event of a line at i of a trace, or says by which number it is refused; of another line nothing is stored.
-fn put_line(trace: &mut [u8], i: usize, line: Line) -> u64
-    ensures value { result ≡ line_refusal trace.old i line }
+// Stores the event of a line at i of a trace, or says why it is refused; of another line nothing is stored.
+#[tactic(auto, using(file::proofs::Choices::choices))]
+fn put_line(trace: &mut [u8], i: usize, line: Line) -> Result<(), Refusal>
+    ensures value { result ≡ answer_by (line_refusal trace.old i line) tt }
     ensures trace_after { trace.new ≡ trace_after trace.old i line }
 {
     if let Line::Call(event) = line {
         return file::put_event(trace, i, event);
     }
-    0
+    Ok(())
 }
 
 impl Notes {
@@ -157,10 +170,10 @@ impl Notes {
             order: Order::Nearest,
             table,
             events: 0,
-            began: 0,
+            began: None,
             draft: Draft::blank(),
             heard: Heard::none(),
-            refused: 0,
+            refused: None,
             wrong: false,
         }
     }
@@ -170,10 +183,22 @@ impl Notes {
         ensures { result ≡ after self line }
     {
         match line {
-            Line::Blank => self.after_blank(),
-            Line::Worst(n) => self.after_worst(n),
-            Line::Span(n) => self.after_span(n),
-            Line::Padding(n) => self.after_padding(n),
+            Line::Blank => self.advanced(self.numbers, self.table, self.events, self.began),
+            Line::Worst(worst) => self.after_number(
+                0,
+                Table {
+                    worst,
+                    ..self.table
+                },
+            ),
+            Line::Span(span) => self.after_number(1, Table { span, ..self.table }),
+            Line::Padding(padding) => self.after_number(
+                2,
+                Table {
+                    padding,
+                    ..self.table
+                },
+            ),
             Line::Ordered(order) => self.after_order(order),
             Line::Stream { reserved, period } => self.after_stream(reserved, period),
             Line::Call(_) => self.after_event(),
@@ -181,38 +206,8 @@ impl Notes {
         }
     }
 
-    fn after_blank(self) -> Notes
-        ensures { result ≡ advanced self self.numbers self.table self.events self.began }
-    {
-        let table = self.table;
-        self.advanced(self.numbers, table, self.events, self.began)
-    }
-
-    fn after_worst(self, n: u32) -> Notes
-        ensures { result ≡ after_number self 0 (with_worst self.table n) }
-    {
-        let mut table = self.table;
-        table.worst = n;
-        self.after_number(0, table)
-    }
-
-    fn after_span(self, n: u32) -> Notes
-        ensures { result ≡ after_number self 1 (with_span self.table n) }
-    {
-        let mut table = self.table;
-        table.span = n;
-        self.after_number(1, table)
-    }
-
-    fn after_padding(self, n: u32) -> Notes
-        ensures { result ≡ after_number self 2 (with_padding self.table n) }
-    {
-        let mut table = self.table;
-        table.padding = n;
-        self.after_number(2, table)
-    }
-
     // The table with its number at this place, or a wrong line where another number has its turn.
+    #[tactic(auto, using(file::proofs::Choices::choices), unfolding(crate::specs::Notes::after_number))]
     fn after_number(self, place: u64, table: Table) -> Notes
         requires { place < 3 }
         ensures { result ≡ after_number self place table }
@@ -224,41 +219,33 @@ impl Notes {
     }
 
     // Whether the next line may be that of an order.
+    #[tactic(auto, using(file::proofs::Choices::choices), unfolding(crate::specs::Notes::takes_order))]
     fn takes_order(self) -> bool
         ensures { result ≡ takes_order self }
     {
-        let form = self.form;
-        let third = form.third();
         (self.numbers == Notes::TABLE_NUMBERS)
-            & (third == 0)
+            & (self.form.third() == 0)
             & (self.table.count == 0)
             & (self.events == 0)
     }
 
     // An order, once and before any stream or event: the file has a third entry for it.
+    #[tactic(auto, using(file::proofs::Choices::choices), unfolding(crate::specs::Notes::after_order))]
     fn after_order(self, order: Order) -> Notes
         ensures { result ≡ after_order self order }
     {
         if self.takes_order() {
-            let table = self.table;
             return Notes {
-                line: next_line(self.line),
-                numbers: self.numbers,
                 form: Form::Three,
                 order,
-                table,
-                events: self.events,
-                began: self.began,
-                draft: Draft::blank(),
-                heard: Heard::none(),
-                refused: self.refused,
-                wrong: false,
+                ..self.advanced(self.numbers, self.table, self.events, self.began)
             };
         }
         self.stopped()
     }
 
     // One stream more: up to eight, before any event.
+    #[tactic(auto, using(file::proofs::Choices::choices), unfolding(crate::specs::Notes::after_stream))]
     fn after_stream(self, reserved: u32, period: u32) -> Notes
         ensures { result ≡ after_stream self reserved period }
     {
@@ -280,6 +267,7 @@ impl Notes {
     }
 
     // One event more, up to 4,000.
+    #[tactic(auto, using(file::proofs::Choices::choices), unfolding(crate::specs::Notes::after_event))]
     fn after_event(self) -> Notes
         ensures { result ≡ after_event self }
     {
@@ -289,76 +277,65 @@ impl Notes {
         if Event::MOST <= self.events {
             return self.stopped();
         }
-        let table = self.table;
-        let began = self.began_by();
-        self.advanced(Notes::TABLE_NUMBERS, table, self.events + 1, began)
+        self.advanced(
+            Notes::TABLE_NUMBERS,
+            self.table,
+            self.events + 1,
+            self.began_by(),
+        )
     }
 
-    // The line of the first event, if this line has one.
-    fn began_by(self) -> u64
+    // The line of the first event, which is this one where it has the first.
+    #[tactic(auto, using(file::proofs::Choices::choices), unfolding(crate::specs::Notes::began_by))]
+    fn began_by(self) -> Option<u64>
         ensures { result ≡ began_by self }
     {
         if self.events == 0 {
-            return self.line;
+            return Some(self.line);
         }
         self.began
     }
 
     // The notes after a right line, with what it has given them.
-    fn advanced(self, numbers: u64, table: Table, events: usize, began: u64) -> Notes
+    fn advanced(self, numbers: u64, table: Table, events: usize, began: Option<u64>) -> Notes
         ensures { result ≡ advanced self numbers table events began }
     {
-        let form = self.form;
-        let order = self.order;
         Notes {
             line: next_line(self.line),
             numbers,
-            form,
-            order,
             table,
             events,
             began,
             draft: Draft::blank(),
             heard: Heard::none(),
-            refused: self.refused,
             wrong: false,
+            ..self
         }
-    }
-
-    // The notes, whose event was refused by a number, unless that is 0.
-    fn refused_by(self, number: u64) -> Notes
-        ensures { result ≡ refused_by self number }
-    {
-        let mut next = self;
-        if number != 0 {
-            next.refused = number;
-        }
-        next
     }
 
     // The notes, of which the line that is being read is wrong.
     fn stopped(self) -> Notes
         ensures { result ≡ stopped self }
     {
-        let mut next = self;
-        next.wrong = true;
-        next
+        Notes {
+            wrong: true,
+            ..self
+        }
     }
 
     // The line that is being read has a byte more.
     fn lengthened(self, byte: u8) -> Notes
         ensures { result ≡ lengthened self byte }
     {
-        let before = self.draft;
-        let draft = before.with(byte);
-        let heard = self.heard.with(before, byte);
-        let mut next = self;
-        next.draft = draft;
-        next.heard = heard;
-        next
+        Notes {
+            draft: self.draft.with(byte),
+            heard: self.heard.with(self.draft, byte),
+            ..self
+        }
     }
 
     // What is expected where a line is wrong, or where the notes end too early.
+    #[tactic(auto, using(file::proofs::Choices::choices), unfolding(crate::specs::Notes::expected_by))]
     fn expected(self) -> Expected
         ensures { result ≡ expected_by self }
     {
@@ -384,65 +361,41 @@ impl Notes {
     }
 
     // Writes the session file of notes that have ended, where they are right and whole.
-    fn filed(self, trace: &[u8], out: &mut [u8]) -> Composed
+    fn filed(self, trace: &[u8], out: &mut [u8]) -> Result<Composed, Flaw>
         ensures value { result ≡ (filed_by self trace.now out.old).reply }
         ensures out_after { out.new ≡ (filed_by self trace.now out.old).out }
     {
         if self.wrong {
-            let draft = self.draft;
-            let heard = self.heard;
-            let fault = fault_of(draft, heard, self.numbers, self.events);
-            let expected = self.expected();
-            return Composed::Wrong {
+            return Err(Flaw::Wrong {
                 line: self.line,
-                fault,
-                expected,
-            };
+                fault: self.fault(),
+                expected: self.expected(),
+            });
         }
         if self.numbers < Notes::TABLE_NUMBERS {
-            let expected = self.expected();
-            return Composed::Unfinished(expected);
+            return Err(Flaw::Unfinished(self.expected()));
         }
-        if self.refused != 0 {
-            return Composed::Refused(self.refused);
+        if let Some(refusal) = self.refused {
+            return Err(Flaw::Refused(refusal));
         }
-        let events = self.events;
-        if trace.len() / Event::SIZE < events {
-            return Composed::Refused(17);
+        if trace.len() / Event::SIZE < self.events {
+            return Err(Flaw::Refused(Refusal::Room));
         }
-        let end = Event::SIZE * events;
-        let table = self.table;
-        let form = self.form;
-        let order = self.order;
-        told(
-            table.count,
-            self.began,
-            file::write(table, form, order, &trace[..end], out),
-        )
+        let trace = &trace[..Event::SIZE * self.events];
+        let len = file::write(self.table, self.form, self.order, trace, out)?;
+        Ok(written_by(self.table.count, self.began, len))
     }
 }
 
 fn next_line(line: u64) -> u64
     ensures { result ≡ next_line line }
 {
-    if line < u64::MAX {
-        return line + 1;
-    }
-    line
-}
-
-// What is said of a file that was written, or refused.
-fn told(streams: usize, began: u64, writing: Writing) -> Composed
-    ensures { result ≡ told streams began writing }
-{
-    match writing {
-        Writing::Written(len) => written_by(streams, began, len),
-        Writing::Refused(number) => Composed::Refused(number),
-    }
+    line.saturating_add(1)
 }
 
 // A file whose table has no stream is told as such.
-fn written_by(streams: usize, began: u64, len: usize) -> Composed
+#[tactic(auto, using(file::proofs::Choices::choices), unfolding(crate::specs::Notes::written_by))]
+fn written_by(streams: usize, began: Option<u64>, len: usize) -> Composed
     ensures { result ≡ written_by streams began len }
 {
     if streams == 0 {

@@ -1,7 +1,7 @@
 // The lines of notes: read from their fields, and shown.
-ghost use Rattle.std.specs.Prelude.{◌≡◌, [], ◌∷◌, ◌≤◌};
+ghost use Rattle.std.specs.Prelude.{◌≡◌, ◌≤◌};
 ghost use Rattle.file.specs.declared.event.Event.TheVariants.{Arrival};
-ghost use Rattle.listing.specs.Line.{worded_fields, text_of, Within};
+ghost use Rattle.listing.specs.Line.{text_of};
 ghost use Rattle.notes.specs.Line.{word_line, order_line, table_line, number_line, stream_line, pair_line, triple_line, fields_line, line_of, event_shown, order_shown, line_shown, stream_at, after_head, head_lines, line_at};
 
 use crate::draft::{Draft, Place, takes_name};
@@ -46,23 +46,21 @@ const NEAREST: u64 = 0x6e_65_61_72_65_73_74;
 
 const SWEEP: u64 = 0x73_77_65_65_70;
 
-// The most that a number of the table or a tag may be, and the stream of an event.
-const WORD_MAX: u64 = 0xffff_ffff;
-
+// The most that the stream of an event may be.
 const BYTE_MAX: u64 = 0xff;
 
 // The line that has been read.
 pub(crate) fn line_of(draft: Draft) -> Line
     ensures { result ≡ line_of draft }
 {
-    let place = draft.place;
-    match place {
+    match draft.place {
         Place::Between | Place::Within | Place::Comment | Place::Returned => fields_line(draft),
         Place::Stray | Place::Amiss => Line::Wrong,
     }
 }
 
 // The line of the fields, by how many there are.
+#[tactic(auto, using(file::proofs::Choices::choices), unfolding(crate::specs::Line::fields_line))]
 pub(crate) fn fields_line(draft: Draft) -> Line
     ensures { result ≡ fields_line draft }
 {
@@ -82,6 +80,7 @@ pub(crate) fn fields_line(draft: Draft) -> Line
 }
 
 // The line of a word alone.
+#[tactic(auto, using(file::proofs::Choices::choices), unfolding(crate::specs::Line::word_line, crate::specs::Draft::held_after, listing::specs::Line::ascii))]
 pub(crate) fn word_line(word: u64) -> Line
     ensures { result ≡ word_line word }
 {
@@ -92,6 +91,7 @@ pub(crate) fn word_line(word: u64) -> Line
 }
 
 // The line of a word and a number, or a name as it is held.
+#[tactic(auto, using(file::proofs::Choices::choices), unfolding(crate::specs::Line::number_line, crate::specs::Draft::held_after, listing::specs::Line::ascii))]
 pub(crate) fn number_line(word: u64, n: u64) -> Line
     ensures { result ≡ number_line word n }
 {
@@ -104,13 +104,14 @@ pub(crate) fn number_line(word: u64, n: u64) -> Line
     if takes_name(word) {
         return order_line(n);
     }
-    if n <= WORD_MAX {
-        return table_line(word, n as u32);
+    match u32::try_from(n) {
+        Ok(n) => table_line(word, n),
+        Err(_) => Line::Wrong,
     }
-    Line::Wrong
 }
 
 // The line of an order's name.
+#[tactic(auto, using(file::proofs::Choices::choices), unfolding(crate::specs::Line::order_line, crate::specs::Draft::held_after, listing::specs::Line::ascii))]
 fn order_line(name: u64) -> Line
     ensures { result ≡ order_line name }
 {
@@ -124,6 +125,7 @@ fn order_line(name: u64) -> Line
 }
 
 // The line of a word and a number of the table.
+#[tactic(auto, using(file::proofs::Choices::choices), unfolding(crate::specs::Line::table_line, crate::specs::Draft::held_after, listing::specs::Line::ascii))]
 fn table_line(word: u64, n: u32) -> Line
     ensures { result ≡ table_line word n }
 {
@@ -140,6 +142,7 @@ fn table_line(word: u64, n: u32) -> Line
 }
 
 // The line of a word and two numbers.
+#[tactic(auto, using(file::proofs::Choices::choices), unfolding(crate::specs::Line::pair_line, crate::specs::Draft::held_after, listing::specs::Line::ascii))]
 pub(crate) fn pair_line(word: u64, a: u64, b: u64) -> Line
     ensures { result ≡ pair_line word a b }
 {
@@ -166,22 +169,21 @@ pub(crate) fn pair_line(word: u64, a: u64, b: u64) -> Line
 }
 
 // The line of a stream.
+#[tactic(auto, using(file::proofs::Choices::choices), unfolding(crate::specs::Line::stream_line))]
 fn stream_line(a: u64, b: u64) -> Line
     ensures { result ≡ stream_line a b }
 {
-    if WORD_MAX < a {
+    let Ok(reserved) = u32::try_from(a) else {
         return Line::Wrong;
-    }
-    if WORD_MAX < b {
+    };
+    let Ok(period) = u32::try_from(b) else {
         return Line::Wrong;
-    }
-    Line::Stream {
-        reserved: a as u32,
-        period: b as u32,
-    }
+    };
+    Line::Stream { reserved, period }
 }
 
 // The line of a word and three numbers.
+#[tactic(auto, using(file::proofs::Choices::choices), unfolding(crate::specs::Line::triple_line, crate::specs::Draft::held_after, listing::specs::Line::ascii))]
 pub(crate) fn triple_line(word: u64, a: u64, b: u64, c: u64) -> Line
     ensures { result ≡ triple_line word a b c }
 {
@@ -191,13 +193,13 @@ pub(crate) fn triple_line(word: u64, a: u64, b: u64, c: u64) -> Line
     if BYTE_MAX < a {
         return Line::Wrong;
     }
-    if WORD_MAX < c {
+    let Ok(tag) = u32::try_from(c) else {
         return Line::Wrong;
-    }
+    };
     Line::Call(Event::Arrival {
         stream: a,
         place: b,
-        tag: c as u32,
+        tag,
     })
 }
 
@@ -213,6 +215,7 @@ pub fn head_lines(form: Form) -> usize
 }
 
 // The line at i of the notes of a file, counted from 0: the three numbers of its table, its order if it has a third entry, its streams, and the events.
+#[tactic(auto, using(file::proofs::Choices::choices), unfolding(crate::specs::Line::line_at))]
 pub fn line_at(form: Form, order: Order, table: Table, trace: &[u8], i: usize) -> Line
     ensures { result ≡ line_at form order table trace.now i }
 {
@@ -233,110 +236,79 @@ pub fn line_at(form: Form, order: Order, table: Table, trace: &[u8], i: usize) -
 }
 
 // The line at i of those after the head.
+#[tactic(auto, using(file::proofs::Choices::choices), unfolding(crate::specs::Line::after_head))]
 fn after_head(table: Table, trace: &[u8], i: usize) -> Line
     ensures { result ≡ after_head table trace.now i }
 {
     if i < table.count {
         return stream_at(table, i);
     }
-    let event = file::event_at(trace, i - table.count);
-    Line::Call(event)
+    Line::Call(file::event_at(trace, i - table.count))
 }
 
+#[tactic(auto, using(file::proofs::Choices::choices), unfolding(crate::specs::Line::stream_at))]
 fn stream_at(table: Table, i: usize) -> Line
     ensures { result ≡ stream_at table i }
 {
     if Table::STREAMS_MAX <= i {
         return Line::Wrong;
     }
-    let reserved = table.reserved;
-    let period = table.period;
     Line::Stream {
-        reserved: reserved[i],
-        period: period[i],
+        reserved: table.reserved[i],
+        period: table.period[i],
     }
 }
 
 // A line as it is printed. What is no line of notes is an empty one.
+#[tactic(auto, using(file::proofs::Choices::choices), unfolding(listing::specs::Line::ascii))]
 pub fn shown(line: Line) -> Text
-    ensures value { result ≡ text_of (line_shown line) }
-    ensures within { Within result }
+    ensures { result ≡ text_of (line_shown line) }
 {
     match line {
-        Line::Blank | Line::Wrong => bare(b""),
-        Line::Worst(n) => with_one(b"worst", n as u64),
-        Line::Span(n) => with_one(b"span", n as u64),
-        Line::Padding(n) => with_one(b"padding", n as u64),
+        Line::Blank | Line::Wrong => worded(b"", &[]),
+        Line::Worst(n) => worded(b"worst", &[u64::from(n)]),
+        Line::Span(n) => worded(b"span", &[u64::from(n)]),
+        Line::Padding(n) => worded(b"padding", &[u64::from(n)]),
         Line::Ordered(order) => order_shown(order),
-        Line::Stream { reserved, period } => with_two(b"stream", reserved as u64, period as u64),
+        Line::Stream { reserved, period } => worded(
+            b"stream",
+            &[u64::from(reserved), u64::from(period)],
+        ),
         Line::Call(event) => event_shown(event),
     }
 }
 
+#[tactic(auto, using(file::proofs::Choices::choices), unfolding(listing::specs::Line::ascii))]
 fn order_shown(order: Order) -> Text
-    ensures value { result ≡ text_of (order_shown order) }
-    ensures within { Within result }
+    ensures { result ≡ text_of (order_shown order) }
 {
     match order {
-        Order::Nearest => bare(b"order nearest"),
-        Order::Sweep => bare(b"order sweep"),
+        Order::Nearest => worded(b"order nearest", &[]),
+        Order::Sweep => worded(b"order sweep", &[]),
     }
 }
 
+#[tactic(auto, using(file::proofs::Choices::choices), unfolding(listing::specs::Line::ascii))]
 fn event_shown(event: Event) -> Text
-    ensures value { result ≡ text_of (event_shown event) }
-    ensures within { Within result }
+    ensures { result ≡ text_of (event_shown event) }
 {
     match event {
         Event::Arrival { stream, place, tag } => arrival_shown(stream, place, tag),
-        Event::Turn => bare(b"turn"),
-        Event::OwnTurn { stream, index } => with_two(b"own", stream, index),
-        Event::Done { duration } => with_one(b"done", duration),
-        Event::Clock { time } => with_one(b"clock", time),
-        Event::Malformed => bare(b""),
+        Event::Turn => worded(b"turn", &[]),
+        Event::OwnTurn { stream, index } => worded(b"own", &[stream, index]),
+        Event::Done { duration } => worded(b"done", &[duration]),
+        Event::Clock { time } => worded(b"clock", &[time]),
+        Event::Malformed => worded(b"", &[]),
     }
 }
 
 // An arrival's tag is shown where it is not 0.
+#[tactic(auto, using(file::proofs::Choices::choices, crate::proofs::Tags::tag_shown_lem), unfolding(listing::specs::Line::ascii))]
 fn arrival_shown(stream: u64, place: u64, tag: u32) -> Text
-    ensures value { result ≡ text_of (event_shown (Arrival stream place tag)) }
-    ensures within { Within result }
+    ensures { result ≡ text_of (event_shown (Arrival stream place tag)) }
 {
     if tag == 0 {
-        return with_two(b"arrival", stream, place);
+        return worded(b"arrival", &[stream, place]);
     }
-    with_three(b"arrival", stream, place, tag as u64)
-}
-
-// The line of a text without numbers, of a word and a number, of a word and two, and of a word and three.
-fn bare(word: &[u8]) -> Text
-    ensures value { result ≡ text_of (worded_fields word.now []) }
-    ensures within { Within result }
-{
-    let numbers = [0u64; 0];
-    worded(word, &numbers)
-}
-
-fn with_one(word: &[u8], n: u64) -> Text
-    ensures value { result ≡ text_of (worded_fields word.now (n ∷ [])) }
-    ensures within { Within result }
-{
-    let numbers = [n];
-    worded(word, &numbers)
-}
-
-fn with_two(word: &[u8], a: u64, b: u64) -> Text
-    ensures value { result ≡ text_of (worded_fields word.now (a ∷ b ∷ [])) }
-    ensures within { Within result }
-{
-    let numbers = [a, b];
-    worded(word, &numbers)
-}
-
-fn with_three(word: &[u8], a: u64, b: u64, c: u64) -> Text
-    ensures value { result ≡ text_of (worded_fields word.now (a ∷ b ∷ c ∷ [])) }
-    ensures within { Within result }
-{
-    let numbers = [a, b, c];
-    worded(word, &numbers)
+    worded(b"arrival", &[stream, place, u64::from(tag)])
 }

@@ -14,75 +14,49 @@ const PAST_WORD: u64 = 0x1_0000_0000;
 pub(crate) fn is_right(line: Line) -> bool
     ensures { result ≡ is_right line }
 {
-    match line {
-        Line::Wrong => false,
-        Line::Blank
-        | Line::Worst(_)
-        | Line::Span(_)
-        | Line::Padding(_)
-        | Line::Ordered(_)
-        | Line::Stream { .. }
-        | Line::Call(_) => true,
-    }
-}
-
-// Whether there is a line of a word alone, of a word and this number, of a word and these two, and of a word and these three.
-fn stands_alone(word: u64) -> bool
-    ensures { result ≡ is_right (word_line word) }
-{
-    is_right(word_line(word))
-}
-
-fn takes_one(word: u64, n: u64) -> bool
-    ensures { result ≡ is_right (number_line word n) }
-{
-    is_right(number_line(word, n))
-}
-
-fn takes_two(word: u64, a: u64, b: u64) -> bool
-    ensures { result ≡ is_right (pair_line word a b) }
-{
-    is_right(pair_line(word, a, b))
-}
-
-fn takes_three(word: u64, a: u64, b: u64, c: u64) -> bool
-    ensures { result ≡ is_right (triple_line word a b c) }
-{
-    is_right(triple_line(word, a, b, c))
+    !matches!(line, Line::Wrong)
 }
 
 // Whether a word is one of notes.
+#[tactic(auto, using(file::proofs::Choices::choices), unfolding(crate::specs::Numbers::is_known))]
 pub(crate) fn is_known(word: u64) -> bool
     ensures { result ≡ is_known word }
 {
-    takes_name(word) | stands_alone(word) | takes_one(word, 0) | takes_two(word, 0, 0)
+    takes_name(word)
+        | is_right(word_line(word))
+        | is_right(number_line(word, 0))
+        | is_right(pair_line(word, 0, 0))
 }
 
 // How many numbers or names it takes at most; of three numbers the last may be left out.
+#[tactic(auto, using(file::proofs::Choices::choices), unfolding(crate::specs::Numbers::takes))]
 pub(crate) fn takes(word: u64) -> u64
     ensures { result ≡ takes word }
 {
-    if stands_alone(word) {
+    if is_right(word_line(word)) {
         return 0;
     }
-    if takes_name(word) | takes_one(word, 0) {
+    if takes_name(word) | is_right(number_line(word, 0)) {
         return 1;
     }
-    if takes_three(word, 0, 0, 0) {
+    if is_right(triple_line(word, 0, 0, 0)) {
         return 3;
     }
     2
 }
 
 // Whether no number of a line so far is too large, and no name is that of no order.
+#[tactic(auto, using(file::proofs::Choices::choices), unfolding(crate::specs::Numbers::fits))]
 pub(crate) fn fits(draft: Draft) -> bool
     ensures { result ≡ fits draft }
 {
-    let goes_on = takes_two(draft.word, draft.last, 0);
-    (draft.fields < 2) | is_right(fields_line(draft)) | ((draft.fields == 2) & goes_on)
+    (draft.fields < 2)
+        | is_right(fields_line(draft))
+        | ((draft.fields == 2) & is_right(pair_line(draft.word, draft.last, 0)))
 }
 
 // Its first number.
+#[tactic(auto, using(file::proofs::Choices::choices), unfolding(crate::specs::Numbers::first_of))]
 fn first_of(draft: Draft) -> u64
     ensures { result ≡ first_of draft }
 {
@@ -96,19 +70,20 @@ fn first_of(draft: Draft) -> u64
 }
 
 // For how many bits there is room where the first of its numbers stands that is too large.
+#[tactic(auto, using(file::proofs::Choices::choices), unfolding(crate::specs::Numbers::room_at))]
 pub(crate) fn room_at(draft: Draft) -> u64
     ensures { result ≡ room_at draft }
 {
-    if takes_one(draft.word, PAST_WORD) {
+    if is_right(number_line(draft.word, PAST_WORD)) {
         return 64;
     }
-    if takes_one(draft.word, 0) {
+    if is_right(number_line(draft.word, 0)) {
         return 32;
     }
-    if takes_two(draft.word, PAST_BYTE, 0) {
+    if is_right(pair_line(draft.word, PAST_BYTE, 0)) {
         return 32;
     }
-    if takes_two(draft.word, first_of(draft), 0) {
+    if is_right(pair_line(draft.word, first_of(draft), 0)) {
         if draft.fields == 4 {
             return 32;
         }

@@ -1,29 +1,17 @@
 // A word that is read whole.
 ghost use Rattle.std.specs.Prelude.{◌≡◌};
+ghost use Rattle.notes.specs.Draft.{is_name_kind};
 ghost use Rattle.notes.specs.Words.{read_as};
 
-use crate::draft::{lengthens, longer};
+use crate::draft::Kind;
 
-// What a word is held as, or that it is no name or number of 64 bits.
-#[derive(Clone, Copy)]
-pub enum Value {
-    Right(u64),
-    Wrong,
-}
-
-// Reads a word byte by byte: a name, which is letters, or a number, which is digits. What is held of it has to have room in 64 bits.
-pub fn read_as(name: bool, word: &[u8]) -> Value
-    ensures { result ≡ read_as name word.now }
+// What a name or a number is held as, if a word is one and 64 bits have room for it.
+pub fn read_as(kind: Kind, word: &[u8]) -> Option<u64>
+    ensures { result ≡ read_as (is_name_kind kind) word.now }
 {
     let mut n: u64 = 0;
-    let mut i: usize = 0;
-    while i < word.len() {
-        let byte = word[i];
-        if !lengthens(name, n, byte) {
-            return Value::Wrong;
-        }
-        n = longer(name, n, byte);
-        i += 1;
+    for byte in word {
+        n = kind.longer(n, *byte)?;
     }
-    Value::Right(n)
+    Some(n)
 }

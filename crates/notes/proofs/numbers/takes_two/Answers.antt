@@ -1,7 +1,0 @@
--- `takes_two` asks for the line.
-use mathlib.Core.Path.{ap, ◌∙◌}
-use Rattle.notes.specs.Numbers.{is_right}
-use Rattle.notes.proofs.numbers.takes_two.Goals as goal
-
-pub returns : goal.returns
-returns c = c.is_right.ensures ∙ ap is_right c.pair_line.ensures

@@ -67,10 +67,7 @@ pub fn remove(files: &impl Files, name: &[u8]) -> io::Result<()>
 fn path(name: &[u8]) -> io::Result<&str>
     ensures { MatchResult result (λ p. (p.now ≡ name.now) × IsUtf8 name.now) (λ _. ¬ (IsUtf8 name.now)) }
 {
-    match str::from_utf8(name) {
-        Ok(path) => Ok(path),
-        Err(_) => Err(io::Error::from(ErrorKind::InvalidFilename)),
-    }
+    str::from_utf8(name).map_err(|_| io::Error::from(ErrorKind::InvalidFilename))
 }
 
 // Reads until the buffer is full or there is no more, and answers how many bytes it put at its start.
@@ -80,6 +77,7 @@ pub fn read_full<R: Read>(from: &mut R, buffer: &mut [u8]) -> io::Result<usize>
     ensures end { IfOk result (λ n. n < length buffer.new → IsAtEnd (R.remaining from.new)) }
 {
     let mut done: usize = 0;
+    // No count goes up by one here: each read says how far it came.
     while done < buffer.len() {
         let got = from.read(&mut buffer[done..])?;
         if got == 0 {

@@ -15,27 +15,9 @@ use Rattle.time.specs.declared.remainders.Latest.{Latest}
 use Rattle.stream.specs.declared.Stream.{Stream}
 use Rattle.session.specs.declared.Session.{Session}
 
--- what is read past the end of a list of streams; in a sound session nothing is
-abbrev pub no_stream : Stream
-no_stream =
-    record {
-      reserved = 0;
-      period = 0;
-      granted = disk_time 0;
-      release = moment 0;
-      deadline = moment 0;
-      charge = disk_time 0;
-      expired = 0;
-      start = disk_time 0;
-      queued = 0;
-      places = [];
-      tags = [];
-      last = record { charge = disk_time 0; closed = moment 0; deadline = moment 0; expired = 0; start = disk_time 0 };
-    }
-
 -- a stream of a session, counted from 0
 abbrev pub stream_at : Session → ℕ → Stream
-stream_at s i = get_or s.streams i no_stream
+stream_at s i = stream_in s.streams i
 
 -- the place and the tag of its queued request j, counted from 0
 abbrev pub place_at : Session → ℕ → ℕ → ℕ

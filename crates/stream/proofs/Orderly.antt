@@ -41,7 +41,7 @@ pub or_right : (a b : Bool) → b ≡ true → (a || b) ≡ true
 or_right true b h = refl
 or_right false b h = h
 
-of_row : (queued : ℕ) (cells : List ℕ) → Row queued cells → sound_row cells queued ≡ true
+pub of_row : (queued : ℕ) (cells : List ℕ) → Row queued cells → sound_row cells queued ≡ true
 unfolding sound_row
 of_row queued cells q =
     rw (eq-eqb _ _ q.sixteen, le-leb _ _ q.queued_high)

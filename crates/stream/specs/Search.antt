@@ -1,5 +1,5 @@
 -- What the code's searches keep of the streams passed so far. No rule stands here: a reader of the rules may pass this file over.
-use Rattle.std.specs.Prelude.{Bool, true, false, not, ◌&&◌, ◌||◌, List, ℕ, ◌+◌, ◌*◌, ◌/◌, ◌≤◌, ◌<◌, min, get_or, replicate, leb, ltb, eqb, ℤ, pos, ◌-ℤ◌}
+use Rattle.std.specs.Prelude.{Bool, true, ◌&&◌, ◌||◌, List, ℕ, ◌+◌, ◌*◌, ◌/◌, ◌≤◌, ◌<◌, min, get_or, replicate, leb, ltb, eqb, ℤ, pos, ◌-ℤ◌, Option, None, Some}
 use Rattle.table.specs.Fold.{if}
 use Rattle.table.specs.Ranges.{streams_max, worst_max, span_max}
 use Rattle.table.specs.Admission.{numbers_refusal, stream_refusal}
@@ -7,8 +7,8 @@ use Rattle.table.specs.Whole.{eq_z}
 use Rattle.table.specs.Margin.{less_load}
 use Rattle.time.specs.Time.{moment, disk_time, parts_max}
 use Rattle.time.specs.declared.Clock.{Clock}
-use Rattle.stream.specs.Stream.{filled, part_of, sound_stream}
-use Rattle.stream.specs.Choice.{leading}
+use Rattle.stream.specs.Stream.{slots, filled, part_of, sound_stream, stream_in}
+use Rattle.stream.specs.Choice.{leading, expires_first}
 use Rattle.stream.specs.declared.census.Census.{Census}
 use Rattle.stream.specs.declared.sums.Sums.{Sums}
 use Rattle.stream.specs.declared.choice.Lead.{Lead}
@@ -43,49 +43,41 @@ pub record Summable (sums : Sums) : Type 0 where
   pub parts_high : sums.parts ≤ parts_max
 
 -- what is kept of a session's streams as it is judged: before the first used stream, and with one more
-unfoldable pub begun : ℕ → ℕ → ℕ → ℕ → Clock → Stream → Census
-begun worst span k count h first =
+abbrev pub first_census : ℕ → ℕ → ℕ → Clock → Stream → Census
+first_census worst span k h first =
     record {
       worst = worst;
       span = span;
       padding = k;
       horizon = h;
-      sound = eqb (numbers_refusal (record { worst = worst; span = span; padding = k; count = count; reserved = replicate streams_max 0; period = replicate streams_max 0 })) 0;
       soonest = first.deadline;
       sums = nothing_summed;
       shares = 0;
       least = first.period;
     }
 
-abbrev pub with_sound : Census → Bool → Census
-with_sound c sound =
+abbrev pub next_census : Census → Stream → Census
+next_census c x =
     record {
       worst = c.worst;
       span = c.span;
       padding = c.padding;
       horizon = c.horizon;
-      sound = sound;
-      soonest = c.soonest;
-      sums = c.sums;
-      shares = c.shares;
-      least = c.least;
-    }
-
-unfoldable pub counted : Census → Stream → Census
-counted c x =
-    if (in_order c.worst c.span c.padding c.horizon.0 x)
-    (record {
-      worst = c.worst;
-      span = c.span;
-      padding = c.padding;
-      horizon = c.horizon;
-      sound = c.sound;
       soonest = moment (min c.soonest.0 x.deadline.0);
       sums = summed c.sums x c.span c.horizon.0;
       shares = c.shares + x.granted.0 * (c.span / x.period);
       least = min c.least x.period;
-    })
-    (with_sound c false)
+    }
+
+-- nothing is kept where the numbers are refused, and where a stream is not in order
+unfoldable pub begun : ℕ → ℕ → ℕ → ℕ → Clock → Stream → Option Census
+begun worst span k count h first =
+    if (eqb (numbers_refusal (record { worst = worst; span = span; padding = k; count = count; reserved = replicate streams_max 0; period = replicate streams_max 0 })) 0)
+    (Some (first_census worst span k h first))
+    None
+
+unfoldable pub counted : Census → Stream → Option Census
+counted c x = if (in_order c.worst c.span c.padding c.horizon.0 x) (Some (next_census c x)) None
 
 -- and neither does a sum of shares: eight of the span are far less
 abbrev pub shares_max : ℕ
@@ -104,8 +96,7 @@ load_so c = c.shares + c.worst * (c.span / c.least)
 
 unfoldable pub says : Census → ℤ → ℤ → Bool
 says c margin sum =
-    c.sound
-    && leb (load_so c) c.span
+    leb (load_so c) c.span
     && eq_z margin (less_load c.span (load_so c))
     && eqb c.horizon.0 c.soonest.0
     && eq_z sum (remainders_so c.sums c.span)
@@ -122,12 +113,26 @@ lead before places m = record { index = leading before places m; place = get_or 
 unfoldable pub foremost : (ℕ → ℕ → Bool) → Lead → ℕ → ℕ → Lead
 foremost before best j place = if (before place best.place) (record { index = j; place = place }) best
 
+-- of the best so far and another request the better: where there is none so far the other, and of equals the first
+unfoldable pub preferred : (ℕ → ℕ → Bool) → Option Pick → Pick → Option Pick
+preferred before None pick = Some pick
+preferred before (Some best) pick =
+    let sooner = ltb pick.deadline.0 best.deadline.0 in
+    let alike = eqb pick.deadline.0 best.deadline.0 in
+    if (sooner || (alike && before pick.place best.place)) (Some pick) (Some best)
+
 -- one step of the search for the request to send: a stream with no filled slot changes nothing, and of equals the first stays
-unfoldable pub considered : ℕ → ℕ → (ℕ → ℕ → Bool) → Pick → Stream → ℕ → Pick
+unfoldable pub considered : ℕ → ℕ → (ℕ → ℕ → Bool) → Option Pick → Stream → ℕ → Option Pick
 considered worst h before best x i =
     let request = lead before x.places (filled worst h x) in
-    let sooner = ltb x.deadline.0 best.deadline.0 in
-    let alike = eqb x.deadline.0 best.deadline.0 in
     if (eqb (filled worst h x) 0) best
-    (if (best.found && not (sooner || (alike && before request.place best.place))) best
-    (record { found = true; stream = i; index = request.index; deadline = x.deadline; place = request.place }))
+    (preferred before best (record { stream = i; index = request.index; deadline = x.deadline; place = request.place }))
+
+-- whether stream i goes before the best so far as they lose slots: it does where there is none
+abbrev pub first_of : List Stream → Option ℕ → ℕ → Bool
+first_of streams None i = true
+first_of streams (Some best) i = expires_first (stream_in streams i) (stream_in streams best)
+
+-- one step of the search for the stream that loses a slot: one with no slot changes nothing, and of equals the first stays
+unfoldable pub lapsing : ℕ → ℕ → List Stream → Option ℕ → ℕ → Option ℕ
+lapsing worst h streams best i = if (leb 1 (slots worst h (stream_in streams i)) && first_of streams best i) (Some i) best

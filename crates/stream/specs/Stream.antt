@@ -1,6 +1,6 @@
 -- One stream: slots and micro-deadlines, and how a call changes it.
 -- Document 01's letters for a stream x: e is x.reserved, p is x.period, g is x.granted, r is x.release, d is x.deadline, c is x.charge. The number in a clock or a charge is read by .0.
-use Rattle.std.specs.Prelude.{Bool, ◌&&◌, ◌||◌, List, ℕ, ◌+◌, ◌-◌, ◌*◌, ◌/◌, min, length, get_or, set, replicate, leb, ltb, eqb}
+use Rattle.std.specs.Prelude.{Bool, ◌&&◌, ◌||◌, List, [], ℕ, ◌+◌, ◌-◌, ◌*◌, ◌/◌, min, length, get_or, set, replicate, leb, ltb, eqb}
 use Rattle.table.specs.Fold.{if, closed_up, all_to}
 use Rattle.table.specs.Admission.{granted_of}
 use Rattle.time.specs.Time.{session_end, duration_max, moment, disk_time}
@@ -51,6 +51,28 @@ shifted worst a x m = record { above = m.above - (worst - a) * x.period; below =
 -- the first part of "the remainder of a stream is (h − r) × g / p − c", times H: a whole number, since p divides H
 abbrev pub part_of : ℕ → ℕ → Stream → ℕ
 part_of span h x = (h - x.release.0) * x.granted.0 * (span / x.period)
+
+-- what is read past the end of a list of streams; in a sound session nothing is
+abbrev pub no_stream : Stream
+no_stream =
+    record {
+      reserved = 0;
+      period = 0;
+      granted = disk_time 0;
+      release = moment 0;
+      deadline = moment 0;
+      charge = disk_time 0;
+      expired = 0;
+      start = disk_time 0;
+      queued = 0;
+      places = [];
+      tags = [];
+      last = record { charge = disk_time 0; closed = moment 0; deadline = moment 0; expired = 0; start = disk_time 0 };
+    }
+
+-- a stream of a list, counted from 0
+abbrev pub stream_in : List Stream → ℕ → Stream
+stream_in streams i = get_or streams i no_stream
 
 -- a stream with another charge, expired count and queue
 abbrev pub worked : Stream → ℕ → ℕ → ℕ → List ℕ → List ℕ → Stream

@@ -16,64 +16,63 @@ pub struct Lead {
     pub place: u64,
 }
 
-// The request that would be sent of the streams passed so far, if they have one.
+// The request that would be sent of the streams passed so far.
 #[derive(Clone, Copy)]
 pub struct Pick {
-    pub found: bool,
     pub stream: usize,
     pub index: usize,
     pub deadline: Clock,
     pub place: u64,
 }
 
-// The better of the best so far and one more stream's request; of equals the first stays.
+// The better of the best so far, if there is one, and one more stream's request; of equals the first stays.
 pub fn consider(
-    best: Pick,
-    x: Stream,
+    best: Option<Pick>,
+    x: &Stream,
     i: usize,
     worst: u32,
     h: Clock,
     order: Order,
     head: u64,
-) -> Pick
-    requires { Bounded worst h.0 x }
-    ensures { result ≡ considered worst h.0 (goes_before order head) best x i }
+) -> Option<Pick>
+    requires { Bounded worst h.0 x.now }
+    ensures { result ≡ considered worst h.0 (goes_before order head) best x.now i }
 {
     let m = x.filled(worst, h);
     if m == 0 {
         return best;
     }
-    let places = x.places;
-    let request = leading(order, head, places, m);
-    let deadline = x.deadline;
-    let sooner = best.deadline.is_after(deadline);
-    let same = deadline.is(best.deadline);
-    let ahead = order.goes_before(head, request.place, best.place);
-    if best.found & !(sooner | (same & ahead)) {
-        return best;
-    }
-    Pick {
-        found: true,
+    let request = leading(order, head, &x.places, m);
+    let pick = Pick {
         stream: i,
         index: request.index,
-        deadline: deadline,
+        deadline: x.deadline,
         place: request.place,
+    };
+    let Some(first) = best else {
+        return Some(pick);
+    };
+    let sooner = first.deadline.is_after(pick.deadline);
+    let same = pick.deadline.is(first.deadline);
+    let ahead = order.goes_before(head, pick.place, first.place);
+    if sooner | (same & ahead) {
+        Some(pick)
+    } else {
+        best
     }
 }
 
 // Of the first m places the one that goes first; of equals the first.
-fn leading(order: Order, head: u64, places: [u64; Stream::QUEUE_MAX], m: usize) -> Lead
+fn leading(order: Order, head: u64, places: &[u64; Stream::QUEUE_MAX], m: usize) -> Lead
     requires { m ≤ queue_max }
-    ensures { result ≡ lead (goes_before order head) places m }
+    ensures { result ≡ lead (goes_before order head) places.now m }
 {
     let mut best = Lead {
         index: 0,
         place: places[0],
     };
-    let mut j: usize = 0;
-    while j < m {
-        best = foremost(order, head, best, j, places[j]);
-        j += 1;
+    for (j, place) in places[..m].iter().enumerate() {
+        best = foremost(order, head, best, j, *place);
     }
     best
 }
@@ -83,10 +82,7 @@ fn foremost(order: Order, head: u64, best: Lead, j: usize, place: u64) -> Lead
     ensures { result ≡ foremost (goes_before order head) best j place }
 {
     if order.goes_before(head, place, best.place) {
-        Lead {
-            index: j,
-            place: place,
-        }
+        Lead { index: j, place }
     } else {
         best
     }

@@ -17,7 +17,7 @@ ghost use Rattle.stream.specs.Search.{in_order};
 
 pub use census::Census;
 pub use choice::{Pick, consider};
-pub use expiry::{Lapse, better};
+pub use expiry::better;
 pub use sums::Sums;
 use time::{Charge, Clock};
 
@@ -80,48 +80,44 @@ impl Stream {
         let places = [0u64; Stream::QUEUE_MAX];
         let tags = [0u32; Stream::QUEUE_MAX];
         Stream {
-            reserved: reserved,
-            period: period,
+            reserved,
+            period,
             granted: budget,
             release: start,
-            deadline: deadline,
+            deadline,
             charge: nothing,
             expired: 0,
             start: nothing,
             queued: 0,
-            places: places,
-            tags: tags,
-            last: last,
+            places,
+            tags,
+            last,
         }
     }
 
     // How many requests of the worst-case time fit before the horizon, by one division.
-    pub fn slots(self, worst: u32, h: Clock) -> u64
-        requires { Bounded worst h.0 self }
-        ensures { result ≡ slots worst h.0 self }
+    pub fn slots(&self, worst: u32, h: Clock) -> u64
+        requires { Bounded worst h.0 self.now }
+        ensures { result ≡ slots worst h.0 self.now }
     {
         let room = self.granted.times(h.since(self.release));
         let used = self.charge.times(self.period as u64);
-        room_left(room, used) / (worst as u64 * self.period as u64)
+        room.saturating_sub(used) / (worst as u64 * self.period as u64)
     }
 
     // How many of them queued requests fill.
-    pub fn filled(self, worst: u32, h: Clock) -> usize
-        requires { Bounded worst h.0 self }
-        ensures { result ≡ filled worst h.0 self }
+    pub fn filled(&self, worst: u32, h: Clock) -> usize
+        requires { Bounded worst h.0 self.now }
+        ensures { result ≡ filled worst h.0 self.now }
     {
         let slots = self.slots(worst, h);
-        if slots < self.queued as u64 {
-            slots as usize
-        } else {
-            self.queued
-        }
+        slots.min(self.queued as u64) as usize
     }
 
     // Whether its cells are those of a stream in use, whatever the horizon.
-    pub(crate) fn is_sound(self, worst: u32, k: u32) -> bool
-        requires { (0 < worst) × (worst ≤ worst_max) × (granted_of worst k self.reserved ≤ period_max) }
-        ensures { result ≡ sound_cells worst k self }
+    pub(crate) fn is_sound(&self, worst: u32, k: u32) -> bool
+        requires { (0 < worst) × (worst ≤ worst_max) × (granted_of worst k self.now.reserved ≤ period_max) }
+        ensures { result ≡ sound_cells worst k self.now }
     {
         let budget = self
             .granted
@@ -133,16 +129,13 @@ impl Stream {
             return false;
         }
         let covered = self.charge.covers(self.start, worst, self.expired);
-        let places = self.places;
-        let tags = self.tags;
-        let queue = queue_is_sound(places, tags, self.queued);
-        covered & queue
+        covered && queue_is_sound(&self.places, &self.tags, self.queued)
     }
 
     // Whether nothing refuses its reservation, its cells are those of a stream in use, and its job is open at the horizon.
-    pub(crate) fn is_in_order(self, worst: u32, span: u32, k: u32, h: Clock) -> bool
+    pub(crate) fn is_in_order(&self, worst: u32, span: u32, k: u32, h: Clock) -> bool
         requires { (0 < worst) × (worst ≤ worst_max) }
-        ensures { result ≡ in_order worst span k h.0 self }
+        ensures { result ≡ in_order worst span k h.0 self.now }
     {
         if table::stream_refusal(worst, span, k, self.reserved, self.period) != 0 {
             return false;
@@ -154,8 +147,8 @@ impl Stream {
     }
 
     // Whether every cell is 0.
-    pub fn is_unused(self) -> bool
-        ensures { result ≡ unused_stream self }
+    pub fn is_unused(&self) -> bool
+        ensures { result ≡ unused_stream self.now }
     {
         let table = (self.reserved == 0) & (self.period == 0);
         let expired = self.expired == 0;
@@ -167,9 +160,7 @@ impl Stream {
         let deadline = self.deadline.is(start);
         let charge = self.charge.is(nothing);
         let from_nothing = self.start.is(nothing);
-        let places = self.places;
-        let tags = self.tags;
-        let queue = queue_is_sound(places, tags, 0);
+        let queue = queue_is_sound(&self.places, &self.tags, 0);
         let last = self.last.is_zero();
         table
             & granted
@@ -249,9 +240,9 @@ impl Stream {
     }
 
     // Whether it would close its job at the horizon, and its next deadline pass the session's end.
-    pub fn closes_past_end(self, h: Clock) -> bool
-        requires { self.deadline.0 ≤ session_end }
-        ensures { result ≡ closes_past_end h.0 self }
+    pub fn closes_past_end(&self, h: Clock) -> bool
+        requires { self.now.deadline.0 ≤ session_end }
+        ensures { result ≡ closes_past_end h.0 self.now }
     {
         let due = self.deadline.is(h);
         let next = self.deadline.plus(self.period);
@@ -301,31 +292,20 @@ impl Job {
     }
 }
 
-// What is left of a room when what was used is taken off: nothing, where more was used.
-fn room_left(room: u64, used: u64) -> u64
-    ensures { result ≡ room - used }
-{
-    if room < used {
-        return 0;
-    }
-    room - used
-}
-
 // At most sixteen places are queued, and the cells past them are 0, of the places and of the tags.
 fn queue_is_sound(
-    places: [u64; Stream::QUEUE_MAX],
-    tags: [u32; Stream::QUEUE_MAX],
+    places: &[u64; Stream::QUEUE_MAX],
+    tags: &[u32; Stream::QUEUE_MAX],
     queued: usize,
 ) -> bool
-    ensures { result ≡ sound_queue places tags queued }
+    ensures { result ≡ sound_queue places.now tags.now queued }
 {
-    let mut ok = true;
-    let mut j = queued;
-    while j < Stream::QUEUE_MAX {
-        ok = ok & (places[j] == 0) & (tags[j] == 0);
-        j += 1;
+    if Stream::QUEUE_MAX < queued {
+        return false;
     }
-    (queued <= Stream::QUEUE_MAX) & ok
+    let places = places[queued..].iter().all(|place| *place == 0);
+    let tags = tags[queued..].iter().all(|tag| *tag == 0);
+    places & tags
 }
 
 // The rows of a queue without the request at j: those behind it close up.

@@ -27,9 +27,9 @@ impl Sums {
     }
 
     // With one more stream; its part is whole, since its period divides the span.
-    pub fn with(self, x: Stream, span: u32, h: Clock) -> Sums
-        requires { Summable self × (span ≤ span_max) × ((worst : ℕ) × Bounded worst h.0 x) }
-        ensures { result ≡ summed self x span h.0 }
+    pub fn with(self, x: &Stream, span: u32, h: Clock) -> Sums
+        requires { Summable self × (span ≤ span_max) × ((worst : ℕ) × Bounded worst h.0 x.now) }
+        ensures { result ≡ summed self x.now span h.0 }
     {
         let charges = self.charges.plus(x.charge);
         let part = x.granted.times(h.since(x.release)) * (span / x.period) as u64;

@@ -1,57 +1,55 @@
-use mathlib.Core.Bool.{Bool, true, false, ◌&&◌}
+-- `queue_is_sound` tests the cells past the requests, in each of the two rows.
+use mathlib.Core.Bool.{Bool, true, false, ◌&&◌, false≢true}
 use mathlib.Core.List.{List}
-use mathlib.Core.Logic.{⊎_elim}
-use lib.Dec.{eqb}
-use lib.ListN.{get_or, length}
-use borrow.Author.Tests.{eq-eqb, le-leb, lt-leb, lt-ltb, le-ltb}
-use Rattle.table.specs.Fold.{all_to}
-use Rattle.table.proofs.Tests.{le_or_lt}
-use Rattle.table.proofs.Folds.{all_of}
-use Rattle.stream.specs.Stream.{sound_row, sound_queue}
+use mathlib.Core.Path.{◌≡◌, sym, ◌∙◌, ap₂}
+use Prim.Native.Nat.{ℕ, ◌+◌, ◌-◌, ◌≤◌, ◌<◌}
 use native.Mathlib.Omega.{arith}
-use mathlib.Core.Path.{◌≡◌, refl}
-use native.Mathlib.Numerals.{add-one}
-use Prim.Native.Nat.{ℕ, ◌≤◌, ◌<◌}
+use lib.ListN.{length, get_or, take, drop}
+use lib.Seq.{take-length}
+use borrow.Author.Rules.{rules}
+use borrow.Author.Tests.{lt-leb, eq-eqb, tests}
+use Rattle.std.proofs.lemmas.Iterator.{cases_from_all, YieldsList-from_slice}
+use Rattle.std.proofs.lemmas.List.{get_or-drop, length-drop}
+use Rattle.std.specs.Bool.{MatchBool}
+use Rattle.std.specs.List.{AllWithin, HoldsAt}
+use Rattle.table.proofs.Tests.{same_test}
+use Rattle.stream.specs.Stream.{sound_row, sound_queue}
+use Rattle.stream.proofs.Orderly.{row_of, of_row}
 use Rattle.stream.proofs.queue_is_sound.Goals as goal
-use Rattle.stream.proofs.queue_is_sound.Invariants.{unused_to}
 
-unread : (queued : ℕ) (cells : List ℕ) → all_to (unused_to queued cells) queued ≡ true
-unread queued cells = all_of (unused_to queued cells) queued (λ i l. rw (lt-ltb i queued l))
+pub returns-then-queued-gt-QUEUE_MAX : goal.returns-then-queued-gt-QUEUE_MAX
+unfolding sound_queue sound_row
+returns-then-queued-gt-QUEUE_MAX c =
+    rw (eq-eqb (length c.args.places.now) 16 (omega arith), lt-leb c.args.queued 16 c.if-queued-gt-QUEUE_MAX.true)
 
-pub loop-j-init : goal.loop-j-init
-loop-j-init c =
-    let queued = c.args.queued in
-    (omega arith, λ le. le, rw (unread queued c.args.places, unread queued c.args.tags))
+-- a row is sound exactly if the cells past its requests are 0
+row : (cells : List ℕ) (queued : ℕ) → length cells ≡ 16 → queued ≤ 16 → (r : Bool)
+    → MatchBool r (AllWithin (λ x. x ≡ 0) (drop queued cells) 0 (length (drop queued cells))) ((k : ℕ) × (k < length (drop queued cells)) × HoldsAt (λ x. x ≡ 0 → ⊥) (drop queued cells) k)
+    → r ≡ sound_row cells queued
+row cells queued sixteen few true all =
+    let unused : (j : ℕ) → queued ≤ j → j < 16 → get_or cells j 0 ≡ 0 = λ j past l.
+    let behind : queued + (j - queued) ≡ j = omega arith in
+    rw (← behind, ← get_or-drop queued cells (j - queued) 0) (all (j - queued) 0 (omega arith) (omega (arith, length-drop queued cells))) in
+    sym (of_row queued cells (record { queued_high = few; sixteen = sixteen; unused = unused }))
+row cells queued sixteen few false some =
+    same_test false (sound_row cells queued) (λ e. absurd (false≢true e))
+    (λ t.
+    absurd
+    (some.2 0
+    (get_or-drop queued cells some.0 0
+    ∙ (row_of queued cells t).unused (queued + some.0) (omega arith) (omega (arith, some.1, length-drop queued cells)))))
 
--- a cell more of each
-each_more : (a b p t : Bool) → (((a && b) && p) && t) ≡ ((a && p) && (b && t))
-each_more false b p t = refl
-each_more true true p t = refl
-each_more true false true t = refl
-each_more true false false t = refl
-
-pub loop-j-preserved : goal.loop-j-preserved
-unfolding all_to
-loop-j-preserved c =
-    let queued = c.args.queued in
-    let places = c.args.places in
-    let tags = c.args.tags in
-    let j = c.loop-j.j in
-    let q = c.loop-j.invariant in (
-      omega arith,
-      λ le. omega arith,
-      rw (add-one, q.2, le-ltb _ _ q.0)
-          (each_more (all_to (unused_to queued places) j) (all_to (unused_to queued tags) j) (eqb (get_or places j 0) 0) (eqb (get_or tags j 0) 0)),
-    )
+-- all the cells from there on
+rest : (cells : List ℕ) (queued : ℕ) → length cells ≡ 16 → take (16 - queued) (drop queued cells) ≡ drop queued cells
+rest cells queued sixteen =
+    let left : length (drop queued cells) ≡ 16 - queued = omega (arith, length-drop queued cells) in
+    rw (← left) (take-length (drop queued cells))
 
 pub returns : goal.returns
-unfolding sound_row sound_queue
+unfolding sound_queue
 returns c =
-    let at = c.loop-j in
-    let queued = c.args.queued in
-    let places : length c.args.places ≡ 16 = omega (arith, c.well_formed) in
-    let tags : length c.args.tags ≡ 16 = omega (arith, c.well_formed) in
-    ⊎_elim
-    (λ (le : queued ≤ 16). let e : at.j ≡ 16 = omega (arith, at.invariant.1 le) in rw (at.invariant.2, e, eq-eqb _ _ places, eq-eqb _ _ tags, le-leb queued 16 le))
-    (λ (over : 16 < queued). rw (lt-leb queued 16 over, eq-eqb _ _ places))
-    (le_or_lt queued 16)
+    let a = c.args in
+    let places = cases_from_all _ _ _ (λ x. x ≡ 0) (λ x. x ≡ 0 → ⊥) c.all-places.ensures.ran (YieldsList-from_slice (drop a.queued a.places.now) (c.iter.ensures.rest ∙ rest a.places.now a.queued (omega arith))) (λ x q k. search (rules, tests)) (λ x q k. search (rules, tests)) in
+    let tags = cases_from_all _ _ _ (λ x. x ≡ 0) (λ x. x ≡ 0 → ⊥) c.all-tags.ensures.ran (YieldsList-from_slice (drop a.queued a.tags.now) (c.iter-2.ensures.rest ∙ rest a.tags.now a.queued (omega arith))) (λ x q k. search (rules, tests)) (λ x q k. search (rules, tests)) in
+    let few = c.if-queued-gt-QUEUE_MAX.false in
+    ap₂ ◌&&◌ (row a.places.now a.queued (omega arith) few _ places) (row a.tags.now a.queued (omega arith) few _ tags)

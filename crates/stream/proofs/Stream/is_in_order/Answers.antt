@@ -19,11 +19,11 @@ budget-small worst span k e p none = let fits = stream_of worst span k e p none 
 
 pub is_sound-cells-requires : goal.is_sound-cells-requires
 is_sound-cells-requires c =
-    let none : let a = c.args in stream_refusal a.worst a.span a.k a.self.reserved a.self.period ≡ 0 = sym c.stream_refusal.ensures ∙ c.if-stream_refusal-ne0.false in
+    let none : let a = c.args in stream_refusal a.worst a.span a.k a.self.now.reserved a.self.now.period ≡ 0 = sym c.stream_refusal.ensures ∙ c.if-stream_refusal-ne0.false in
     (c.requires.0, c.requires.1, budget-small _ _ _ _ _ none)
 
 pub returns : goal.returns
 unfolding in_order sound_stream
 returns c =
-    let none : let a = c.args in stream_refusal a.worst a.span a.k a.self.reserved a.self.period ≡ 0 = sym c.stream_refusal.ensures ∙ c.if-stream_refusal-ne0.false in
+    let none : let a = c.args in stream_refusal a.worst a.span a.k a.self.now.reserved a.self.now.period ≡ 0 = sym c.stream_refusal.ensures ∙ c.if-stream_refusal-ne0.false in
     rw (eq-eqb _ _ none, c.is_sound-cells.ensures, c.is_by-released.ensures, c.is_by-due.ensures)

@@ -24,7 +24,7 @@ first worst k x =
 
 -- what the code finds of them is that
 tested : (c : After-is_near-charge)
-    → (c.is-budget.result && c.is_later_by-due.result && c.is_by-in_session.result && c.is_near-charge.result) ≡ first c.args.worst c.args.k c.args.self
+    → (c.is-budget.result && c.is_later_by-due.result && c.is_by-in_session.result && c.is_near-charge.result) ≡ first c.args.worst c.args.k c.args.self.now
 tested c =
     rw (
       c.is_near-charge.ensures,
@@ -51,10 +51,16 @@ charge_small worst k x high t =
 pub covers-covered-requires : goal.covers-covered-requires
 covers-covered-requires c =
     let passed = sym (tested (goal.at.covers-covered-requires c).After-is_near-charge) ∙ c.if-not-budget-due.false in
-    (c.requires.0, omega (arith, c.requires.1), charge_small c.args.worst c.args.k c.args.self c.requires.2 passed)
+    (c.requires.0, omega (arith, c.requires.1), charge_small c.args.worst c.args.k c.args.self.now c.requires.2 passed)
 
-pub returns : goal.returns
+pub returns-then-covered : goal.returns-then-covered
 unfolding sound_cells
-returns c =
-    let passed = sym (tested (goal.at.returns c).After-is_near-charge) ∙ c.if-not-budget-due.false in
-    rw (passed, c.covers-covered.ensures, c.queue_is_sound-queue.ensures)
+returns-then-covered c =
+    let passed = sym (tested (goal.at.returns-then-covered c).After-is_near-charge) ∙ c.if-not-budget-due.false in
+    rw (passed, sym c.covers-covered.ensures ∙ c.if-covered.true, c.queue_is_sound.ensures)
+
+pub returns-else-covered : goal.returns-else-covered
+unfolding sound_cells
+returns-else-covered c =
+    let passed = sym (tested (goal.at.returns-else-covered c).After-is_near-charge) ∙ c.if-not-budget-due.false in
+    rw (passed, sym c.covers-covered.ensures ∙ c.if-covered.false) (c.if-covered.false)

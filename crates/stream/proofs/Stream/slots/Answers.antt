@@ -23,9 +23,9 @@ nonzero_div-result c =
 pub returns : goal.returns
 unfolding slots
 returns c =
-    let x = c.args.self in
+    let x = c.args.self.now in
     rw (
-      c.room_left.ensures,
+      c.saturating_sub.ensures,
       c.times-used.ensures,
       c.times-room.ensures,
       c.since.ensures,

@@ -2,23 +2,11 @@
 use borrow.Author.Tests.{eq-eqb, ne_eqb}
 use Rattle.table.specs.Fold.{if}
 use Rattle.stream.specs.Stream.{filled}
-use Rattle.order.specs.Order.{goes_before}
-use Rattle.stream.specs.Search.{lead, considered}
-use Rattle.stream.specs.declared.choice.Pick.{Pick}
-use Rattle.stream.specs.declared.Stream.{Stream}
+use Rattle.stream.specs.Search.{considered, preferred}
 use native.Mathlib.Omega.{arith}
-use mathlib.Core.Bool.{Bool, true, false, not, ◌&&◌, ◌||◌}
-use mathlib.Core.Path.{◌≡◌, sym, ◌∙◌}
-use Prim.Native.Nat.{ℕ}
-use lib.Dec.{ltb, eqb}
+use mathlib.Core.Path.{sym, ◌∙◌}
 use Rattle.stream.proofs.choice.consider.Goals as goal
-
--- whether the best so far stays: it was found, and the request of stream x neither has an earlier deadline nor goes before it
-abbrev stays : ℕ → ℕ → (ℕ → ℕ → Bool) → Pick → Stream → Bool
-stays worst h before best x =
-    best.found
-    && not (ltb x.deadline.0 best.deadline.0
-    || (eqb x.deadline.0 best.deadline.0 && before (lead before x.places (filled worst h x)).place best.place))
+use Rattle.stream.proofs.choice.consider.Goals.{In-Some, Else-m-eq0}
 
 pub returns-then-m-eq0 : goal.returns-then-m-eq0
 unfolding considered if
@@ -28,20 +16,22 @@ pub leading-request-requires : goal.leading-request-requires
 unfolding filled
 leading-request-requires c = rw c.filled-m.ensures (omega (arith, c.requires))
 
-pub returns-then-best-sooner : goal.returns-then-best-sooner
-unfolding considered if
-returns-then-best-sooner c =
-    let slots = c.filled-m.ensures in
-    let a = c.args in
-    let test : stays a.worst a.h.0 (goes_before a.order a.head) a.best a.x ≡ true =
-    rw (c.goes_before-ahead.ensures, c.is-same.ensures, c.is_after-sooner.ensures, c.leading-request.ensures, slots) at c.if-best-sooner.true in
-    rw (ne_eqb _ _ (λ e. c.if-m-eq0.false (slots ∙ e)), test)
+pub returns-in_default : goal.returns-in_default
+unfolding considered preferred if
+returns-in_default c =
+    let some = ne_eqb _ _ (λ e. c.if-m-eq0.false (c.filled-m.ensures ∙ e)) in
+    rw (c.leading-request.ensures, c.filled-m.ensures, some, c.in_default.is)
 
-pub returns : goal.returns
-unfolding considered if
-returns c =
-    let slots = c.filled-m.ensures in
-    let a = c.args in
-    let test : stays a.worst a.h.0 (goes_before a.order a.head) a.best a.x ≡ false =
-    rw (c.goes_before-ahead.ensures, c.is-same.ensures, c.is_after-sooner.ensures, c.leading-request.ensures, slots) at c.if-best-sooner.false in
-    rw (c.leading-request.ensures, slots, ne_eqb _ _ (λ e. c.if-m-eq0.false (slots ∙ e)), test)
+pub returns-then-sooner-same : goal.returns-then-sooner-same
+unfolding considered preferred if
+returns-then-sooner-same c =
+    let some = ne_eqb _ _ (λ e. c.if-m-eq0.false (c.filled-m.ensures ∙ e)) in
+    let test = rw (c.goes_before-ahead.ensures, c.is-same.ensures, c.is_after-sooner.ensures, c.leading-request.ensures, c.filled-m.ensures) at c.if-sooner-same.true in
+    rw (c.leading-request.ensures, c.filled-m.ensures, some, c.in-Some.is, test)
+
+pub returns-else-sooner-same : goal.returns-else-sooner-same
+unfolding considered preferred if
+returns-else-sooner-same c =
+    let some = ne_eqb _ _ (λ e. c.if-m-eq0.false (c.filled-m.ensures ∙ e)) in
+    let test = rw (c.goes_before-ahead.ensures, c.is-same.ensures, c.is_after-sooner.ensures, c.leading-request.ensures, c.filled-m.ensures) at c.if-sooner-same.false in
+    rw (some, c.in-Some.is, test)

@@ -5,18 +5,22 @@ use Rattle.stream.proofs.Leading.{lead_next}
 use native.Mathlib.Omega.{arith}
 use mathlib.Core.Path.{◌≡◌, refl, ap, ◌∙◌}
 use native.Mathlib.Numerals.{add-one}
+use Prim.Native.Nat.{◌<◌}
+use Rattle.std.proofs.lemmas.List.{get_or-take, length-take}
 use Rattle.stream.proofs.choice.leading.Goals as goal
 
 pub loop-j-init : goal.loop-j-init
 unfolding leading first_best
-loop-j-init c = (omega arith, refl)
+loop-j-init c = refl
 
 pub loop-j-preserved : goal.loop-j-preserved
 loop-j-preserved c =
     let at = c.loop-j in
-    (omega arith, rw (c.foremost-best.ensures, at.invariant.1, add-one) (lead_next (goes_before c.args.order c.args.head) c.args.places at.j))
+    let here : at.j < c.args.m = omega (arith, length-take c.args.m c.args.places.now) in
+    rw (c.foremost-best.ensures, at.invariant, get_or-take c.args.m c.args.places.now at.j 0 here, add-one)
+    (lead_next (goes_before c.args.order c.args.head) c.args.places.now at.j)
 
 pub returns : goal.returns
 returns c =
-    let e : c.loop-j.j ≡ c.args.m = omega arith in
-    c.loop-j.invariant.1 ∙ ap (lead _ _) e
+    let e : c.loop-j.j ≡ c.args.m = omega (arith, length-take c.args.m c.args.places.now) in
+    c.loop-j.invariant ∙ ap (lead _ _) e

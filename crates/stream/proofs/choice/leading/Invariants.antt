@@ -2,11 +2,7 @@
 use Rattle.order.specs.Order.{goes_before}
 use Rattle.stream.specs.Search.{lead}
 use mathlib.Core.Path.{◌≡◌}
-use Prim.Native.Nat.{◌≤◌, ◌-◌}
 use Rattle.stream.proofs.choice.leading.Given as goal
 
 abbrev pub invariant-loop-j : goal.invariant-loop-j
-invariant-loop-j l = (l.j ≤ l.m) × (l.best ≡ lead (goes_before l.order l.head) l.places l.j)
-
-abbrev pub decreases-loop-j : goal.decreases-loop-j
-decreases-loop-j l = l.m - l.j
+invariant-loop-j l = l.best ≡ lead (goes_before l.order l.head) l.places l.j

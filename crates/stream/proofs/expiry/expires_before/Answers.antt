@@ -29,8 +29,8 @@ is-requires c =
 pub returns : goal.returns
 unfolding expires_first
 returns c =
-    let a = c.args.a in
-    let b = c.args.b in
+    let a = c.args.a.now in
+    let b = c.args.b.now in
     let first : Fraction → Fraction → Bool = λ x y. less x y || (same x y && ltb a.deadline.0 b.deadline.0) in
     rw (c.is.ensures, c.is_before.ensures, c.is_after-due.ensures, c.paced-of_a.ensures, c.paced-of_b.ensures)
     (ap (λ (x : Fraction). first x (fraction_of (paced b.release.0 b.charge.0 b.period b.granted.0))) (pace_is c.requires.2)

@@ -1,75 +1,64 @@
 -- `Census::is_sound` tests the load, whose sums are small where all streams are in order, then the margin that it leaves, the horizon and the sum of the remainders.
-use mathlib.Core.Bool.{Bool, true, false, ◌&&◌}
+use mathlib.Core.Bool.{Bool, false, ◌&&◌}
 use mathlib.Core.Path.{◌≡◌}
 use Prim.Native.Nat.{◌-◌, ◌≤◌, ◌<◌, ◌*◌, ◌/◌}
 use native.Mathlib.Nat.{div-le_self, mul-le-mul}
 use native.Mathlib.Omega.{arith}
 use lib.Dec.{eqb}
 use lib.IntN.{ℤ, pos}
-use borrow.Author.Tests.{not-true, not-false, le-leb, lt-leb}
+use borrow.Author.Tests.{le-leb, lt-leb}
 use Rattle.table.specs.Whole.{eq_z}
 use Rattle.table.proofs.Whole.{less_left}
 use Rattle.stream.specs.Search.{load_so, remainders_so, says}
 use Rattle.stream.specs.declared.census.Census.{Census}
 use Rattle.stream.proofs.census.Census.is_sound.Goals as goal
 
-pub returns-then-not-self : goal.returns-then-not-self
-unfolding says
-returns-then-not-self c = let bad : c.args.self.sound ≡ false = not-true _ c.if-not-self.true in rw bad
-
 pub nonzero_div-load : goal.nonzero_div-load
 nonzero_div-load c =
-    let ok : c.args.self.sound ≡ true = not-false _ c.if-not-self.false in
-    (c.requires ok).least_low
+    c.requires.least_low
 
 pub overflow_cast-load-2 : goal.overflow_cast-load-2
 overflow_cast-load-2 c = let a = c.args in omega (arith, div-le_self a.self.span a.self.least)
 
 pub overflow_mul-load : goal.overflow_mul-load
 overflow_mul-load c =
-    let ok : c.args.self.sound ≡ true = not-false _ c.if-not-self.false in
     let blocking-high : let self = c.args.self in self.worst * (self.span / self.least) ≤ 1_000_000 * self.span = let self = c.args.self in
-    mul-le-mul (c.requires ok).countable.worst_high (div-le_self self.span self.least) in
+    mul-le-mul c.requires.countable.worst_high (div-le_self self.span self.least) in
     omega (arith, blocking-high)
 
 pub overflow_add-load : goal.overflow_add-load
 overflow_add-load c =
-    let ok : c.args.self.sound ≡ true = not-false _ c.if-not-self.false in
     let blocking-high : let self = c.args.self in self.worst * (self.span / self.least) ≤ 1_000_000 * self.span = let self = c.args.self in
-    mul-le-mul (c.requires ok).countable.worst_high (div-le_self self.span self.least) in
-    omega (arith, blocking-high, (c.requires ok).countable.shares_high)
+    mul-le-mul c.requires.countable.worst_high (div-le_self self.span self.least) in
+    omega (arith, blocking-high, c.requires.countable.shares_high)
 
 -- a load above the span fails
-load-fails : (c : Census) (margin sum : ℤ) → c.sound ≡ true → c.span < load_so c → false ≡ says c margin sum
+load-fails : (c : Census) (margin sum : ℤ) → c.span < load_so c → false ≡ says c margin sum
 unfolding says
-load-fails c margin sum sound over = rw (sound, lt-leb (load_so c) c.span over)
+load-fails c margin sum over = rw (lt-leb (load_so c) c.span over)
 
 pub returns-then-span-load : goal.returns-then-span-load
 returns-then-span-load c =
-    let ok : c.args.self.sound ≡ true = not-false _ c.if-not-self.false in
     let a = c.args in
-    load-fails a.self a.margin.0 a.remainders.0 ok c.if-span-load.true
+    load-fails a.self a.margin.0 a.remainders.0 c.if-span-load.true
 
 pub remainders-requires : goal.remainders-requires
 remainders-requires c =
-    let ok : c.args.self.sound ≡ true = not-false _ c.if-not-self.false in
-    let p = (c.requires ok).countable in
+    let p = c.requires.countable in
     (p.summable, p.span_high)
 
 -- else margin, horizon and sum decide
-three-tests : (c : Census) (margin sum : ℤ) (left soonest summed : Bool) → c.sound ≡ true → load_so c ≤ c.span
+three-tests : (c : Census) (margin sum : ℤ) (left soonest summed : Bool) → load_so c ≤ c.span
     → left ≡ eq_z margin (pos (c.span - load_so c)) → soonest ≡ eqb c.horizon.0 c.soonest.0 → summed ≡ eq_z sum (remainders_so c.sums c.span)
     → (left && soonest && summed) ≡ says c margin sum
 unfolding says
-three-tests c margin sum left soonest summed sound fits l h s =
-    rw (sound, le-leb (load_so c) c.span fits, less_left c.span (load_so c) fits, l, h, s)
+three-tests c margin sum left soonest summed fits l h s =
+    rw (le-leb (load_so c) c.span fits, less_left c.span (load_so c) fits, l, h, s)
 
 pub returns : goal.returns
 returns c =
-    let ok : c.args.self.sound ≡ true = not-false _ c.if-not-self.false in
     let a = c.args in
     three-tests a.self a.margin.0 a.remainders.0 c.is_left-left.result c.is-soonest.result c.is-summed.result
-    ok
     c.if-span-load.false
     c.is_left-left.ensures
     c.is-soonest.ensures

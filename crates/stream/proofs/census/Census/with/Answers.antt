@@ -10,6 +10,7 @@ use Rattle.stream.specs.Search.{counted, in_order}
 use Rattle.stream.specs.declared.Stream.{Stream}
 use Rattle.stream.proofs.Orderly.{order_fits, order_share, order_bounded}
 use Rattle.stream.proofs.census.Census.with.Goals as goal
+use Rattle.stream.proofs.census.Census.with.Goals.{Else-not-is_in_order}
 
 pub is_in_order-requires : goal.is_in_order-requires
 is_in_order-requires c = (c.requires.worst_low, c.requires.worst_high)
@@ -23,39 +24,37 @@ returns-then-not-is_in_order c =
 share-small : (worst span k h : ℕ) (x : Stream) → in_order worst span k h x ≡ true → x.granted.0 * (span / x.period) ≤ span
 share-small worst span k h x t = rw (order_share worst span k h x t) (share_high worst span k x.reserved x.period (order_fits worst span k h x t))
 
-pub with-sums-requires : goal.with-sums-requires
-with-sums-requires c =
-    let good : let a = c.args in in_order a.self.worst a.self.span a.self.padding a.self.horizon.0 a.x ≡ true = sym c.is_in_order.ensures ∙ c.if-not-is_in_order.false in
+-- past the test the stream is in order
+good : (c : Else-not-is_in_order) → let a = c.args in in_order a.self.worst a.self.span a.self.padding a.self.horizon.0 a.x.now ≡ true
+good c = sym c.is_in_order.ensures ∙ c.if-not-is_in_order.false
+
+pub with-requires : goal.with-requires
+with-requires c =
     let p = c.requires in
-    (p.summable, p.span_high, (_, order_bounded _ _ _ _ _ good p.worst_low p.worst_high))
+    (p.summable, p.span_high, (_, order_bounded _ _ _ _ _ (good (goal.at.with-requires c).Else-not-is_in_order) p.worst_low p.worst_high))
 
 pub nonzero_div-self : goal.nonzero_div-self
 nonzero_div-self c =
-    let good : let a = c.args in in_order a.self.worst a.self.span a.self.padding a.self.horizon.0 a.x ≡ true = sym c.is_in_order.ensures ∙ c.if-not-is_in_order.false in
-    let low = (order_fits _ _ _ _ _ good).period_low in omega arith
+    let low = (order_fits _ _ _ _ _ (good (goal.at.nonzero_div-self c).Else-not-is_in_order)).period_low in omega arith
 
 pub overflow_cast-self : goal.overflow_cast-self
-overflow_cast-self c = let a = c.args in omega (arith, div-le_self a.self.span a.x.period)
+overflow_cast-self c = let a = c.args in omega (arith, div-le_self a.self.span a.x.now.period)
 
 pub times-share-requires : goal.times-share-requires
-times-share-requires c =
-    let good : let a = c.args in in_order a.self.worst a.self.span a.self.padding a.self.horizon.0 a.x ≡ true = sym c.is_in_order.ensures ∙ c.if-not-is_in_order.false in
-    omega (arith, share-small _ _ _ _ _ good)
+times-share-requires c = omega (arith, share-small _ _ _ _ _ (good (goal.at.times-share-requires c).Else-not-is_in_order))
 
-pub overflow_add-next : goal.overflow_add-next
-overflow_add-next c =
-    let good : let a = c.args in in_order a.self.worst a.self.span a.self.padding a.self.horizon.0 a.x ≡ true = sym c.is_in_order.ensures ∙ c.if-not-is_in_order.false in
+pub overflow_add-result : goal.overflow_add-result
+overflow_add-result c =
     rw c.times-share.ensures
-    (omega (arith, share-small _ _ _ _ _ good, c.requires.shares_high))
+    (omega (arith, share-small _ _ _ _ _ (good (goal.at.overflow_add-result c).Else-not-is_in_order), c.requires.shares_high))
 
 pub returns : goal.returns
 unfolding counted if
 returns c =
-    let good : let a = c.args in in_order a.self.worst a.self.span a.self.padding a.self.horizon.0 a.x ≡ true = sym c.is_in_order.ensures ∙ c.if-not-is_in_order.false in
     rw (
-      good,
-      c.smaller.ensures,
+      good (goal.at.returns c).Else-not-is_in_order,
+      c.min.ensures,
       c.times-share.ensures,
-      c.with-sums.ensures,
-      c.earlier-soonest.ensures,
+      c.with.ensures,
+      c.earlier.ensures,
     )

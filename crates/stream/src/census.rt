@@ -65,7 +65,7 @@ impl Census {
         }
         let share = x.granted.times((self.span / x.period) as u64);
         Some(Census {
-            soonest: self.soonest.earlier(x.deadline),
+            soonest: self.soonest.min(x.deadline),
             sums: self.sums.with(x, self.span, h),
             shares: self.shares + share,
             least: self.least.min(x.period),
@@ -84,8 +84,8 @@ impl Census {
             return false;
         }
         let left = margin.is_left(span - load);
-        let soonest = self.horizon.is(self.soonest);
-        let summed = remainders.is(self.sums.remainders(self.span));
+        let soonest = self.horizon == self.soonest;
+        let summed = remainders == self.sums.remainders(self.span);
         left & soonest & summed
     }
 }

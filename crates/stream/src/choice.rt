@@ -52,8 +52,8 @@ pub fn consider(
     let Some(first) = best else {
         return Some(pick);
     };
-    let sooner = first.deadline.is_after(pick.deadline);
-    let same = pick.deadline.is(first.deadline);
+    let sooner = pick.deadline < first.deadline;
+    let same = pick.deadline == first.deadline;
     let ahead = order.goes_before(head, pick.place, first.place);
     if sooner | (same & ahead) {
         Some(pick)

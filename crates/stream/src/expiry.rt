@@ -40,6 +40,6 @@ fn expires_before(a: &Stream, b: &Stream) -> bool
 {
     let of_a = a.release.paced(a.charge, a.period, a.granted);
     let of_b = b.release.paced(b.charge, b.period, b.granted);
-    let due = b.deadline.is_after(a.deadline);
+    let due = a.deadline < b.deadline;
     of_a.is_before(of_b) | (of_a.is(of_b) & due)
 }

@@ -22,7 +22,7 @@ pub use sums::Sums;
 use time::{Charge, Clock};
 
 #[repr(C)]
-#[derive(Clone, Copy)]
+#[derive(Clone, Copy, Debug, PartialEq, Eq)]
 pub struct Job {
     pub charge: Charge,
     pub closed: Clock,
@@ -33,7 +33,7 @@ pub struct Job {
 
 // The first `queued` of the sixteen places are used, in order of arrival, and each place has its tag at the same index.
 #[repr(C)]
-#[derive(Clone, Copy)]
+#[derive(Clone, Copy, Debug, PartialEq, Eq)]
 pub struct Stream {
     pub reserved: u32,
     pub period: u32,
@@ -119,11 +119,9 @@ impl Stream {
         requires { (0 < worst) × (worst ≤ worst_max) × (granted_of worst k self.now.reserved ≤ period_max) }
         ensures { result ≡ sound_cells worst k self.now }
     {
-        let budget = self
-            .granted
-            .is(Charge::of(table::granted(worst, k, self.reserved)));
+        let budget = self.granted == Charge::of(table::granted(worst, k, self.reserved));
         let due = self.deadline.is_later_by(self.release, self.period);
-        let in_session = self.deadline.is_by(Clock::at(Clock::END));
+        let in_session = !self.deadline.is_past_end();
         let charge = self.charge.is_near(self.granted);
         if !(budget & due & in_session & charge) {
             return false;
@@ -141,37 +139,14 @@ impl Stream {
             return false;
         }
         let cells = self.is_sound(worst, k);
-        let released = self.release.is_by(h);
-        let due = h.is_by(self.deadline);
-        cells & released & due
+        cells & (self.release <= h) & (h <= self.deadline)
     }
 
     // Whether every cell is 0.
     pub fn is_unused(&self) -> bool
         ensures { result ≡ unused_stream self.now }
     {
-        let table = (self.reserved == 0) & (self.period == 0);
-        let expired = self.expired == 0;
-        let queued = self.queued == 0;
-        let start = Clock::at(0);
-        let nothing = Charge::of(0);
-        let granted = self.granted.is(nothing);
-        let release = self.release.is(start);
-        let deadline = self.deadline.is(start);
-        let charge = self.charge.is(nothing);
-        let from_nothing = self.start.is(nothing);
-        let queue = queue_is_sound(&self.places, &self.tags, 0);
-        let last = self.last.is_zero();
-        table
-            & granted
-            & release
-            & deadline
-            & charge
-            & expired
-            & from_nothing
-            & queued
-            & queue
-            & last
+        *self == Stream::fresh(0, 0, 0)
     }
 
     // With a place and its tag at the queue's end.
@@ -232,7 +207,7 @@ impl Stream {
         requires { self.deadline.0 ≤ session_end }
         ensures { result ≡ moved now h.0 self }
     {
-        if self.deadline.is(h) {
+        if self.deadline == h {
             self.closed(now)
         } else {
             self
@@ -244,7 +219,7 @@ impl Stream {
         requires { self.now.deadline.0 ≤ session_end }
         ensures { result ≡ closes_past_end h.0 self.now }
     {
-        let due = self.deadline.is(h);
+        let due = self.deadline == h;
         let next = self.deadline.plus(self.period);
         due & next.is_past_end()
     }
@@ -274,21 +249,6 @@ impl Stream {
         x.start = carried;
         x.last = last;
         x
-    }
-}
-
-impl Job {
-    // Whether no job was closed yet.
-    pub(crate) fn is_zero(self) -> bool
-        ensures { result ≡ zero_job self }
-    {
-        let start = Clock::at(0);
-        let nothing = Charge::of(0);
-        let charge = self.charge.is(nothing);
-        let closed = self.closed.is(start);
-        let deadline = self.deadline.is(start);
-        let from_nothing = self.start.is(nothing);
-        charge & closed & deadline & (self.expired == 0) & from_nothing
     }
 }
 

@@ -3,6 +3,8 @@ use borrow.Author.Tests.{eq-eqb, ne_eqb}
 use mathlib.Core.Path.{◌≡◌, sym, ◌∙◌}
 use Prim.Native.Nat.{ℕ, ◌≤◌}
 use native.Mathlib.Omega.{arith}
+use lib.Dec.{leb}
+use borrow.Author.Rules.{rules}
 use Rattle.table.specs.Admission.{granted_of, stream_refusal}
 use Rattle.table.specs.Ranges.{period_max}
 use Rattle.table.proofs.Judged.{stream_of}
@@ -26,4 +28,7 @@ pub returns : goal.returns
 unfolding in_order sound_stream
 returns c =
     let none : let a = c.args in stream_refusal a.worst a.span a.k a.self.now.reserved a.self.now.period ≡ 0 = sym c.stream_refusal.ensures ∙ c.if-stream_refusal-ne0.false in
-    rw (eq-eqb _ _ none, c.is_sound-cells.ensures, c.is_by-released.ensures, c.is_by-due.ensures)
+    let x = c.args.self.now in
+    let released : c.le.result ≡ leb x.release.0 c.args.h.0 = search rules in
+    let due : c.le-2.result ≡ leb c.args.h.0 x.deadline.0 = search rules in
+    rw (eq-eqb _ _ none, c.is_sound-cells.ensures, released, due)

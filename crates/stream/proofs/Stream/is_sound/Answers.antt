@@ -1,10 +1,11 @@
 -- `Stream::is_sound` gives the document's test: each part is what its function ensures. The charge is small once it is known to be near the budget.
-use mathlib.Core.Bool.{Bool, true, ◌&&◌}
+use mathlib.Core.Bool.{Bool, true, not, ◌&&◌}
 use mathlib.Core.Path.{◌≡◌, sym, ◌∙◌}
 use Prim.Native.Nat.{ℕ, ◌+◌, ◌≤◌}
 use native.Mathlib.Omega.{arith}
-use lib.Dec.{leb, eqb}
-use borrow.Author.Tests.{leb-true, eqb-true}
+use lib.Dec.{leb, ltb, eqb}
+use borrow.Author.Rules.{rules}
+use borrow.Author.Tests.{leb-true, eqb-true, tests}
 use Rattle.table.specs.Ranges.{period_max}
 use Rattle.table.specs.Admission.{granted_of}
 use Rattle.table.proofs.Tests.{both}
@@ -22,16 +23,20 @@ first worst k x =
     && leb x.deadline.0 session_end
     && leb x.charge.0 (x.granted.0 + duration_max)
 
+-- a deadline that is not past the end is at most that
+not_past : (d : ℕ) → not (ltb session_end d) ≡ leb d session_end
+not_past d = search (rules, tests)
+
 -- what the code finds of them is that
 tested : (c : After-is_near-charge)
-    → (c.is-budget.result && c.is_later_by-due.result && c.is_by-in_session.result && c.is_near-charge.result) ≡ first c.args.worst c.args.k c.args.self.now
+    → (c.eq-budget.result && c.is_later_by-due.result && not c.is_past_end-in_session.result && c.is_near-charge.result) ≡ first c.args.worst c.args.k c.args.self.now
 tested c =
     rw (
       c.is_near-charge.ensures,
-      c.is_by-in_session.ensures,
-      c.at.ensures,
+      c.is_past_end-in_session.ensures,
+      not_past c.args.self.now.deadline.0,
       c.is_later_by-due.ensures,
-      c.is-budget.ensures,
+      c.eq-budget.ensures,
       c.of.ensures,
       c.granted.ensures,
     )
@@ -51,7 +56,7 @@ charge_small worst k x high t =
 pub covers-covered-requires : goal.covers-covered-requires
 covers-covered-requires c =
     let passed = sym (tested (goal.at.covers-covered-requires c).After-is_near-charge) ∙ c.if-not-budget-due.false in
-    (c.requires.0, omega (arith, c.requires.1), charge_small c.args.worst c.args.k c.args.self.now c.requires.2 passed)
+    charge_small c.args.worst c.args.k c.args.self.now c.requires.2 passed
 
 pub returns-then-covered : goal.returns-then-covered
 unfolding sound_cells

@@ -4,10 +4,10 @@ use Rattle.stream.specs.Stream.{moved}
 use mathlib.Core.Path.{sym, ◌∙◌}
 use Rattle.stream.proofs.Stream.moved.Goals as goal
 
-pub returns-then-is : goal.returns-then-is
+pub returns-then-eq : goal.returns-then-eq
 unfolding moved if
-returns-then-is c = rw (sym c.is.ensures ∙ c.if-is.true) c.closed.ensures
+returns-then-eq c = rw (sym c.eq.ensures ∙ c.if-eq.true) c.closed.ensures
 
-pub returns-else-is : goal.returns-else-is
+pub returns-else-eq : goal.returns-else-eq
 unfolding moved if
-returns-else-is c = rw (sym c.is.ensures ∙ c.if-is.false)
+returns-else-eq c = rw (sym c.eq.ensures ∙ c.if-eq.false)

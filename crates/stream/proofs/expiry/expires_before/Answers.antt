@@ -1,8 +1,9 @@
 -- `expires_before` compares exact moments, which are the fractions of the rules (`pace_is`).
 use mathlib.Core.Bool.{Bool, ◌&&◌, ◌||◌}
-use mathlib.Core.Path.{sym, ap, subst, ◌∙◌}
+use mathlib.Core.Path.{◌≡◌, sym, ap, subst, ◌∙◌}
 use native.Mathlib.Omega.{arith}
 use lib.Dec.{ltb}
+use borrow.Author.Rules.{rules}
 use Rattle.time.specs.Exact.{Fraction, less, same, paced, fraction_of, Proper}
 use Rattle.stream.specs.Choice.{expiry_of, expires_first}
 use Rattle.stream.proofs.Fits.{used_high, pace_proper, pace_is}
@@ -32,6 +33,7 @@ returns c =
     let a = c.args.a.now in
     let b = c.args.b.now in
     let first : Fraction → Fraction → Bool = λ x y. less x y || (same x y && ltb a.deadline.0 b.deadline.0) in
-    rw (c.is.ensures, c.is_before.ensures, c.is_after-due.ensures, c.paced-of_a.ensures, c.paced-of_b.ensures)
+    let due : c.lt-due.result ≡ ltb a.deadline.0 b.deadline.0 = search rules in
+    rw (c.is.ensures, c.is_before.ensures, due, c.paced-of_a.ensures, c.paced-of_b.ensures)
     (ap (λ (x : Fraction). first x (fraction_of (paced b.release.0 b.charge.0 b.period b.granted.0))) (pace_is c.requires.2)
     ∙ ap (first (expiry_of a)) (pace_is c.requires.3))

@@ -5,6 +5,7 @@ use Prim.Native.Nat.{◌-◌, ◌≤◌, ◌<◌, ◌*◌, ◌/◌}
 use native.Mathlib.Nat.{div-le_self, mul-le-mul}
 use native.Mathlib.Omega.{arith}
 use lib.Dec.{eqb}
+use borrow.Author.Rules.{rules}
 use lib.IntN.{ℤ, pos}
 use borrow.Author.Tests.{le-leb, lt-leb}
 use Rattle.table.specs.Whole.{eq_z}
@@ -56,10 +57,11 @@ three-tests c margin sum left soonest summed fits l h s =
     rw (le-leb (load_so c) c.span fits, less_left c.span (load_so c) fits, l, h, s)
 
 pub returns : goal.returns
+unfolding eq_z
 returns c =
     let a = c.args in
-    three-tests a.self a.margin.0 a.remainders.0 c.is_left-left.result c.is-soonest.result c.is-summed.result
+    three-tests a.self a.margin.0 a.remainders.0 c.is_left-left.result c.eq-soonest.result c.eq-summed.result
     c.if-span-load.false
     c.is_left-left.ensures
-    c.is-soonest.ensures
-    (rw c.remainders.ensures at c.is-summed.ensures)
+    c.eq-soonest.ensures
+    (let same : c.eq-summed.result ≡ eq_z a.remainders.0 c.remainders.result.0 = search rules in rw c.remainders.ensures at same)

@@ -1,9 +1,11 @@
 -- `Census::with` takes in one more stream: one in order has a share of at most the span.
 use mathlib.Core.Bool.{true}
 use mathlib.Core.Path.{◌≡◌, sym, ◌∙◌}
-use Prim.Native.Nat.{ℕ, ◌≤◌, ◌*◌, ◌/◌}
+use Prim.Native.Nat.{ℕ, ◌≤◌, ◌*◌, ◌/◌, min}
 use native.Mathlib.Nat.{div-le_self}
 use native.Mathlib.Omega.{arith}
+use borrow.Author.Rules.{rules}
+use Rattle.time.specs.Time.{moment}
 use Rattle.table.specs.Fold.{if}
 use Rattle.table.proofs.Judged.{share_high}
 use Rattle.stream.specs.Search.{counted, in_order}
@@ -51,10 +53,11 @@ overflow_add-result c =
 pub returns : goal.returns
 unfolding counted if
 returns c =
+    let soonest : c.min.result ≡ moment (min c.args.self.soonest.0 c.args.x.now.deadline.0) = search rules in
     rw (
       good (goal.at.returns c).Else-not-is_in_order,
-      c.min.ensures,
+      c.min-2.ensures,
       c.times-share.ensures,
       c.with.ensures,
-      c.earlier.ensures,
+      soonest,
     )

@@ -12,9 +12,12 @@ use Rattle.time.specs.Time.{session_end, duration_max, moment}
 use Rattle.stream.specs.Stream.{queue_max, filled}
 use Rattle.session.specs.Session.{stream_at, slots_at, filled_at, some_filled, no_slot, latest, sound}
 use Rattle.stream.specs.Choice.{first_best}
-use Rattle.session.specs.Choice.{leading_at, sent_before, chosen}
+use Rattle.session.specs.Choice.{sent_before, chosen, expiring}
 use Rattle.session.specs.Calls.{Verdict, refuse, append, send, move, wait, expire, finish, set_clock, no_such_stream, busy, move_passes_end, call_refusal, refusal, turn_effect, effect, ruled, verdict, apply, outcome, answer_to}
-use Rattle.session.specs.Inner.{survey_of}
+use Rattle.session.specs.Inner.{pick_of, survey_of}
+use Rattle.session.proofs.Options.{some_if, none_if}
+use Rattle.stream.specs.declared.choice.Pick.{Pick}
+use Rattle.std.proofs.Common.{Some, None}
 use Rattle.session.specs.Laws.{PresentTimeChangesNothing}
 use Rattle.time.specs.declared.Clock.{Clock}
 use Rattle.session.specs.declared.Session.{Session}
@@ -88,15 +91,20 @@ module _ {s : Session} (idle : Idle s) where
   unrefused e = accepted s Call.Turn idle.ok (rw (eq-eqb _ _ idle.rests, e))
 
   -- a. some slot is filled
-  pub turn_sends : (i j : ℕ) → i ≡ chosen s → j ≡ leading_at s (chosen s) → some_filled s ≡ true → verdict s Call.Turn ≡ send i j
+  pub turn_sends : (pick : Pick) → pick_of s ≡ Some pick → verdict s Call.Turn ≡ send pick.stream pick.index
   unfolding turn_effect if
-  turn_sends i j stream-is index_is some = unrefused (rw (filled_has_slot s some)) ∙ rw (some, stream-is, index_is)
+  turn_sends pick e =
+      let found = some_if (some_filled s) e in
+      unrefused (rw (filled_has_slot s found.0)) ∙ rw (found.0, ← found.1)
+
+  pub turn_unfilled : pick_of s ≡ None → some_filled s ≡ false
+  turn_unfilled e = none_if (some_filled s) _ e
 
 module _ {s : Session} {v : Survey} (u : Unfilled s v) where
   -- b. no stream has a slot
-  module _ (over : not v.found ≡ true) where
+  module _ (over : v.expiring ≡ None) where
     none_has : no_slot s ≡ true
-    none_has = not-false (no_slot s) (not-true (not (no_slot s)) (rw u.seen at over))
+    none_has = not-false (no_slot s) (none_if (not (no_slot s)) _ (rw u.seen at over))
 
     pub turn_ends : v.beyond ≡ true → verdict s Call.Turn ≡ refuse 14
     unfolding call_refusal given ◌or_next◌ busy
@@ -107,18 +115,21 @@ module _ {s : Session} {v : Survey} (u : Unfilled s v) where
     turn_moves fits = unrefused u.idle (rw (none_has, rw u.seen at fits)) ∙ rw (u.none, none_has)
 
   -- c. and d. only empty slots
-  module _ (left : not v.found ≡ false) where
+  module _ (n : ℕ) (left : v.expiring ≡ Some n) where
+    first : (not (no_slot s) ≡ true) × (expiring s ≡ n)
+    first = some_if (not (no_slot s)) (rw u.seen at left)
+
     some_has : no_slot s ≡ false
-    some_has = not-true (no_slot s) (not-false (not (no_slot s)) (rw u.seen at left))
+    some_has = not-true (no_slot s) first.0
 
     module _ {early : Bool} (until : Clock) (until-is : until ≡ moment (latest s)) (early-is : early ≡ ltb s.clock.0 until.0) where
       pub turn_waits : early ≡ true → verdict s Call.Turn ≡ wait
       unfolding turn_effect if
       turn_waits yet = unrefused u.idle (rw some_has) ∙ rw (u.none, some_has, rw (early-is, until-is) at yet)
 
-      pub turn_expires : early ≡ false → verdict s Call.Turn ≡ expire v.expiring
+      pub turn_expires : early ≡ false → verdict s Call.Turn ≡ expire n
       unfolding turn_effect if
-      turn_expires due = unrefused u.idle (rw some_has) ∙ rw (u.none, some_has, rw (early-is, until-is) at due, u.seen)
+      turn_expires due = unrefused u.idle (rw some_has) ∙ rw (u.none, some_has, rw (early-is, until-is) at due, first.1)
 
 -- what an arrival is answered, case by case
 module _ (s : Session) (n place tag : ℕ) (ok : sound s ≡ true) where

@@ -1,19 +1,21 @@
 -- A session judged stream by stream: what a census holds of the streams passed, and that it decides as the document's whole test does.
 use mathlib.Core.Bool.{Bool, true, false, ◌&&◌, false≢true}
 use mathlib.Core.Path.{◌≡◌, refl, sym, ap, subst, ◌∙◌}
-use Prim.Native.Nat.{ℕ, ◌+◌, ◌*◌, ◌/◌, ◌≤◌, ◌<◌}
+use mathlib.Core.Logic.{⊎_elim}
+use Prim.Native.Nat.{ℕ, zero, suc, ◌+◌, ◌*◌, ◌/◌, ◌≤◌, ◌<◌}
 use native.Mathlib.Numerals.{add-one}
 use native.Mathlib.Omega.{arith}
 use native.Mathlib.Nat.{mul-le-mul}
 use lib.ListN.{get_or, get_or-map}
 use lib.Dec.{leb, eqb}
 use borrow.Author.Tests.{leb-true, eqb-true, eqb-false, le-leb, le-ltb, eq-eqb}
+use Rattle.std.proofs.Common.{Option, Some, None}
 use Rattle.table.specs.Fold.{sum_to, smallest_to}
 use Rattle.table.specs.Refusal.{given, ◌or_next◌}
 use Rattle.table.specs.Admission.{period_at, share_of, share_at, stream_refusal_at, numbers_refusal, stream_refusal, streams_refusal, shares_of, smallest_period, load_of, admission_of}
 use Rattle.table.specs.Whole.{eq_z}
 use Rattle.table.specs.Margin.{less_load, margin_of}
-use Rattle.table.proofs.Tests.{both, by_if, or_next_none}
+use Rattle.table.proofs.Tests.{both, or_next_none, le_or_lt}
 use Rattle.table.proofs.Folds.{at_or_below, first_none, first_all, sum_agree, sum_high, smallest_agree, smallest_is}
 use Rattle.table.proofs.Whole.{same_is, is_same}
 use Rattle.table.proofs.Judged.{Numbers, numbers_of, FitsIn, share_high, admits_of}
@@ -21,13 +23,15 @@ use Rattle.time.specs.Time.{moment}
 use Rattle.time.specs.Latest.{remainders}
 use Rattle.stream.specs.Bounds.{Bounded}
 use Rattle.session.specs.Session.{no_stream, stream_at, horizon, remainders_of, table_of, sound}
-use Rattle.stream.specs.Search.{in_order, begun, with_sound, counted, Countable, load_so, remainders_so, says, Judgeable}
+use Rattle.stream.specs.Search.{in_order, first_census, next_census, summed, begun, counted, Countable, load_so, remainders_so, says, Judgeable}
 use Rattle.time.specs.declared.Clock.{Clock}
 use Rattle.stream.specs.declared.Stream.{Stream}
 use Rattle.time.specs.declared.remainders.Remainders.{Remainders}
 use Rattle.stream.specs.declared.sums.Sums.{Sums}
 use Rattle.stream.specs.declared.census.Census.{Census}
+use Rattle.session.specs.Inner.{counted_on, census_to}
 use Rattle.session.specs.declared.Session.{Session}
+use Rattle.session.proofs.Options.{some_if, none_if}
 use Rattle.stream.proofs.Orderly.{InOrder, of_order, order_none, order_fits, order_cells, order_share, order_bounded}
 use Rattle.session.proofs.Sound.{Ahead, Used, Sound, sound_of, bounded}
 use Rattle.session.proofs.Remainders.{remainders_split, sums_to, sums_none, sums_more, can_sum}
@@ -83,72 +87,102 @@ module _ (s : Session) where
     pub shares : sum ≡ sum_to share_in n
     pub least : smallest ≡ smallest_to (λ i. (stream_at s i).period) n
 
-  -- the census has the table's numbers; a stream that is not in order fails the session
+  -- the census has the table's numbers
   pub record CountedTo (c : Census) (n : ℕ) : Type 0 where
     pub worst : c.worst ≡ s.worst
     pub span : c.span ≡ s.span
     pub padding : c.padding ≡ s.padding
     pub horizon : c.horizon ≡ s.horizon
-    pub passed : c.sound ≡ true → Numbered c.soonest c.sums c.shares c.least n
-    pub failed : c.sound ≡ false → sound s ≡ false
+    pub passed : Numbered c.soonest c.sums c.shares c.least n
 
-  pub counted_none : CountedTo (begun s.worst s.span s.padding s.count s.horizon (stream_at s 0)) 0
-  unfolding begun smallest_to sum_to admission_of numbers_refusal
-  counted_none =
+  counted_none : numbers_refusal (table_of s) ≡ 0 → CountedTo (first_census s.worst s.span s.padding s.horizon (stream_at s 0)) 0
+  unfolding smallest_to sum_to
+  counted_none none =
       record {
         worst = refl;
         span = refl;
         padding = refl;
         horizon = refl;
-        passed = λ ok.
+        passed =
             record {
-              numbers = eqb-true _ _ ok;
+              numbers = none;
               each = λ i l. absurd (omega (arith, l));
               soonest_is = refl;
               sums_are = sums_none s s.horizon.0;
               shares = refl;
               least = refl;
             };
-        failed = λ bad. not_sound (λ q. eqb-false _ _ bad (or_next_none _ _ q.fit.used.admitted).0);
       }
 
-  pub counted_more : (c : Census) (n : ℕ) → n < s.count → c.sound ≡ true → CountedTo c n → CountedTo (counted c (stream_at s n)) (n + 1)
-  unfolding counted smallest_to sum_to
-  counted_more c n l ok m =
-      let x = stream_at s n in
-      let here : in_order c.worst c.span c.padding c.horizon.0 x ≡ in_order_at n = rw (m.worst, m.span, m.padding, m.horizon) in
-      by_if (λ (d : Census). CountedTo d (n + 1)) (in_order c.worst c.span c.padding c.horizon.0 x) _ _
-      (λ good.
-      let p = m.passed ok in
+  -- by the census it is in order as it is by the session
+  here_is : (c : Census) (n : ℕ) → CountedTo c n → in_order c.worst c.span c.padding c.horizon.0 (stream_at s n) ≡ in_order_at n
+  here_is c n m = rw (m.worst, m.span, m.padding, m.horizon)
+
+  counted_more : (c : Census) (n : ℕ) → CountedTo c n → in_order_at n ≡ true → CountedTo (next_census c (stream_at s n)) (suc n)
+  unfolding smallest_to sum_to
+  counted_more c n m good =
+      let p = m.passed in
       record {
         worst = m.worst;
         span = m.span;
         padding = m.padding;
         horizon = m.horizon;
-        passed = λ again.
+        passed =
             record {
               numbers = p.numbers;
-              each = λ i below. at_or_below (λ j. in_order_at j ≡ true) i (rw (add-one) at below) (sym here ∙ good) (λ u. p.each i u);
-              soonest_is = rw (add-one, p.soonest_is);
-              sums_are = sums_more s s.horizon.0 n c.sums _ p.sums_are (rw (m.span, m.horizon));
-              shares = rw (add-one, p.shares, m.span);
-              least = rw (add-one, p.least);
+              each = λ i below. at_or_below (λ j. in_order_at j ≡ true) i below good (λ u. p.each i u);
+              soonest_is = rw p.soonest_is;
+              sums_are = subst (λ (k : ℕ). summed c.sums (stream_at s n) c.span c.horizon.0 ≡ sums_to s s.horizon.0 k) (add-one n) (sums_more s s.horizon.0 n c.sums _ p.sums_are (rw (m.span, m.horizon)));
+              shares = rw (p.shares, m.span);
+              least = rw p.least;
             };
-        failed = λ fails. absurd (false≢true (sym fails ∙ ok));
-      })
-      (λ bad. fails c (n + 1) m (not_sound (λ q. false≢true (sym bad ∙ here ∙ in_order_lem q n l))))
-    where
-      fails : (c : Census) (k : ℕ) → CountedTo c n → sound s ≡ false → CountedTo (with_sound c false) k
-      fails c k m not = record { worst = m.worst; span = m.span; padding = m.padding; horizon = m.horizon; passed = λ again. absurd (false≢true again); failed = λ e. not }
+      }
 
-  -- so far all is in order, and another test is made
-  pub counted_and : (c : Census) (n : ℕ) → c.sound ≡ true → CountedTo c n → (test : Bool) → (test ≡ false → sound s ≡ false) → CountedTo (with_sound c test) n
-  counted_and c n ok m test fails = record { worst = m.worst; span = m.span; padding = m.padding; horizon = m.horizon; passed = λ again. m.passed ok; failed = fails }
+  -- what is kept of the first n streams is so of them
+  pub counted_to : (c : Census) (n : ℕ) → census_to s n ≡ Some c → CountedTo c n
+  unfolding census_to begun counted numbers_refusal
+  counted_to c zero e =
+      let begins = some_if _ e in
+      subst (λ (d : Census). CountedTo d 0) begins.1 (counted_none (eqb-true _ _ begins.0))
+  counted_to c (suc n) e = go (census_to s n) (λ d. counted_to d n) e
+    where
+      go : (o : Option Census) → ((d : Census) → o ≡ Some d → CountedTo d n) → counted_on o (stream_at s n) ≡ Some c → CountedTo c (suc n)
+      go None before e = cc
+      go (Some d) before e =
+          let m = before d refl in
+          let goes_on = some_if (in_order d.worst d.span d.padding d.horizon.0 (stream_at s n)) e in
+          subst (λ (d : Census). CountedTo d (suc n)) goes_on.1 (counted_more d n m (sym (here_is d n m) ∙ goes_on.0))
+
+  -- its streams are few where anything is kept
+  pub few_counted : (c : Census) → census_to s 0 ≡ Some c → s.count ≤ 8
+  few_counted c e = (numbers_of (table_of s) (counted_to c 0 e).passed.numbers).count_high
+
+  -- what is not kept at one is not kept at a later one
+  pub none_on : (n m : ℕ) → n ≤ m → census_to s n ≡ None → census_to s m ≡ None
+  unfolding census_to
+  none_on n zero le e = let same : n ≡ 0 = omega arith in subst (λ (k : ℕ). census_to s k ≡ None) same e
+  none_on n (suc m) le e =
+      ⊎_elim
+      (λ (before : n ≤ m). ap (λ (o : Option Census). counted_on o (stream_at s m)) (none_on n m before e))
+      (λ (here : m < n). let same : n ≡ suc m = omega arith in subst (λ (k : ℕ). census_to s k ≡ None) same e)
+      (le_or_lt n m)
+
+  -- where nothing is kept the session is not sound
+  pub counted_fails : (n : ℕ) → n ≤ s.count → census_to s n ≡ None → Sound s → ⊥
+  unfolding census_to begun counted admission_of numbers_refusal
+  counted_fails zero le e q = eqb-false _ _ (none_if _ _ e) (or_next_none _ _ q.fit.used.admitted).0
+  counted_fails (suc n) le e q = go (census_to s n) (λ d. counted_to d n) (λ none. counted_fails n (omega (arith, le)) none q) e
+    where
+      go : (o : Option Census) → ((d : Census) → o ≡ Some d → CountedTo d n) → (o ≡ None → ⊥) → counted_on o (stream_at s n) ≡ None → ⊥
+      go None before fails e = fails refl
+      go (Some d) before fails e =
+          let m = before d refl in
+          false≢true (sym (none_if (in_order d.worst d.span d.padding d.horizon.0 (stream_at s n)) _ e) ∙ here_is d n m ∙ in_order_lem q n le)
 
   -- the numbers of a census all of whose streams are in order are small
-  pub countable : (c : Census) (n : ℕ) → n ≤ s.count → c.sound ≡ true → CountedTo c n → Countable c
-  countable c n le ok m =
-      let p = m.passed ok in
+  pub countable : (c : Census) (n : ℕ) → n ≤ s.count → CountedTo c n → Countable c
+  countable c n le m =
+      let p = m.passed in
       let numbers = numbers_of (table_of s) p.numbers in
       let high = sum_high s.span share_in n (λ i l. rw (share_in_lem i (p.each i l)) (share_high _ _ _ _ _ (at_fits i (p.each i l)))) in
       let bounds : (i : ℕ) → i < n → Bounded s.worst s.horizon.0 (stream_at s i) =
@@ -161,9 +195,9 @@ module _ (s : Session) where
         shares_high = rw p.shares (omega (arith, high, numbers.count_high, numbers.span_high, mul-le-mul le numbers.span_high));
       }
 
-  module _ (c : Census) (m : CountedTo c s.count) (ok : c.sound ≡ true) where
+  module _ (c : Census) (m : CountedTo c s.count) where
     abbrev p : Numbered c.soonest c.sums c.shares c.least s.count
-    p = m.passed ok
+    p = m.passed
 
     abbrev numbers_in : Numbers (table_of s)
     numbers_in = numbers_of (table_of s) p.numbers
@@ -201,7 +235,7 @@ module _ (s : Session) where
     pub judgeable : Judgeable c
     judgeable =
         record {
-          countable = countable c s.count (omega arith) ok m;
+          countable = countable c s.count (omega arith) m;
           least_low =
               rw p.least (smallest_is (λ (d : ℕ). 0 < d) (λ i. (stream_at s i).period) s.count numbers_in.count_low
               (λ i l. let low = (at_fits i (p.each i l)).period_low in omega arith));
@@ -213,12 +247,11 @@ module _ (s : Session) where
     says_used t =
         let kept = eq_z s.margin.0 (less_load c.span (load_so c)) in
         let soonest = eqb c.horizon.0 c.soonest.0 in
-        let a = both (c.sound && leb (load_so c) c.span && kept && soonest) (eq_z s.remainders.0 (remainders_so c.sums c.span)) t in
-        let b = both (c.sound && leb (load_so c) c.span && kept) soonest a.0 in
-        let d = both (c.sound && leb (load_so c) c.span) kept b.0 in
-        let e = both c.sound (leb (load_so c) c.span) d.0 in
+        let a = both (leb (load_so c) c.span && kept && soonest) (eq_z s.remainders.0 (remainders_so c.sums c.span)) t in
+        let b = both (leb (load_so c) c.span && kept) soonest a.0 in
+        let d = both (leb (load_so c) c.span) kept b.0 in
         let is : s.horizon ≡ moment (horizon s) = sym m.horizon ∙ ap moment (eqb-true _ _ b.1) ∙ soonest_is in (
-          record { admitted = admitted_of (leb-true _ _ e.1); margin_is = same_is _ _ d.1 ∙ sym margin_counted; each = each_of is },
+          record { admitted = admitted_of (leb-true _ _ d.0); margin_is = same_is _ _ d.1 ∙ sym margin_counted; each = each_of is },
           record { horizon_is = is; remainders_is = ap remainders (same_is _ _ a.1 ∙ sum_counted is) },
         )
 
@@ -229,4 +262,4 @@ module _ (s : Session) where
         let is = ahead.horizon_is in
         let soonest : c.horizon.0 ≡ c.soonest.0 = ap (λ (h : Clock). h.0) (m.horizon ∙ is ∙ sym soonest_is) in
         let summed : s.remainders.0 ≡ remainders_so c.sums c.span = ap (λ (r : Remainders). r.0) ahead.remainders_is ∙ sym (sum_counted is) in
-        rw (ok, le-leb _ _ fits, is_same _ _ (q.margin_is ∙ margin_counted), eq-eqb _ _ soonest, is_same _ _ summed)
+        rw (le-leb _ _ fits, is_same _ _ (q.margin_is ∙ margin_counted), eq-eqb _ _ soonest, is_same _ _ summed)

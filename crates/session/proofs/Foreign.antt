@@ -1,4 +1,5 @@
 -- A foreign request that ends by the latest safe moment: the clock report after it is not late, whatever arrives before it.
+use Rattle.std.proofs.Common.{Some}
 use mathlib.Core.Bool.{true, false}
 use mathlib.Core.List.{List, [], ◌∷◌}
 use mathlib.Core.Path.{◌≡◌, refl, ◌∙◌, ap}
@@ -8,7 +9,6 @@ use borrow.Author.Tests.{le-ltb}
 use Rattle.table.specs.Fold.{if}
 use Rattle.time.specs.Time.{session_end, moment}
 use Rattle.time.specs.declared.Clock.{Clock}
-use Rattle.time.specs.declared.remainders.Latest.TheVariants.{At}
 use Rattle.calls.specs.declared.Call.{Call}
 use Rattle.calls.specs.declared.Reply.{Reply}
 use Rattle.session.specs.Session.{latest, asked, sound}
@@ -40,7 +40,7 @@ unfolding late
 not_late s now le = rw (le-ltb (latest s) now le)
 
 -- the report itself
-in_time : (s : Session) (now : ℕ) (until : Clock) → sound s ≡ true → s.served ≡ 0 → asked s ≡ At until → s.clock.0 ≤ now → now ≤ until.0 → now ≤ session_end
+in_time : (s : Session) (now : ℕ) (until : Clock) → sound s ≡ true → s.served ≡ 0 → asked s ≡ Some until → s.clock.0 ≤ now → now ≤ until.0 → now ≤ session_end
     → (answer_to s (Call.Clock now)).reply ≡ Reply.Clock (moment now)
 unfolding answer_to reply_to if
 in_time s now until ok idle told onward le in-session =
@@ -48,7 +48,7 @@ in_time s now until ok idle told onward le in-session =
     rw (clock_sets s now ok idle (le-ltb now s.clock.0 onward) (le-ltb session_end now in-session), not_late s now by)
 
 module _ (now : ℕ) (until : Clock) (le : now ≤ until.0) (in-session : now ≤ session_end) where
-  after_arrivals : (s : Session) (requests : List Request) → sound s ≡ true → s.served ≡ 0 → asked s ≡ At until → s.clock.0 ≤ now
+  after_arrivals : (s : Session) (requests : List Request) → sound s ≡ true → s.served ≡ 0 → asked s ≡ Some until → s.clock.0 ≤ now
       → (answer_to (after s (arriving requests)) (Call.Clock now)).reply ≡ Reply.Clock (moment now)
   unfolding after
   after_arrivals s [] ok idle told onward = in_time s now until ok idle told onward le in-session

@@ -9,8 +9,7 @@ use Rattle.time.specs.Time.{moment}
 use Rattle.time.specs.Latest.{remainders, latest_of}
 use Rattle.time.specs.declared.Clock.{Clock}
 use Rattle.time.specs.declared.remainders.Remainders.{Remainders}
-use Rattle.time.specs.declared.remainders.Latest.{Latest}
-use Rattle.time.specs.declared.remainders.Latest.TheVariants.{At, Refused}
+use Rattle.std.proofs.Common.{Option, Some, None}
 use Rattle.time.proofs.Asking.{of_sums}
 use Rattle.session.specs.declared.Session.{Session}
 use Rattle.session.specs.Session.{stream_at, horizon, scaled_part, latest, asked, sound}
@@ -31,7 +30,7 @@ latest_rounds_once s t =
     (omega (arith, parts_low s q), omega (arith, parts_low s q))
 
 -- what is asked of the three cells is that
-pub asked_is : (s : Session) → Sound s → asked s ≡ At (moment (latest s))
+pub asked_is : (s : Session) → Sound s → asked s ≡ Some (moment (latest s))
 unfolding latest
 asked_is s q =
     let n = (admits s q).numbers in
@@ -41,19 +40,8 @@ asked_is s q =
     (parts_low s q) (omega (arith, horizon_high s q, n.count_high, charges))
 
 -- so a sound session is told one, and no other
-abbrev told : Latest → Bool
-told (At until) = true
-told (Refused n) = false
-
-abbrev moment_told : Latest → Clock
-moment_told (At until) = until
-moment_told (Refused n) = moment 0
-
-pub always_told : (s : Session) → sound s ≡ true → (n : ℕ) → asked s ≡ Refused n → ⊥
-always_told s ok n e = false≢true (sym (ap told e) ∙ ap told (asked_is s (sound_of s ok)))
-
-pub told_is : (s : Session) → sound s ≡ true → (until : Clock) → asked s ≡ At until → until ≡ moment (latest s)
-told_is s ok until e = sym (ap moment_told e) ∙ ap moment_told (asked_is s (sound_of s ok))
+pub told_is : (s : Session) → sound s ≡ true → (until : Clock) → asked s ≡ Some until → until ≡ moment (latest s)
+told_is s ok until e = let is = asked_is s (sound_of s ok) in cc
 
 -- and two that agree in the three cells are told the same
 pub ask_reads_three : AskReadsThree

@@ -3,6 +3,8 @@ pub mod Worked
 pub mod Picks
 pub mod Sound
 pub mod Offsets
+pub mod Options
+pub mod InUse
 pub mod Counted
 pub mod Judging
 pub mod Remainders

@@ -1,90 +1,68 @@
--- What a survey has found, stream by stream: the slot that would expire, and whether a move would pass the session's end.
-use mathlib.Core.Bool.{Bool, true, false, not, ◌&&◌, ◌||◌}
-use mathlib.Core.Path.{◌≡◌, refl, subst, ◌∙◌}
-use Prim.Native.Nat.{ℕ, ◌+◌, ◌≤◌, ◌<◌}
+-- The one pass over the streams where no slot is filled: what it has found among those passed.
+use mathlib.Core.Bool.{Bool, true, false, not, ◌&&◌, ◌||◌, false≢true}
+use mathlib.Core.Path.{◌≡◌, refl, sym, ap, ◌∙◌}
+use Prim.Native.Nat.{ℕ, suc, ◌+◌, ◌≤◌, ◌<◌}
 use native.Mathlib.Numerals.{add-one}
-use lib.Dec.{leb}
-use Rattle.table.specs.Fold.{if, some_to}
+use native.Mathlib.Omega.{arith}
+use lib.Dec.{leb, eqb}
+use Rattle.std.proofs.Common.{Option, Some, None}
+use Rattle.table.specs.Fold.{if, some_to, all_to}
 use Rattle.table.proofs.Folds.{some_not_all}
-use Rattle.table.proofs.Loops.{none_passed, one_passed, all_passed}
 use Rattle.time.specs.Time.{session_end, moment}
 use Rattle.stream.specs.Stream.{slots, closes_past_end}
 use Rattle.stream.specs.Bounds.{Bounded}
-use Rattle.stream.specs.Choice.{first_best, expires_first}
+use Rattle.stream.specs.Choice.{first_best}
+use Rattle.stream.specs.Search.{lapsing}
+use Rattle.stream.proofs.Best.{best_below}
 use Rattle.session.specs.Session.{stream_at, horizon, slots_at, no_slot, sound}
 use Rattle.session.specs.Choice.{expires_before, expiring}
 use Rattle.session.specs.Calls.{move_passes_end}
 use Rattle.session.specs.Inner.{survey_of}
-use Rattle.time.specs.declared.Clock.{Clock}
-use Rattle.stream.specs.declared.expiry.Lapse.{Lapse}
 use Rattle.session.specs.declared.Session.{Session}
-use Rattle.session.proofs.Sound.{Sound, sound_of, admits, bounded_by, deadline_high}
-use Rattle.session.proofs.Dues.{inside}
-use Rattle.session.proofs.Lapses.{lapse_to, lapse_in, lapse_more}
+use Rattle.time.specs.declared.Clock.{Clock}
+use Rattle.session.proofs.Options.{some_if}
+use Rattle.session.proofs.Sound.{sound_of, bounded_by}
+use Rattle.session.proofs.Lapses.{lapse_to, lapse_more}
 
 -- of the streams below a count: the slot that would expire, and whether one would close its job past the end
-abbrev lapsing : Session → ℕ → Lapse
-lapsing s n = lapse_to (λ i. leb 1 (slots_at s i)) (expires_before s) n
+abbrev pub found_to : Session → ℕ → Option ℕ
+found_to s n = lapse_to (λ i. leb 1 (slots_at s i)) (expires_before s) n
 
-abbrev passing : Session → ℕ → Bool
+abbrev pub passing : Session → ℕ → Bool
 passing s n = some_to (λ i. closes_past_end (horizon s) (stream_at s i)) n
 
--- by the horizon that is kept, what was found among the streams below i
-pub record Surveyed (s : Session) (h : Clock) (i : ℕ) (lapse : Lapse) (passes : Bool) : Type 0 where
-  pub ok : sound s ≡ true
-  pub kept : h ≡ s.horizon
-  pub used : i ≤ s.count
-  pub slot : lapse ≡ lapsing s i
-  pub closing : passes ≡ passing s i
+pub survey_none : (s : Session) → (None ≡ found_to s 0) × (false ≡ passing s 0)
+unfolding some_to if
+survey_none s = (refl, refl)
 
-pub surveyed_none : {s : Session} → sound s ≡ true → Surveyed s s.horizon 0 (record { found = false; stream = 0 }) false
-unfolding some_to first_best
-surveyed_none {s} ok = record { ok = ok; kept = refl; used = none_passed s.count; slot = refl; closing = refl }
+module _ (s : Session) (ok : sound s ≡ true) where
+  horizon_is : s.horizon ≡ moment (horizon s)
+  horizon_is = (sound_of s ok).ahead.horizon_is
 
-module _ {s : Session} {h : Clock} {i : ℕ} {lapse : Lapse} {passes : Bool} (v : Surveyed s h i lapse passes) where
-  abbrev is_sound : Sound s
-  is_sound = sound_of s v.ok
+  -- what was found is a used stream
+  pub found_in : (n b : ℕ) → n ≤ s.count → found_to s n ≡ Some b → b < s.count
+  unfolding if
+  found_in n b le e = go (some_to (λ i. leb 1 (slots_at s i)) n) refl
+    where
+      go : (q : Bool) → some_to (λ i. leb 1 (slots_at s i)) n ≡ q → b < s.count
+      go true some =
+          let is = (some_if (some_to (λ i. leb 1 (slots_at s i)) n) e).1 in
+          omega (arith, is, best_below (λ i. leb 1 (slots_at s i)) (expires_before s) n some)
+      go false none = absurd (false≢true (sym none ∙ (some_if (some_to (λ i. leb 1 (slots_at s i)) n) e).0))
 
-  ahead_is : h ≡ moment (horizon s)
-  ahead_is = v.kept ∙ is_sound.ahead.horizon_is
+  pub better_is : (i : ℕ) → lapsing s.worst s.horizon.0 s.streams (found_to s i) i ≡ found_to s (i + 1)
+  unfolding lapsing
+  better_is i =
+      ap (λ (h : Clock). lapsing s.worst h.0 s.streams (found_to s i) i) horizon_is
+      ∙ sym (lapse_more (λ n. leb 1 (slots_at s n)) (expires_before s) i)
+      ∙ ap (found_to s) (sym (add-one i))
 
-  -- what the survey points at is a used stream, also before anything is found
-  pointed : lapse.stream < s.count
-  pointed = rw v.slot (lapse_in (λ n. leb 1 (slots_at s n)) (expires_before s) i s.count v.used (admits s is_sound).numbers.count_low)
-
-  pub best_in : lapse.stream < 8
-  best_in = inside s v.ok lapse.stream pointed
-
-  -- one stream further
-  module _ (l : i < s.count) where
-    pub next_in : i < 8
-    next_in = inside s v.ok i l
-
-    pub can_compare : Bounded s.worst h.0 (stream_at s lapse.stream) × Bounded s.worst h.0 (stream_at s i)
-    can_compare = let each = bounded_by s is_sound h v.kept in (each lapse.stream pointed, each i l)
-
-    pub can_close : (stream_at s i).deadline.0 ≤ session_end
-    can_close = deadline_high s is_sound i next_in
-
-    pub surveyed_more : (best : Lapse) (here : Bool)
-        → best ≡ if (leb 1 (slots s.worst h.0 (stream_at s i)) && (not lapse.found || expires_first (stream_at s i) (stream_at s lapse.stream))) (record { found = true; stream = i }) lapse
-        → here ≡ closes_past_end h.0 (stream_at s i)
-        → Surveyed s h (i + 1) best (passes || here)
-    unfolding some_to
-    surveyed_more best here best-is here-is =
-        record {
-          ok = v.ok;
-          kept = v.kept;
-          used = one_passed i s.count l;
-          slot = rw (best-is, ahead_is, v.slot, add-one, lapse_more (λ n. leb 1 (slots_at s n)) (expires_before s) i);
-          closing = rw (here-is, ahead_is, v.closing, add-one);
-        }
-
-  pub surveyed_whole : s.count ≤ i → Surveyed s h s.count lapse passes
-  surveyed_whole past = subst (λ (n : ℕ). Surveyed s h n lapse passes) (all_passed i s.count v.used past) v
+  pub passing_more : (i : ℕ) → (passing s i || closes_past_end s.horizon.0 (stream_at s i)) ≡ passing s (i + 1)
+  unfolding some_to
+  passing_more i =
+      ap (λ (h : Clock). passing s i || closes_past_end h.0 (stream_at s i)) horizon_is ∙ ap (passing s) (sym (add-one i))
 
 -- past all streams it is over
-pub surveyed_all : {s : Session} {h : Clock} {lapse : Lapse} {passes : Bool} → Surveyed s h s.count lapse passes
-    → record { found = lapse.found; expiring = lapse.stream; beyond = passes } ≡ survey_of s
-unfolding no_slot expiring move_passes_end
-surveyed_all {s} v = rw (v.slot, v.closing, some_not_all (slots_at s) s.count)
+pub survey_all : (s : Session) → record { expiring = found_to s s.count; beyond = passing s s.count } ≡ survey_of s
+unfolding no_slot expiring move_passes_end if
+survey_all s = rw (some_not_all (slots_at s) s.count)

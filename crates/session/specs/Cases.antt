@@ -1,13 +1,13 @@
 -- The documents' worked cases, one line each: what the rules give, beside what the document says. Those marked P and the others stand in two lists; the statements that cover them are `MarkedCasesHold` and `OtherCasesHold` of `Laws`.
-use Rattle.std.specs.Prelude.{List, [], ◌∷◌, ◌++◌, map, ℕ, zero, suc, ◌-◌, ◌/◌, ◌%◌, ℤ, pos, negsuc, length, replicate, set, take, eqb}
+use Rattle.std.specs.Prelude.{List, [], ◌∷◌, ◌++◌, map, ℕ, zero, suc, ◌-◌, ◌/◌, ◌%◌, ℤ, pos, negsuc, length, replicate, set, take, eqb, Option}
 use Rattle.table.specs.Fold.{if, list_to}
 use Rattle.table.specs.Ranges.{streams_max}
 use Rattle.table.specs.Admission.{admission_of}
 use Rattle.table.specs.Margin.{left_of, over_of, number_in, margin_in}
 use Rattle.table.specs.declared.Table.{Table}
 use Rattle.time.specs.Exact.{Fraction}
+use Rattle.time.specs.declared.Clock.{Clock as Moment}
 use Rattle.time.specs.Latest.{latest_of, asked_number, asked_moment}
-use Rattle.time.specs.declared.remainders.Latest.{Latest}
 use Rattle.stream.specs.Stream.{queue_max, slots, micro_deadline, with_queue, charged, fresh_stream}
 use Rattle.session.specs.Session.{stream_at, asked, with_stream, with_disk}
 use Rattle.session.specs.Calls.{Line, answer_to, after, lines_from}
@@ -65,7 +65,7 @@ opens t number left over =
     record { rules = (number_in (opening_of t Nearest).admission ∷ left_of m ∷ over_of m ∷ []) ∷ []; document = (number ∷ left ∷ over ∷ []) ∷ [] }
 
 -- what is asked with three numbers, and of a session after some calls: 0 and the latest safe moment, or 31 and 0
-abbrev pub told : Latest → List ℕ
+abbrev pub told : Option Moment → List ℕ
 told latest = asked_number latest ∷ asked_moment latest ∷ []
 
 abbrev pub asks : ℕ → ℤ → ℕ → ℕ → ℕ → Case

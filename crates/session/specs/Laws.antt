@@ -1,5 +1,5 @@
 -- What is proved of the rules.
-use Rattle.std.specs.Prelude.{◌≡◌, true, false, ◌||◌, List, ◌∷◌, ◌++◌, map, ◌↔◌, ℕ, ◌+◌, ◌-◌, ◌*◌, ◌≤◌, ◌<◌}
+use Rattle.std.specs.Prelude.{◌≡◌, true, false, ◌||◌, List, ◌∷◌, ◌++◌, map, ◌↔◌, ℕ, ◌+◌, ◌-◌, ◌*◌, ◌≤◌, ◌<◌, Some}
 use Rattle.table.specs.Fold.{sum_to}
 use Rattle.table.specs.Admission.{admission_of}
 use Rattle.table.specs.Whole.{above_zero, below_zero}
@@ -7,7 +7,6 @@ use Rattle.table.specs.Margin.{margin_of}
 use Rattle.table.specs.declared.Table.{Table}
 use Rattle.time.specs.Time.{session_end, moment}
 use Rattle.time.specs.declared.Clock.{Clock}
-use Rattle.time.specs.declared.remainders.Latest.TheVariants.{At}
 use Rattle.stream.specs.Laws.{CarriedOn, GoesFirst}
 use Rattle.session.specs.Session.{stream_at, place_at, horizon, slots_at, filled_at, in_set, some_filled, no_slot, scaled_part, latest, asked, table_of, sound}
 use Rattle.order.specs.Order.{distance}
@@ -126,8 +125,8 @@ PartsAreExact =
 -- Document 02, Req 06: "Asking reads only that sum, the horizon and the span, and gives the L of the full sum for every session that calls can reach, overruns included." So of every sound session, and so after any calls.
 abbrev pub AskIsLatest : Type 0
 AskIsLatest =
-    ((s : Session) → sound s ≡ true → asked s ≡ At (moment (latest s)))
-    × ((t : Table) (s : Session) (calls : List Call) → NewlyOpened t s → let now = after s calls in asked now ≡ At (moment (latest now)))
+    ((s : Session) → sound s ≡ true → asked s ≡ Some (moment (latest s)))
+    × ((t : Table) (s : Session) (calls : List Call) → NewlyOpened t s → let now = after s calls in asked now ≡ Some (moment (latest now)))
 
 -- Two sessions that agree in the three numbers are told the same, sound or not.
 abbrev pub AskReadsThree : Type 0
@@ -149,7 +148,7 @@ arriving requests = map (λ (r : Request). Call.Arrival r.stream r.place r.tag) 
 -- May a foreign request that takes at most x run now? If nothing is at the disk, and the clock and x together are no later than the moment that is told, the clock report after it is answered by 27, whatever is queued, and whatever arrives meanwhile: it is not late, and breaks no premise of the promise. (Past the session's end it is refused by 14, and changes nothing.)
 abbrev pub ForeignRequestFits : Type 0
 ForeignRequestFits =
-    (s : Session) (until : Clock) (x : ℕ) (meanwhile : List Request) → sound s ≡ true → s.served ≡ 0 → asked s ≡ At until
+    (s : Session) (until : Clock) (x : ℕ) (meanwhile : List Request) → sound s ≡ true → s.served ≡ 0 → asked s ≡ Some until
     → let now = s.clock.0 + x in
     now ≤ until.0 → now ≤ session_end → (answer_to (after s (arriving meanwhile)) (Call.Clock now)).reply ≡ Reply.Clock (moment now)
 

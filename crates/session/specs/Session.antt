@@ -1,5 +1,5 @@
 -- A session: its streams, the horizon, the latest safe moment, and when it is sound.
-use Rattle.std.specs.Prelude.{Bool, ◌&&◌, ◌||◌, List, [], map, ℕ, ◌+◌, ◌-◌, ◌*◌, ◌/◌, length, get_or, set, leb, ltb, eqb, ℤ, pos, ◌-ℤ◌}
+use Rattle.std.specs.Prelude.{Bool, ◌&&◌, ◌||◌, List, [], map, ℕ, ◌+◌, ◌-◌, ◌*◌, ◌/◌, length, get_or, set, leb, ltb, eqb, ℤ, pos, ◌-ℤ◌, Option}
 use Rattle.table.specs.Fold.{if, sum_to, smallest_to, all_to, some_to}
 use Rattle.table.specs.Ranges.{streams_max}
 use Rattle.table.specs.Admission.{admission_of}
@@ -8,10 +8,10 @@ use Rattle.table.specs.Margin.{margin_of}
 use Rattle.table.specs.declared.Table.{Table}
 use Rattle.time.specs.Time.{session_end, moment, disk_time}
 use Rattle.time.specs.Latest.{remainders, latest_of}
-use Rattle.stream.specs.Stream.{slots, filled, part_of, sound_stream, unused_stream}
+pub use Rattle.stream.specs.Stream.{no_stream}
+use Rattle.stream.specs.Stream.{slots, filled, part_of, sound_stream, unused_stream, stream_in}
 use Rattle.time.specs.declared.Clock.{Clock}
 use Rattle.time.specs.declared.remainders.Remainders.{Remainders}
-use Rattle.time.specs.declared.remainders.Latest.{Latest}
 use Rattle.stream.specs.declared.Stream.{Stream}
 use Rattle.session.specs.declared.Session.{Session}
 
@@ -65,7 +65,7 @@ unfoldable pub remainders_of : Session → ℤ
 remainders_of s = signed_sum_to (scaled_remainder s) s.count
 
 -- "Asking reads only that sum, the horizon and the span": what is told by the cells of any session, sound or not
-abbrev pub asked : Session → Latest
+abbrev pub asked : Session → Option Clock
 asked s = latest_of s.horizon.0 s.remainders.0 s.span
 
 -- the table that a session was opened with

@@ -75,12 +75,8 @@ impl Session {
     {
         let now = self.clock;
         let h = self.horizon;
-        let mut i: usize = 0;
-        while i < self.count {
-            let x = self.streams[i];
-            let y = x.moved(now, h);
-            self.streams[i] = y;
-            i += 1;
+        for x in &mut self.streams {
+            *x = x.moved(now, h);
         }
         let next = self.soonest();
         let owed = self.summed(next);
@@ -171,7 +167,7 @@ impl Session {
         ensures { result ≡ outcome self (set_clock now.0) }
     {
         let before = self.clock;
-        let late = now.is_after(until) & now.is_after(before);
+        let late = (until < now) & (before < now);
         self.clock = now;
         let mut reply = Reply::Clock { time: now };
         if late {

@@ -7,55 +7,45 @@ ghost use Rattle.session.specs.Inner.{Bookkept};
 
 use crate::Session;
 use stream::Sums;
-use time::{Clock, Latest, Remainders};
+use time::{Clock, Remainders};
 
 impl Session {
-    // The latest safe moment, or 31. It is asked of three cells, and nothing else is judged: any session is answered.
-    pub fn asked(self) -> Latest
-        ensures { result ≡ asked self }
+    // The latest safe moment, or none, which is 31. It is asked of three cells, and nothing else is judged: any session is answered.
+    pub fn asked(&self) -> Option<Clock>
+        ensures { result ≡ asked self.now }
     {
         self.horizon
             .less_remainders(self.remainders, self.span as u64)
     }
 
-    // The latest safe moment of a sound session. It always has one, so that the other way out is never taken.
-    pub(crate) fn latest(self) -> Clock
-        requires { sound self ≡ true }
-        ensures { result ≡ moment (latest self) }
+    // The latest safe moment of a sound session, which always has one.
+    pub(crate) fn latest(&self) -> Clock
+        requires { sound self.now ≡ true }
+        ensures { result ≡ moment (latest self.now) }
     {
-        let Latest::At(until) = self.asked() else {
-            return self.horizon;
-        };
-        until
+        self.asked().unwrap()
     }
 
     // The smallest deadline of the used streams.
-    pub(crate) fn soonest(self) -> Clock
-        requires { Bookkept self }
-        ensures { result ≡ moment (horizon self) }
+    pub(crate) fn soonest(&self) -> Clock
+        requires { Bookkept self.now }
+        ensures { result ≡ moment (horizon self.now) }
     {
-        let first = self.streams[0];
-        let mut h = first.deadline;
-        let mut i: usize = 0;
-        while i < self.count {
-            let x = self.streams[i];
-            h = h.earlier(x.deadline);
-            i += 1;
+        let mut h = self.streams[0].deadline;
+        for x in &self.streams[..self.count] {
+            h = h.min(x.deadline);
         }
         h
     }
 
     // The sum of all remainders up to the horizon, times the span.
-    pub(crate) fn summed(self, h: Clock) -> Remainders
-        requires { Bookkept self × (h ≡ moment (horizon self)) }
-        ensures { result ≡ remainders (remainders_of self) }
+    pub(crate) fn summed(&self, h: Clock) -> Remainders
+        requires { Bookkept self.now × (h ≡ moment (horizon self.now)) }
+        ensures { result ≡ remainders (remainders_of self.now) }
     {
         let mut sums = Sums::none();
-        let mut i: usize = 0;
-        while i < self.count {
-            let x = self.streams[i];
+        for x in &self.streams[..self.count] {
             sums = sums.with(x, self.span, h);
-            i += 1;
         }
         sums.remainders(self.span)
     }

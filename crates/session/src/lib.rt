@@ -90,7 +90,7 @@ impl Session {
         let streams = [unused; Table::STREAMS_MAX];
         let start = Clock::at(0);
         let margin = Margin::none();
-        let nothing = Remainders::none();
+        let nothing = Remainders::default();
         Session {
             order: Order::Nearest,
             worst: 0,
@@ -117,7 +117,7 @@ fn fresh(t: Table, margin: Margin, order: Order) -> Session
 {
     let streams = opened_streams(t);
     let start = Clock::at(0);
-    let nothing = Remainders::none();
+    let nothing = Remainders::default();
     let mut session = Session {
         order: order,
         worst: t.worst,
@@ -150,11 +150,8 @@ fn opened_streams(t: Table) -> [Stream; Table::STREAMS_MAX]
 {
     let unused = Stream::fresh(0, 0, 0);
     let mut streams = [unused; Table::STREAMS_MAX];
-    let mut i: usize = 0;
-    while i < t.count {
-        let x = opened_stream(t, i);
-        streams[i] = x;
-        i += 1;
+    for i in 0..t.count {
+        streams[i] = opened_stream(t, i);
     }
     streams
 }

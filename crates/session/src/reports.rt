@@ -18,7 +18,7 @@ impl Session {
             return self.refuse(10);
         }
         let now = Clock::at(time);
-        if self.clock.is_after(now) {
+        if now < self.clock {
             return self.refuse(13);
         }
         if now.is_past_end() {

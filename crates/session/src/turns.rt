@@ -17,25 +17,23 @@ impl Session {
             return self.refuse(10);
         }
         // a. some slot is filled: send
-        let pick = self.pick();
-        let filled = pick.found;
-        if filled {
+        if let Some(pick) = self.pick() {
             return self.send(pick.stream, pick.index);
         }
         // b. no stream has a slot: move, or 14
         let seen = self.survey();
-        if !seen.found {
+        let Some(expiring) = seen.expiring else {
             if seen.beyond {
                 return self.refuse(14);
             }
             return self.move_on();
-        }
+        };
         // c. only empty slots and t < L: wait until L
         let until = self.latest();
-        if until.is_after(self.clock) {
+        if self.clock < until {
             return self.wait(until);
         }
         // d. only empty slots and t ≥ L: expire one slot
-        self.expire(seen.expiring)
+        self.expire(expiring)
     }
 }

@@ -128,11 +128,13 @@ considered worst h before best x i =
     if (eqb (filled worst h x) 0) best
     (preferred before best (record { stream = i; index = request.index; deadline = x.deadline; place = request.place }))
 
--- whether stream i goes before the best so far as they lose slots: it does where there is none
-abbrev pub first_of : List Stream → Option ℕ → ℕ → Bool
-first_of streams None i = true
-first_of streams (Some best) i = expires_first (stream_in streams i) (stream_in streams best)
+-- whether an index goes before the best so far: it does where there is none
+abbrev pub goes_first : (ℕ → ℕ → Bool) → Option ℕ → ℕ → Bool
+goes_first beats None i = true
+goes_first beats (Some best) i = beats i best
 
 -- one step of the search for the stream that loses a slot: one with no slot changes nothing, and of equals the first stays
 unfoldable pub lapsing : ℕ → ℕ → List Stream → Option ℕ → ℕ → Option ℕ
-lapsing worst h streams best i = if (leb 1 (slots worst h (stream_in streams i)) && first_of streams best i) (Some i) best
+lapsing worst h streams best i =
+    let first = goes_first (λ a b. expires_first (stream_in streams a) (stream_in streams b)) best i in
+    if (leb 1 (slots worst h (stream_in streams i)) && first) (Some i) best

@@ -28,7 +28,7 @@ soonest-h-requires c =
     let order = c.args.order in
     let pre = c.requires in
     let fit = opened_fit t order pre.0 in
-    rw (c.none-nothing.ensures, c.at-start.ensures, c.opened_streams-streams.ensures, ap margin pre.1)
+    rw (c.default-nothing.ensures, c.at-start.ensures, c.opened_streams-streams.ensures, ap margin pre.1)
     (bookkept (opened_session t order) fit.used)
 
 -- the horizon is that of the streams
@@ -36,7 +36,7 @@ soonest_is : (c : After-soonest-h) → c.soonest-h.result ≡ moment (horizon (o
 soonest_is c =
     rw (
       c.soonest-h.ensures,
-      c.none-nothing.ensures,
+      c.default-nothing.ensures,
       c.at-start.ensures,
       c.opened_streams-streams.ensures,
       ap margin c.requires.1,

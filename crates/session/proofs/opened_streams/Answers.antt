@@ -16,8 +16,8 @@ pub loop-i-init : goal.loop-i-init
 unfolding list_to
 loop-i-init c = (omega arith, record { cells = refl; front = refl }, λ j low l. get_or-replicate 8 j _ no_stream l ∙ c.fresh-unused.ensures)
 
-pub opened_stream-x-requires : goal.opened_stream-x-requires
-opened_stream-x-requires c = (omega arith, c.requires)
+pub opened_stream-requires : goal.opened_stream-requires
+opened_stream-requires c = (omega arith, c.requires)
 
 pub loop-i-preserved : goal.loop-i-preserved
 loop-i-preserved c =
@@ -25,7 +25,7 @@ loop-i-preserved c =
     let t = c.args.t in
     let l : at.i < 8 = omega (arith, c.requires) in (
       omega arith,
-      rw c.opened_stream-x.ensures (filled_more (opened_stream t) at.streams at.i 8 l at.invariant.1),
+      rw c.opened_stream.ensures (filled_more (opened_stream t) at.streams at.i 8 l at.invariant.1),
       λ j low m. get_or-set_other at.streams at.i j _ no_stream (λ e. omega arith) ∙ at.invariant.2 j (omega arith) m,
     )
 

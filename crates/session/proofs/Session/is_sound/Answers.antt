@@ -1,114 +1,97 @@
-use mathlib.Core.Path.{◌≡◌, refl, sym, subst⁻¹, ◌∙◌}
-use Prim.Native.Nat.{◌+◌}
+-- `Session::is_sound` looks at the used streams, at the unused ones, and then at the clock and the disk: each way out cites what decides there.
+use mathlib.Core.Bool.{Bool, true, false, not, ◌&&◌, false≢true}
+use mathlib.Core.Path.{◌≡◌, refl, sym, ◌∙◌}
+use Prim.Native.Nat.{ℕ, ◌+◌, ◌-◌, ◌≤◌, ◌<◌}
 use native.Mathlib.Omega.{arith}
-use lib.ListN.{length, length-map}
-use Rattle.table.proofs.Loops.{next_fits, fewer}
-use Rattle.stream.specs.declared.census.Census.{Census}
+use lib.Dec.{leb}
+use lib.ListN.{length, length-map, get_or, take, drop}
+use borrow.Author.Rules.{rules}
+use borrow.Author.Tests.{tests as facts}
+use Rattle.std.proofs.lemmas.Iterator.{cases_from_all, YieldsList-from_slice}
+use Rattle.std.proofs.lemmas.List.{get_or-drop, length-drop, take_all}
+use Rattle.table.proofs.Judged.{numbers_of}
+use Rattle.stream.specs.Stream.{unused_stream}
 use Rattle.stream.specs.contracts.Stream as Cells
-use Rattle.session.proofs.Offsets.{offset_fits, first_in}
-use Rattle.session.proofs.Judging.{Judging, judging_none, below, can_count, judging_used, judging_unused, Looked, can_say, tested, tests, refused, Passed, idle_decides, at_disk, can_have, busy_decides}
+use Rattle.session.specs.Session.{table_of, sound}
+use Rattle.session.proofs.Offsets.{offset_fits}
+use Rattle.session.proofs.Counted.{CountedTo, not_sound, counted_to, counted_fails, judgeable}
+use Rattle.session.proofs.Judging.{Looked, looks, tests, refused, idle_decides, at_disk, can_have, busy_decides}
 use Rattle.session.proofs.Session.is_sound.Goals as goal
-use Rattle.session.proofs.Session.is_sound.Goals.{then-i-self, else-i-self}
+use Rattle.session.proofs.Session.is_sound.Goals.{In-Some, After-all-unused, After-is_past_end-in_time, Else-not-unused-streams}
 
-pub bounds-self-0 : goal.bounds-self-0
-bounds-self-0 c = first_in
+pub returns-in_default : goal.returns-in_default
+returns-in_default c =
+    let s = c.args.self.now in
+    sym (not_sound s (counted_fails s s.count (omega arith) (sym c.census.ensures ∙ c.in_default.is)))
 
--- that there are eight streams stands in what is told of the parameter
-pub loop-census-init : goal.loop-census-init
-loop-census-init c =
-    let s = c.args.self in
-    let eight : length s.streams ≡ 8 = omega (arith, c.well_formed, length-map s.streams (Cells.the_type).to) in
-    (refl, judging_none s _ c.begin-census.ensures eight)
+counted : (c : In-Some) → CountedTo c.args.self.now c.in-Some.census c.args.self.now.count
+counted c = counted_to _ _ _ (sym c.census.ensures ∙ c.in-Some.is)
 
-pub offset_bounds-self-i : goal.offset_bounds-self-i
-offset_bounds-self-i c = offset_fits _ _ (below _ _ _ c.loop-census.invariant.1 c.loop-census-test.true) refl
+few : (c : In-Some) → c.args.self.now.count ≤ 8
+few c = (numbers_of (table_of c.args.self.now) (counted c).passed.numbers).count_high
 
-pub bounds-self-i : goal.bounds-self-i
-bounds-self-i c = below _ _ _ c.loop-census.invariant.1 c.loop-census-test.true
+pub offset_bounds-self-self : goal.offset_bounds-self-self
+offset_bounds-self-self c =
+    let le = few (goal.at.offset_bounds-self-self c).In-Some in
+    let l : c.args.self.now.count < 9 = omega (arith, le) in
+    offset_fits _ _ l refl
 
-pub with-census-requires : goal.with-census-requires
-with-census-requires c = can_count _ _ _ c.loop-census.invariant.1 c.loop-census-test.true c.if-i-self.true
+pub slice_bounds-iter-count : goal.slice_bounds-iter-count
+slice_bounds-iter-count c = few (goal.at.slice_bounds-iter-count c).In-Some
 
-pub offset_bounds-self-i-else-i-self : goal.offset_bounds-self-i-else-i-self
-offset_bounds-self-i-else-i-self c = offset_fits _ _ (below _ _ _ c.loop-census.invariant.1 c.loop-census-test.true) refl
-
-pub bounds-self-i-else-i-self : goal.bounds-self-i-else-i-self
-bounds-self-i-else-i-self c = below _ _ _ c.loop-census.invariant.1 c.loop-census-test.true
-
-pub overflow_add-i : goal.overflow_add-i
-overflow_add-i c = next_fits _ (below _ _ _ c.loop-census.invariant.1 c.loop-census-test.true)
-
-pub loop-census-smaller : goal.loop-census-smaller
-loop-census-smaller c = fewer 8 _ (below _ _ _ c.loop-census.invariant.1 c.loop-census-test.true)
-
-pub loop-census-preserved : goal.loop-census-preserved
-loop-census-preserved c =
-    let s = c.args.self in
-    let at = c.loop-census in
-    let going = c.loop-census-test.true in (
-      at.invariant.0,
-      elim c.if-i-self.branch [
-        | then-i-self w ↦ judging_used s _ _ at.invariant.1 going w.if-i-self.true _ (w.census-is ∙ w.with-census.ensures)
-        | else-i-self w ↦ subst⁻¹ (λ (d : Census). Judging s d (at.i + 1)) w.census-is (judging_unused s _ _ at.invariant.1 going w.if-i-self.false _ w.is_unused.ensures)
-      ],
-    )
+pub slice_bounds-iter-start : goal.slice_bounds-iter-start
+slice_bounds-iter-start c = let le = few (goal.at.slice_bounds-iter-start c).In-Some in search rules
 
 pub is_sound-streams-requires : goal.is_sound-streams-requires
-is_sound-streams-requires c =
-    let looked : Looked c.args.self c.loop-census.census c.loop-census.i = record { judging = c.loop-census.invariant.1; over = c.loop-census-test.false } in
-    can_say _ _ _ looked
+is_sound-streams-requires c = judgeable _ _ (counted (goal.at.is_sound-streams-requires c).In-Some)
 
-pub returns-then-not-streams-in_time : goal.returns-then-not-streams-in_time
-returns-then-not-streams-in_time c =
-    let looked : Looked c.args.self c.loop-census.census c.loop-census.i = record { judging = c.loop-census.invariant.1; over = c.loop-census-test.false } in
-    let tests-are : tested _ _ _ looked c.is_sound-streams.result c.is_by-in_time.result ≡ tests _ _ _ looked =
-    rw (c.is_sound-streams.ensures, c.is_by-in_time.ensures, c.at.ensures) in
-    sym (refused _ _ _ looked (sym tests-are ∙ c.if-not-streams-in_time.true))
+looked : (c : After-all-unused) → Looked c.args.self.now c.in-Some.census c.all-unused.result
+looked c =
+    let s = c.args.self.now in
+    let counts = counted_to _ _ _ (sym c.census.ensures ∙ c.in-Some.is) in
+    let high = (numbers_of (table_of s) counts.passed.numbers).count_high in
+    let eight : length s.streams ≡ 8 = omega (arith, c.well_formed, length-map s.streams (Cells.the_type).to) in
+    let rest : take (8 - s.count) (drop s.count s.streams) ≡ drop s.count s.streams = take_all (8 - s.count) (drop s.count s.streams) (omega (arith, eight, length-drop s.count s.streams)) in
+    looks s _ counts eight high _
+    (cases_from_all _ _ _ (λ x. unused_stream x ≡ true) (λ x. unused_stream x ≡ false) c.all-unused.ensures.ran (YieldsList-from_slice (drop s.count s.streams) (c.iter.ensures.rest ∙ rest))
+    (λ x q k. search (rules, facts))
+    (λ x q k. search (rules, facts)))
+
+-- the tests that the code makes
+tests_are : (c : After-is_past_end-in_time)
+    → (c.all-unused.result && c.is_sound-streams.result && not c.is_past_end-in_time.result && leb c.args.self.now.served c.args.self.now.count)
+    ≡ tests c.args.self.now c.in-Some.census c.all-unused.result
+tests_are c = rw (c.is_sound-streams.ensures, c.is_past_end-in_time.ensures)
+
+pub returns-then-not-unused-streams : goal.returns-then-not-unused-streams
+returns-then-not-unused-streams c =
+    let at = goal.at.returns-then-not-unused-streams c in
+    sym (refused (looked at.After-all-unused) (sym (tests_are at.After-is_past_end-in_time) ∙ c.if-not-unused-streams.true))
+
+passes : (c : Else-not-unused-streams) → tests c.args.self.now c.in-Some.census c.all-unused.result ≡ true
+passes c = rw (← c.is_sound-streams.ensures, ← c.is_past_end-in_time.ensures) c.if-not-unused-streams.false
 
 pub returns-then-self-eq0 : goal.returns-then-self-eq0
 returns-then-self-eq0 c =
-    let looked : Looked c.args.self c.loop-census.census c.loop-census.i = record { judging = c.loop-census.invariant.1; over = c.loop-census-test.false } in
-    let tests-are : tested _ _ _ looked c.is_sound-streams.result c.is_by-in_time.result ≡ tests _ _ _ looked =
-    rw (c.is_sound-streams.ensures, c.is_by-in_time.ensures, c.at.ensures) in
-    let passed : Passed c.args.self c.loop-census.census c.loop-census.i =
-    record { looked = looked; passes = sym tests-are ∙ c.if-not-streams-in_time.false } in
-    idle_decides _ _ _ passed c.if-self-eq0.true
+    let at = goal.at.returns-then-self-eq0 c in
+    idle_decides (looked at.After-all-unused) (passes at.Else-not-unused-streams) c.if-self-eq0.true
 
-pub overflow_sub-n : goal.overflow_sub-n
-overflow_sub-n c = omega (arith, c.if-self-eq0.false)
+pub offset_bounds-self-self-2 : goal.offset_bounds-self-self-2
+offset_bounds-self-self-2 c =
+    let at = goal.at.offset_bounds-self-self-2 c in
+    offset_fits _ _ (at_disk (looked at.After-all-unused) (passes at.Else-not-unused-streams) c.if-self-eq0.false) refl
 
-pub offset_bounds-self-n : goal.offset_bounds-self-n
-offset_bounds-self-n c =
-    let looked : Looked c.args.self c.loop-census.census c.loop-census.i = record { judging = c.loop-census.invariant.1; over = c.loop-census-test.false } in
-    let tests-are : tested _ _ _ looked c.is_sound-streams.result c.is_by-in_time.result ≡ tests _ _ _ looked =
-    rw (c.is_sound-streams.ensures, c.is_by-in_time.ensures, c.at.ensures) in
-    let passed : Passed c.args.self c.loop-census.census c.loop-census.i =
-    record { looked = looked; passes = sym tests-are ∙ c.if-not-streams-in_time.false } in
-    offset_fits _ _ (at_disk _ _ _ passed c.if-self-eq0.false) refl
-
-pub bounds-self-n : goal.bounds-self-n
-bounds-self-n c =
-    let looked : Looked c.args.self c.loop-census.census c.loop-census.i = record { judging = c.loop-census.invariant.1; over = c.loop-census-test.false } in
-    let tests-are : tested _ _ _ looked c.is_sound-streams.result c.is_by-in_time.result ≡ tests _ _ _ looked =
-    rw (c.is_sound-streams.ensures, c.is_by-in_time.ensures, c.at.ensures) in
-    let passed : Passed c.args.self c.loop-census.census c.loop-census.i =
-    record { looked = looked; passes = sym tests-are ∙ c.if-not-streams-in_time.false } in
-    at_disk _ _ _ passed c.if-self-eq0.false
+pub bounds-self-self : goal.bounds-self-self
+bounds-self-self c =
+    let at = goal.at.bounds-self-self c in
+    at_disk (looked at.After-all-unused) (passes at.Else-not-unused-streams) c.if-self-eq0.false
 
 pub slots-requires : goal.slots-requires
 slots-requires c =
-    let looked : Looked c.args.self c.loop-census.census c.loop-census.i = record { judging = c.loop-census.invariant.1; over = c.loop-census-test.false } in
-    let tests-are : tested _ _ _ looked c.is_sound-streams.result c.is_by-in_time.result ≡ tests _ _ _ looked =
-    rw (c.is_sound-streams.ensures, c.is_by-in_time.ensures, c.at.ensures) in
-    let passed : Passed c.args.self c.loop-census.census c.loop-census.i =
-    record { looked = looked; passes = sym tests-are ∙ c.if-not-streams-in_time.false } in
-    can_have _ _ _ passed c.if-self-eq0.false
+    let at = goal.at.slots-requires c in
+    can_have (looked at.After-all-unused) (passes at.Else-not-unused-streams) c.if-self-eq0.false
 
 pub returns : goal.returns
 returns c =
-    let looked : Looked c.args.self c.loop-census.census c.loop-census.i = record { judging = c.loop-census.invariant.1; over = c.loop-census-test.false } in
-    let tests-are : tested _ _ _ looked c.is_sound-streams.result c.is_by-in_time.result ≡ tests _ _ _ looked =
-    rw (c.is_sound-streams.ensures, c.is_by-in_time.ensures, c.at.ensures) in
-    let passed : Passed c.args.self c.loop-census.census c.loop-census.i =
-    record { looked = looked; passes = sym tests-are ∙ c.if-not-streams-in_time.false } in
-    busy_decides _ _ _ passed c.if-self-eq0.false _ c.slots.ensures
+    let at = goal.at.returns c in
+    busy_decides (looked at.After-all-unused) (passes at.Else-not-unused-streams) c.if-self-eq0.false _ c.slots.ensures

@@ -1,31 +1,26 @@
--- `Session::outlook` shows the horizon that is kept and the latest safe moment, or zeros.
+-- `Session::outlook` shows the horizon that is kept and the latest safe moment, of a sound session.
 use mathlib.Core.Bool.{true}
 use mathlib.Core.Path.{◌≡◌, ap₂, ◌∙◌}
 use Rattle.table.specs.Fold.{if}
-use Rattle.time.specs.Time.{moment}
+use Rattle.std.proofs.Common.{Option, Some}
 use Rattle.time.specs.declared.Clock.{Clock}
-use Rattle.session.specs.Session.{latest, sound}
-use Rattle.session.specs.Inner.{outlook_of}
-use Rattle.session.specs.declared.Session.{Session}
+use Rattle.session.specs.declared.searches.Outlook.{Outlook}
+use Rattle.session.specs.Session.{sound}
 use Rattle.session.proofs.Dues.{by_31, past_31}
 use Rattle.session.proofs.Sound.{sound_of}
 use Rattle.session.proofs.Session.outlook.Goals as goal
 
 pub returns-then-not-is_sound : goal.returns-then-not-is_sound
 unfolding if
-returns-then-not-is_sound c = rw (by_31 _ _ c.is_sound.ensures c.if-not-is_sound.true, c.at-start.ensures)
+returns-then-not-is_sound c = rw (by_31 _ _ c.is_sound.ensures c.if-not-is_sound.true)
 
-pub latest-until-requires : goal.latest-until-requires
-latest-until-requires c =
-    let ok : sound c.args.self ≡ true = past_31 _ _ c.is_sound.ensures c.if-not-is_sound.false in
-    ok
-
--- both are those of the session
-shown_is : (s : Session) → sound s ≡ true → (until : Clock) → until ≡ moment (latest s) → record { sound = true; horizon = s.horizon; latest = until } ≡ outlook_of s
-unfolding if
-shown_is s ok until is = ap₂ (λ (h l : Clock). record { sound = true; horizon = h; latest = l }) (sound_of s ok).ahead.horizon_is is ∙ rw ok
+pub latest-requires : goal.latest-requires
+latest-requires c = past_31 _ _ c.is_sound.ensures c.if-not-is_sound.false
 
 pub returns : goal.returns
+unfolding if
 returns c =
-    let ok : sound c.args.self ≡ true = past_31 _ _ c.is_sound.ensures c.if-not-is_sound.false in
-    shown_is _ ok _ c.latest-until.ensures
+    let s = c.args.self.now in
+    let ok : sound s ≡ true = past_31 _ _ c.is_sound.ensures c.if-not-is_sound.false in
+    let ahead : Clock → Clock → Option Outlook = λ h until. Some (record { horizon = h; latest = until }) in
+    ap₂ ahead (sound_of s ok).ahead.horizon_is c.latest.ensures ∙ rw ok

@@ -1,39 +1,33 @@
-use mathlib.Core.Path.{refl, ap, ◌∙◌}
-use Prim.Native.Nat.{ℕ}
+use mathlib.Core.Path.{◌≡◌, refl, ap, ◌∙◌}
+use Prim.Native.Nat.{ℕ, ◌+◌, min}
 use native.Mathlib.Numerals.{add-one}
+use native.Mathlib.Omega.{arith}
+use borrow.Author.Rules.{rules}
+use lib.ListN.{length, length-map}
 use Rattle.table.specs.Fold.{smallest_to}
-use Rattle.table.proofs.Loops.{below_eight, next_fits, fewer, none_passed, one_passed, all_passed}
 use Rattle.time.specs.Time.{moment}
 use Rattle.session.specs.Session.{stream_at, horizon}
-use Rattle.session.proofs.Offsets.{offset_fits, first_in}
+use Rattle.stream.specs.contracts.Stream as Cells
+use Rattle.session.proofs.InUse.{used_in, used_is, used_all}
 use Rattle.session.proofs.Session.soonest.Goals as goal
 
-pub bounds-self-0 : goal.bounds-self-0
-bounds-self-0 c = first_in
-
-pub loop-i-init : goal.loop-i-init
+pub loop-x-init : goal.loop-x-init
 unfolding smallest_to
-loop-i-init c = (none_passed _, refl)
+loop-x-init c = refl
 
-pub offset_bounds-self-i : goal.offset_bounds-self-i
-offset_bounds-self-i c = offset_fits _ _ (below_eight _ _ c.loop-i-test.true c.requires.few) refl
-
-pub bounds-self-i : goal.bounds-self-i
-bounds-self-i c = below_eight _ _ c.loop-i-test.true c.requires.few
-
-pub overflow_add-i : goal.overflow_add-i
-overflow_add-i c = next_fits _ (below_eight _ _ c.loop-i-test.true c.requires.few)
-
-pub loop-i-smaller : goal.loop-i-smaller
-loop-i-smaller c = fewer _ _ c.loop-i-test.true
-
-pub loop-i-preserved : goal.loop-i-preserved
+pub loop-x-preserved : goal.loop-x-preserved
 unfolding smallest_to
-loop-i-preserved c = let at = c.loop-i in (one_passed _ _ c.loop-i-test.true, rw (c.earlier-h.ensures, at.invariant.1, add-one))
+loop-x-preserved c =
+    let s = c.args.self.now in
+    let at = c.loop-x in
+    let x = used_is s at.x-index c.loop-x-test.true in
+    let smaller : c.min-h.result ≡ moment (min at.h.0 (stream_at s at.x-index).deadline.0) = rw (← x) (search rules) in
+    smaller ∙ rw (at.invariant, add-one)
 
 pub returns : goal.returns
 unfolding horizon
 returns c =
-    let s = c.args.self in
-    let at = c.loop-i in
-    at.invariant.1 ∙ ap (λ (n : ℕ). moment (smallest_to (λ j. (stream_at s j).deadline.0) n)) (all_passed _ _ at.invariant.0 c.loop-i-test.false)
+    let s = c.args.self.now in
+    let at = c.loop-x in
+    let all : at.x-index ≡ s.count = used_all s (omega (arith, c.well_formed, length-map s.streams (Cells.the_type).to)) c.requires.few at.x-index at.auto.x-index-end c.loop-x-test.false in
+    at.invariant ∙ ap (λ (n : ℕ). moment (smallest_to (λ j. (stream_at s j).deadline.0) n)) all

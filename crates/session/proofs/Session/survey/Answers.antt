@@ -1,45 +1,54 @@
-use mathlib.Core.Path.{refl}
-use Prim.Native.Nat.{◌<◌}
-use Rattle.table.proofs.Loops.{next_fits, fewer}
+use mathlib.Core.Bool.{Bool, ◌||◌}
+use mathlib.Core.Path.{◌≡◌, refl, sym, ap, ap₂, ◌∙◌}
+use Prim.Native.Nat.{ℕ, ◌+◌, ◌<◌}
+use lib.ListN.{length}
+use native.Mathlib.Omega.{arith}
+use Rattle.std.proofs.Common.{Option}
+use Rattle.stream.specs.Search.{lapsing}
+use Rattle.session.specs.declared.searches.Survey.{Survey}
 use Rattle.session.proofs.Offsets.{offset_fits}
-use Rattle.session.proofs.Surveys.{surveyed_none, best_in, next_in, can_compare, can_close, surveyed_more, surveyed_whole, surveyed_all}
+use Rattle.session.proofs.Dues.{inside}
+use Rattle.session.proofs.Sound.{sound_of, bounded_by, deadline_high}
+use Rattle.session.proofs.Surveys.{found_to, passing, survey_none, found_in, better_is, passing_more, survey_all}
 use Rattle.session.proofs.Session.survey.Goals as goal
 
 pub loop-i-init : goal.loop-i-init
-loop-i-init c = surveyed_none c.requires
+loop-i-init c = survey_none c.args.self.now
 
-pub offset_bounds-self-best : goal.offset_bounds-self-best
-offset_bounds-self-best c = offset_fits _ _ (best_in c.loop-i.invariant) refl
-
-pub bounds-self-best : goal.bounds-self-best
-bounds-self-best c = best_in c.loop-i.invariant
+pub better-expiring-requires : goal.better-expiring-requires
+better-expiring-requires c =
+    let s = c.args.self.now in
+    let q = sound_of s c.requires in
+    let i = c.loop-i.i in
+    let each = bounded_by s q s.horizon refl in
+    let long : (n : ℕ) → n < s.count → n < length s.streams = λ n l. let within = inside s c.requires n l in omega (arith, within, q.fit.eight) in
+    (long i c.loop-i-test.true, each i c.loop-i-test.true, λ b e.
+    let l = found_in s c.requires i b c.loop-i.auto.i-end (sym c.loop-i.invariant.0 ∙ e) in
+    (long b l, each b l))
 
 pub offset_bounds-self-i : goal.offset_bounds-self-i
-offset_bounds-self-i c =
-    let x-in : c.loop-i.i < 8 = next_in c.loop-i.invariant c.loop-i-test.true in
-    offset_fits _ _ x-in refl
+offset_bounds-self-i c = offset_fits _ _ (inside c.args.self.now c.requires _ c.loop-i-test.true) refl
 
 pub bounds-self-i : goal.bounds-self-i
-bounds-self-i c =
-    let x-in : c.loop-i.i < 8 = next_in c.loop-i.invariant c.loop-i-test.true in
-    x-in
+bounds-self-i c = inside c.args.self.now c.requires _ c.loop-i-test.true
 
-pub better-lapse-requires : goal.better-lapse-requires
-better-lapse-requires c = can_compare c.loop-i.invariant c.loop-i-test.true
-
-pub closes_past_end-passes-requires : goal.closes_past_end-passes-requires
-closes_past_end-passes-requires c = can_close c.loop-i.invariant c.loop-i-test.true
-
-pub overflow_add-i : goal.overflow_add-i
-overflow_add-i c =
-    let x-in : c.loop-i.i < 8 = next_in c.loop-i.invariant c.loop-i-test.true in
-    next_fits _ x-in
-
-pub loop-i-smaller : goal.loop-i-smaller
-loop-i-smaller c = fewer _ _ c.loop-i-test.true
+pub closes_past_end-beyond-requires : goal.closes_past_end-beyond-requires
+closes_past_end-beyond-requires c =
+    let s = c.args.self.now in
+    deadline_high s (sound_of s c.requires) c.loop-i.i (inside s c.requires _ c.loop-i-test.true)
 
 pub loop-i-preserved : goal.loop-i-preserved
-loop-i-preserved c = surveyed_more c.loop-i.invariant c.loop-i-test.true _ _ c.better-lapse.ensures c.closes_past_end-passes.ensures
+loop-i-preserved c =
+    let s = c.args.self.now in
+    let at = c.loop-i in (
+      c.better-expiring.ensures ∙ ap (λ (best : Option ℕ). lapsing s.worst s.horizon.0 s.streams best at.i) at.invariant.0 ∙ better_is s c.requires at.i,
+      ap₂ ◌||◌ at.invariant.1 c.closes_past_end-beyond.ensures ∙ passing_more s c.requires at.i,
+    )
 
 pub returns : goal.returns
-returns c = surveyed_all (surveyed_whole c.loop-i.invariant c.loop-i-test.false)
+returns c =
+    let s = c.args.self.now in
+    let at = c.loop-i in
+    let all : at.i ≡ s.count = omega (arith, at.auto.i-end, c.loop-i-test.false) in
+    ap₂ (λ (n : Option ℕ) (b : Bool). let found : Survey = record { expiring = n; beyond = b } in found) (at.invariant.0 ∙ ap (found_to s) all) (at.invariant.1 ∙ ap (passing s) all)
+    ∙ survey_all s

@@ -1,10 +1,7 @@
 -- `Session::survey` passes over the streams once: what it has found is that of the streams passed.
-use Prim.Native.Nat.{◌-◌}
-use Rattle.session.proofs.Surveys.{Surveyed}
+use mathlib.Core.Path.{◌≡◌}
+use Rattle.session.proofs.Surveys.{found_to, passing}
 use Rattle.session.proofs.Session.survey.Given as goal
 
 abbrev pub invariant-loop-i : goal.invariant-loop-i
-invariant-loop-i l = Surveyed l.self l.h l.i l.lapse l.passes
-
-abbrev pub decreases-loop-i : goal.decreases-loop-i
-decreases-loop-i l = l.self.count - l.i
+invariant-loop-i l = (l.expiring ≡ found_to l.self l.i) × (l.beyond ≡ passing l.self l.i)

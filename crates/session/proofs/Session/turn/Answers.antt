@@ -6,8 +6,11 @@ use Rattle.session.specs.Calls.{send, move, expire, verdict}
 use Rattle.session.specs.declared.Session.{Session}
 use Rattle.calls.specs.declared.Call.{Call}
 use Rattle.session.proofs.Dues.{by_31, past_31}
-use Rattle.session.proofs.Answers.{Idle, Unfilled, answers, unsound_verdict, turn_busy, turn_sends, turn_ends, turn_moves, turn_waits, turn_expires}
+use Rattle.session.proofs.Answers.{Idle, Unfilled, answers, unsound_verdict, turn_busy, turn_sends, turn_unfilled, turn_ends, turn_moves, turn_waits, turn_expires}
+use lib.Dec.{ltb}
+use borrow.Author.Rules.{rules}
 use Rattle.session.proofs.Session.turn.Goals as goal
+use Rattle.session.proofs.Session.turn.Goals.{Else-self-ne0, After-survey-seen, After-lt}
 
 pub returns-then-not-is_sound : goal.returns-then-not-is_sound
 returns-then-not-is_sound c = answers _ _ c.refuse.ensures (unsound_verdict _ _ (by_31 _ _ c.is_sound.ensures c.if-not-is_sound.true))
@@ -17,96 +20,68 @@ returns-then-self-ne0 c =
     let ok : sound c.args.self ≡ true = past_31 _ _ c.is_sound.ensures c.if-not-is_sound.false in
     answers _ _ c.refuse-then-self-ne0.ensures (turn_busy _ ok c.if-self-ne0.true)
 
-pub pick-pick-requires : goal.pick-pick-requires
-pick-pick-requires c =
-    let session : Session = c.args.self in
-    let ok : sound c.args.self ≡ true = past_31 _ _ c.is_sound.ensures c.if-not-is_sound.false in
-    let idle : Idle session = record { ok = ok; rests = c.if-self-ne0.false } in
-    idle.ok
+-- past 31 and 10
+idle : (c : Else-self-ne0) → Idle c.args.self
+idle c = record { ok = past_31 _ _ c.is_sound.ensures c.if-not-is_sound.false; rests = c.if-self-ne0.false }
 
+pub pick-requires : goal.pick-requires
+pick-requires c = (idle (goal.at.pick-requires c).Else-self-ne0).ok
+
+-- a. some slot is filled
 pub send-requires : goal.send-requires
 send-requires c =
-    let session : Session = c.args.self in
-    let ok : sound c.args.self ≡ true = past_31 _ _ c.is_sound.ensures c.if-not-is_sound.false in
-    let idle : Idle session = record { ok = ok; rests = c.if-self-ne0.false } in
-    let sends : let pick = c.pick-pick.result in verdict session Call.Turn ≡ send pick.stream pick.index = let pick = c.pick-pick.ensures in turn_sends idle _ _ pick.1 (pick.2 c.if-filled.true) (sym pick.0 ∙ c.if-filled.true) in
-    record { ok = idle.ok; call = _; is = sends }
+    let i = idle (goal.at.send-requires c).Else-self-ne0 in
+    record { ok = i.ok; call = _; is = turn_sends i _ (sym c.pick.ensures ∙ c.in-Some.is) }
 
-pub returns-then-filled : goal.returns-then-filled
-returns-then-filled c =
-    let session : Session = c.args.self in
-    let ok : sound c.args.self ≡ true = past_31 _ _ c.is_sound.ensures c.if-not-is_sound.false in
-    let idle : Idle session = record { ok = ok; rests = c.if-self-ne0.false } in
-    let sends : let pick = c.pick-pick.result in verdict session Call.Turn ≡ send pick.stream pick.index = let pick = c.pick-pick.ensures in turn_sends idle _ _ pick.1 (pick.2 c.if-filled.true) (sym pick.0 ∙ c.if-filled.true) in
-    answers _ _ c.send.ensures sends
+pub returns-in-Some : goal.returns-in-Some
+returns-in-Some c =
+    let i = idle (goal.at.returns-in-Some c).Else-self-ne0 in
+    answers _ _ c.send.ensures (turn_sends i _ (sym c.pick.ensures ∙ c.in-Some.is))
 
+-- b. no stream has a slot
 pub survey-seen-requires : goal.survey-seen-requires
-survey-seen-requires c =
-    let session : Session = c.args.self in
-    let ok : sound c.args.self ≡ true = past_31 _ _ c.is_sound.ensures c.if-not-is_sound.false in
-    let idle : Idle session = record { ok = ok; rests = c.if-self-ne0.false } in
-    idle.ok
+survey-seen-requires c = (idle (goal.at.survey-seen-requires c).Else-self-ne0).ok
+
+unfilled : (c : After-survey-seen) → Unfilled c.args.self c.survey-seen.result
+unfilled c =
+    let i : Idle c.args.self = record { ok = past_31 _ _ c.is_sound.ensures c.if-not-is_sound.false; rests = c.if-self-ne0.false } in
+    record { idle = i; none = turn_unfilled i (sym c.pick.ensures ∙ c.in_default.is); seen = c.survey-seen.ensures }
 
 pub returns-then-seen : goal.returns-then-seen
 returns-then-seen c =
-    let session : Session = c.args.self in
-    let ok : sound c.args.self ≡ true = past_31 _ _ c.is_sound.ensures c.if-not-is_sound.false in
-    let idle : Idle session = record { ok = ok; rests = c.if-self-ne0.false } in
-    let unfilled : Unfilled session c.survey-seen.result = record { idle = idle; none = sym c.pick-pick.ensures.0 ∙ c.if-filled.false; seen = c.survey-seen.ensures } in
-    answers _ _ c.refuse-then-seen.ensures (turn_ends unfilled c.if-not-seen.true c.if-seen.true)
+    answers _ _ c.refuse-then-seen.ensures (turn_ends (unfilled (goal.at.returns-then-seen c).After-survey-seen) c.in_default-expiring.is c.if-seen.true)
 
 pub move_on-requires : goal.move_on-requires
 move_on-requires c =
-    let session : Session = c.args.self in
-    let ok : sound c.args.self ≡ true = past_31 _ _ c.is_sound.ensures c.if-not-is_sound.false in
-    let idle : Idle session = record { ok = ok; rests = c.if-self-ne0.false } in
-    let unfilled : Unfilled session c.survey-seen.result = record { idle = idle; none = sym c.pick-pick.ensures.0 ∙ c.if-filled.false; seen = c.survey-seen.ensures } in
-    let moves : verdict session Call.Turn ≡ move = turn_moves unfilled c.if-not-seen.true c.if-seen.false in
-    record { ok = unfilled.idle.ok; call = _; is = moves }
+    let u = unfilled (goal.at.move_on-requires c).After-survey-seen in
+    record { ok = u.idle.ok; call = _; is = turn_moves u c.in_default-expiring.is c.if-seen.false }
 
-pub returns-then-not-seen : goal.returns-then-not-seen
-returns-then-not-seen c =
-    let session : Session = c.args.self in
-    let ok : sound c.args.self ≡ true = past_31 _ _ c.is_sound.ensures c.if-not-is_sound.false in
-    let idle : Idle session = record { ok = ok; rests = c.if-self-ne0.false } in
-    let unfilled : Unfilled session c.survey-seen.result = record { idle = idle; none = sym c.pick-pick.ensures.0 ∙ c.if-filled.false; seen = c.survey-seen.ensures } in
-    let moves : verdict session Call.Turn ≡ move = turn_moves unfilled c.if-not-seen.true c.if-seen.false in
-    answers _ _ c.move_on.ensures moves
+pub returns-in_default-expiring : goal.returns-in_default-expiring
+returns-in_default-expiring c =
+    answers _ _ c.move_on.ensures (turn_moves (unfilled (goal.at.returns-in_default-expiring c).After-survey-seen) c.in_default-expiring.is c.if-seen.false)
 
 -- c. and d. only empty slots
 pub latest-until-requires : goal.latest-until-requires
-latest-until-requires c =
-    let session : Session = c.args.self in
-    let ok : sound c.args.self ≡ true = past_31 _ _ c.is_sound.ensures c.if-not-is_sound.false in
-    let idle : Idle session = record { ok = ok; rests = c.if-self-ne0.false } in
-    let unfilled : Unfilled session c.survey-seen.result = record { idle = idle; none = sym c.pick-pick.ensures.0 ∙ c.if-filled.false; seen = c.survey-seen.ensures } in
-    unfilled.idle.ok
+latest-until-requires c = (unfilled (goal.at.latest-until-requires c).After-survey-seen).idle.ok
 
 pub wait-requires : goal.wait-requires
 wait-requires c = c.latest-until.ensures
 
-pub returns-then-is_after : goal.returns-then-is_after
-returns-then-is_after c =
-    let session : Session = c.args.self in
-    let ok : sound c.args.self ≡ true = past_31 _ _ c.is_sound.ensures c.if-not-is_sound.false in
-    let idle : Idle session = record { ok = ok; rests = c.if-self-ne0.false } in
-    let unfilled : Unfilled session c.survey-seen.result = record { idle = idle; none = sym c.pick-pick.ensures.0 ∙ c.if-filled.false; seen = c.survey-seen.ensures } in
-    answers _ _ c.wait.ensures (turn_waits unfilled c.if-not-seen.false _ c.latest-until.ensures c.is_after.ensures c.if-is_after.true)
+early : (c : After-lt) → c.lt.result ≡ ltb c.args.self.clock.0 c.latest-until.result.0
+early c = search rules
+
+pub returns-then-lt : goal.returns-then-lt
+returns-then-lt c =
+    let at = goal.at.returns-then-lt c in
+    answers _ _ c.wait.ensures (turn_waits (unfilled at.After-survey-seen) _ c.in-Some-expiring.is _ c.latest-until.ensures (early at.After-lt) c.if-lt.true)
 
 pub expire-requires : goal.expire-requires
 expire-requires c =
-    let session : Session = c.args.self in
-    let ok : sound c.args.self ≡ true = past_31 _ _ c.is_sound.ensures c.if-not-is_sound.false in
-    let idle : Idle session = record { ok = ok; rests = c.if-self-ne0.false } in
-    let unfilled : Unfilled session c.survey-seen.result = record { idle = idle; none = sym c.pick-pick.ensures.0 ∙ c.if-filled.false; seen = c.survey-seen.ensures } in
-    let lapses : verdict session Call.Turn ≡ expire c.survey-seen.result.expiring = turn_expires unfilled c.if-not-seen.false _ c.latest-until.ensures c.is_after.ensures c.if-is_after.false in
-    record { ok = unfilled.idle.ok; call = _; is = lapses }
+    let at = goal.at.expire-requires c in
+    let u = unfilled at.After-survey-seen in
+    record { ok = u.idle.ok; call = _; is = turn_expires u _ c.in-Some-expiring.is _ c.latest-until.ensures (early at.After-lt) c.if-lt.false }
 
 pub returns : goal.returns
 returns c =
-    let session : Session = c.args.self in
-    let ok : sound c.args.self ≡ true = past_31 _ _ c.is_sound.ensures c.if-not-is_sound.false in
-    let idle : Idle session = record { ok = ok; rests = c.if-self-ne0.false } in
-    let unfilled : Unfilled session c.survey-seen.result = record { idle = idle; none = sym c.pick-pick.ensures.0 ∙ c.if-filled.false; seen = c.survey-seen.ensures } in
-    let lapses : verdict session Call.Turn ≡ expire c.survey-seen.result.expiring = turn_expires unfilled c.if-not-seen.false _ c.latest-until.ensures c.is_after.ensures c.if-is_after.false in
-    answers _ _ c.expire.ensures lapses
+    let at = goal.at.returns c in
+    answers _ _ c.expire.ensures (turn_expires (unfilled at.After-survey-seen) _ c.in-Some-expiring.is _ c.latest-until.ensures (early at.After-lt) c.if-lt.false)

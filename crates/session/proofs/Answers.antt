@@ -12,7 +12,7 @@ use Rattle.time.specs.Time.{session_end, duration_max, moment}
 use Rattle.stream.specs.Stream.{queue_max, filled}
 use Rattle.session.specs.Session.{stream_at, slots_at, filled_at, some_filled, no_slot, latest, sound}
 use Rattle.stream.specs.Choice.{first_best}
-use Rattle.session.specs.Choice.{sent_before, chosen, expiring}
+use Rattle.session.specs.Choice.{sent_before, expiring}
 use Rattle.session.specs.Calls.{Verdict, refuse, append, send, move, wait, expire, finish, set_clock, no_such_stream, busy, move_passes_end, call_refusal, refusal, turn_effect, effect, ruled, verdict, apply, outcome, answer_to}
 use Rattle.session.specs.Inner.{pick_of, survey_of}
 use Rattle.session.proofs.Options.{some_if, none_if}

@@ -2,7 +2,7 @@
 use mathlib.Core.Bool.{Bool, true, false, ◌&&◌, false≢true}
 use mathlib.Core.Path.{◌≡◌, refl, sym, ap, subst, ◌∙◌}
 use mathlib.Core.Logic.{⊎_elim}
-use Prim.Native.Nat.{ℕ, zero, suc, ◌+◌, ◌*◌, ◌/◌, ◌≤◌, ◌<◌}
+use Prim.Native.Nat.{ℕ, zero, suc, ◌*◌, ◌/◌, ◌≤◌, ◌<◌}
 use native.Mathlib.Numerals.{add-one}
 use native.Mathlib.Omega.{arith}
 use native.Mathlib.Nat.{mul-le-mul}
@@ -13,12 +13,13 @@ use Rattle.std.proofs.Common.{Option, Some, None}
 use Rattle.table.specs.Fold.{sum_to, smallest_to}
 use Rattle.table.specs.Refusal.{given, ◌or_next◌}
 use Rattle.table.specs.Admission.{period_at, share_of, share_at, stream_refusal_at, numbers_refusal, stream_refusal, streams_refusal, shares_of, smallest_period, load_of, admission_of}
+use Rattle.table.specs.declared.numbers.Numbers.{Numbers}
 use Rattle.table.specs.Whole.{eq_z}
 use Rattle.table.specs.Margin.{less_load, margin_of}
 use Rattle.table.proofs.Tests.{both, or_next_none, le_or_lt}
 use Rattle.table.proofs.Folds.{at_or_below, first_none, first_all, sum_agree, sum_high, smallest_agree, smallest_is}
 use Rattle.table.proofs.Whole.{same_is, is_same}
-use Rattle.table.proofs.Judged.{Numbers, numbers_of, FitsIn, share_high, admits_of}
+use Rattle.table.proofs.Judged.{Numbers as InRange, numbers_of, FitsIn, share_high, admits_of}
 use Rattle.time.specs.Time.{moment}
 use Rattle.time.specs.Latest.{remainders}
 use Rattle.stream.specs.Bounds.{Bounded}
@@ -29,7 +30,7 @@ use Rattle.stream.specs.declared.Stream.{Stream}
 use Rattle.time.specs.declared.remainders.Remainders.{Remainders}
 use Rattle.stream.specs.declared.sums.Sums.{Sums}
 use Rattle.stream.specs.declared.census.Census.{Census}
-use Rattle.session.specs.Inner.{counted_on, census_to}
+use Rattle.session.specs.Inner.{numbers_kept, counted_on, census_to}
 use Rattle.session.specs.declared.Session.{Session}
 use Rattle.session.proofs.Options.{some_if, none_if}
 use Rattle.stream.proofs.Orderly.{InOrder, of_order, order_none, order_fits, order_cells, order_share, order_bounded}
@@ -89,19 +90,15 @@ module _ (s : Session) where
 
   -- the census has the table's numbers
   pub record CountedTo (c : Census) (n : ℕ) : Type 0 where
-    pub worst : c.worst ≡ s.worst
-    pub span : c.span ≡ s.span
-    pub padding : c.padding ≡ s.padding
+    pub numbers : c.numbers ≡ numbers_kept s
     pub horizon : c.horizon ≡ s.horizon
     pub passed : Numbered c.soonest c.sums c.shares c.least n
 
-  counted_none : numbers_refusal (table_of s) ≡ 0 → CountedTo (first_census s.worst s.span s.padding s.horizon (stream_at s 0)) 0
+  counted_none : numbers_refusal (table_of s) ≡ 0 → CountedTo (first_census (numbers_kept s) s.horizon (stream_at s 0)) 0
   unfolding smallest_to sum_to
   counted_none none =
       record {
-        worst = refl;
-        span = refl;
-        padding = refl;
+        numbers = refl;
         horizon = refl;
         passed =
             record {
@@ -115,25 +112,23 @@ module _ (s : Session) where
       }
 
   -- by the census it is in order as it is by the session
-  here_is : (c : Census) (n : ℕ) → CountedTo c n → in_order c.worst c.span c.padding c.horizon.0 (stream_at s n) ≡ in_order_at n
-  here_is c n m = rw (m.worst, m.span, m.padding, m.horizon)
+  here_is : (c : Census) (n : ℕ) → CountedTo c n → in_order c.numbers.worst c.numbers.span c.numbers.padding c.horizon.0 (stream_at s n) ≡ in_order_at n
+  here_is c n m = rw (m.numbers, m.horizon)
 
   counted_more : (c : Census) (n : ℕ) → CountedTo c n → in_order_at n ≡ true → CountedTo (next_census c (stream_at s n)) (suc n)
   unfolding smallest_to sum_to
   counted_more c n m good =
       let p = m.passed in
       record {
-        worst = m.worst;
-        span = m.span;
-        padding = m.padding;
+        numbers = m.numbers;
         horizon = m.horizon;
         passed =
             record {
               numbers = p.numbers;
               each = λ i below. at_or_below (λ j. in_order_at j ≡ true) i below good (λ u. p.each i u);
               soonest_is = rw p.soonest_is;
-              sums_are = subst (λ (k : ℕ). summed c.sums (stream_at s n) c.span c.horizon.0 ≡ sums_to s s.horizon.0 k) (add-one n) (sums_more s s.horizon.0 n c.sums _ p.sums_are (rw (m.span, m.horizon)));
-              shares = rw (p.shares, m.span);
+              sums_are = subst (λ (k : ℕ). summed c.sums (stream_at s n) c.numbers.span c.horizon.0 ≡ sums_to s s.horizon.0 k) (add-one n) (sums_more s s.horizon.0 n c.sums _ p.sums_are (rw (m.numbers, m.horizon)));
+              shares = rw (p.shares, m.numbers);
               least = rw p.least;
             };
       }
@@ -150,7 +145,7 @@ module _ (s : Session) where
       go None before e = cc
       go (Some d) before e =
           let m = before d refl in
-          let goes_on = some_if (in_order d.worst d.span d.padding d.horizon.0 (stream_at s n)) e in
+          let goes_on = some_if (in_order d.numbers.worst d.numbers.span d.numbers.padding d.horizon.0 (stream_at s n)) e in
           subst (λ (d : Census). CountedTo d (suc n)) goes_on.1 (counted_more d n m (sym (here_is d n m) ∙ goes_on.0))
 
   -- its streams are few where anything is kept
@@ -177,7 +172,7 @@ module _ (s : Session) where
       go None before fails e = fails refl
       go (Some d) before fails e =
           let m = before d refl in
-          false≢true (sym (none_if (in_order d.worst d.span d.padding d.horizon.0 (stream_at s n)) _ e) ∙ here_is d n m ∙ in_order_lem q n le)
+          false≢true (sym (none_if (in_order d.numbers.worst d.numbers.span d.numbers.padding d.horizon.0 (stream_at s n)) _ e) ∙ here_is d n m ∙ in_order_lem q n le)
 
   -- the numbers of a census all of whose streams are in order are small
   pub countable : (c : Census) (n : ℕ) → n ≤ s.count → CountedTo c n → Countable c
@@ -188,9 +183,9 @@ module _ (s : Session) where
       let bounds : (i : ℕ) → i < n → Bounded s.worst s.horizon.0 (stream_at s i) =
       λ i l. order_bounded s.worst s.span s.padding s.horizon.0 (stream_at s i) (p.each i l) numbers.worst_low numbers.worst_high in
       record {
-        worst_low = rw m.worst numbers.worst_low;
-        worst_high = rw m.worst numbers.worst_high;
-        span_high = rw m.span numbers.span_high;
+        worst_low = rw m.numbers numbers.worst_low;
+        worst_high = rw m.numbers numbers.worst_high;
+        span_high = rw m.numbers numbers.span_high;
         summable = rw p.sums_are (can_sum s s.horizon.0 n bounds (omega (arith, le, numbers.count_high)) numbers.span_high);
         shares_high = rw p.shares (omega (arith, high, numbers.count_high, numbers.span_high, mul-le-mul le numbers.span_high));
       }
@@ -199,7 +194,7 @@ module _ (s : Session) where
     abbrev p : Numbered c.soonest c.sums c.shares c.least s.count
     p = m.passed
 
-    abbrev numbers_in : Numbers (table_of s)
+    abbrev numbers_in : InRange (table_of s)
     numbers_in = numbers_of (table_of s) p.numbers
 
     load_is : load_of (table_of s) ≡ load_so c
@@ -207,25 +202,25 @@ module _ (s : Session) where
     load_is =
         let shares = sum_agree (share_at (table_of s)) share_in s.count (λ i l. rw (reserved_is i, period_is i) (sym (share_in_lem i (p.each i l)))) in
         let least = smallest_agree (period_at (table_of s)) (λ i. (stream_at s i).period) s.count numbers_in.count_low (λ i l. period_is i) in
-        rw (shares, least, p.shares, p.least, m.worst, m.span)
+        rw (shares, least, p.shares, p.least, m.numbers)
 
-    margin_counted : margin_of (table_of s) ≡ less_load c.span (load_so c)
+    margin_counted : margin_of (table_of s) ≡ less_load c.numbers.span (load_so c)
     unfolding margin_of
-    margin_counted = rw (load_is, m.span)
+    margin_counted = rw (load_is, m.numbers)
 
     soonest_is : c.soonest ≡ moment (horizon s)
     unfolding horizon
     soonest_is = p.soonest_is
 
     -- where the horizon is the smallest deadline, the sum counted is that of the remainders
-    sum_counted : s.horizon ≡ moment (horizon s) → remainders_so c.sums c.span ≡ remainders_of s
-    sum_counted is = rw (p.sums_are, m.span) (ap (λ (h : Clock). remainders_so (sums_to s h.0 s.count) s.span) is ∙ sym (remainders_split s))
+    sum_counted : s.horizon ≡ moment (horizon s) → remainders_so c.sums c.numbers.span ≡ remainders_of s
+    sum_counted is = rw (p.sums_are, m.numbers) (ap (λ (h : Clock). remainders_so (sums_to s h.0 s.count) s.span) is ∙ sym (remainders_split s))
 
-    admitted_of : load_so c ≤ c.span → admission_of (table_of s) ≡ 0
+    admitted_of : load_so c ≤ c.numbers.span → admission_of (table_of s) ≡ 0
     unfolding admission_of streams_refusal given ◌or_next◌
     admitted_of fits =
         let streams = first_all (stream_refusal_at (table_of s)) s.count (λ i l. rw (reserved_is i, period_is i) (at_none i (p.each i l))) in
-        rw (p.numbers, streams, load_is, le-ltb s.span (load_so c) (rw (sym m.span) fits))
+        rw (p.numbers, streams, load_is, le-ltb s.span (load_so c) (rw (ap (λ (n : Numbers). n.span) (sym m.numbers)) fits))
 
     each_of : s.horizon ≡ moment (horizon s) → (i : ℕ) → i < s.count → InOrder s.worst s.padding (horizon s) (stream_at s i)
     each_of is i l =
@@ -245,11 +240,11 @@ module _ (s : Session) where
     pub says_used : says c s.margin.0 s.remainders.0 ≡ true → Used s × Ahead s
     unfolding says
     says_used t =
-        let kept = eq_z s.margin.0 (less_load c.span (load_so c)) in
+        let kept = eq_z s.margin.0 (less_load c.numbers.span (load_so c)) in
         let soonest = eqb c.horizon.0 c.soonest.0 in
-        let a = both (leb (load_so c) c.span && kept && soonest) (eq_z s.remainders.0 (remainders_so c.sums c.span)) t in
-        let b = both (leb (load_so c) c.span && kept) soonest a.0 in
-        let d = both (leb (load_so c) c.span) kept b.0 in
+        let a = both (leb (load_so c) c.numbers.span && kept && soonest) (eq_z s.remainders.0 (remainders_so c.sums c.numbers.span)) t in
+        let b = both (leb (load_so c) c.numbers.span && kept) soonest a.0 in
+        let d = both (leb (load_so c) c.numbers.span) kept b.0 in
         let is : s.horizon ≡ moment (horizon s) = sym m.horizon ∙ ap moment (eqb-true _ _ b.1) ∙ soonest_is in (
           record { admitted = admitted_of (leb-true _ _ d.0); margin_is = same_is _ _ d.1 ∙ sym margin_counted; each = each_of is },
           record { horizon_is = is; remainders_is = ap remainders (same_is _ _ a.1 ∙ sum_counted is) },
@@ -258,8 +253,8 @@ module _ (s : Session) where
     pub used_says : Used s → Ahead s → says c s.margin.0 s.remainders.0 ≡ true
     unfolding says
     used_says q ahead =
-        let fits : load_so c ≤ c.span = rw (sym load_is, m.span) (admits_of (table_of s) q.admitted).fits in
+        let fits : load_so c ≤ c.numbers.span = rw (sym load_is, m.numbers) (admits_of (table_of s) q.admitted).fits in
         let is = ahead.horizon_is in
         let soonest : c.horizon.0 ≡ c.soonest.0 = ap (λ (h : Clock). h.0) (m.horizon ∙ is ∙ sym soonest_is) in
-        let summed : s.remainders.0 ≡ remainders_so c.sums c.span = ap (λ (r : Remainders). r.0) ahead.remainders_is ∙ sym (sum_counted is) in
+        let summed : s.remainders.0 ≡ remainders_so c.sums c.numbers.span = ap (λ (r : Remainders). r.0) ahead.remainders_is ∙ sym (sum_counted is) in
         rw (le-leb _ _ fits, is_same _ _ (q.margin_is ∙ margin_counted), eq-eqb _ _ soonest, is_same _ _ summed)

@@ -1,13 +1,12 @@
 -- The search for the stream that loses a slot: what it has found below a count, and one stream further.
-use mathlib.Core.Bool.{Bool, true, false, ◌&&◌, or-true, or-false}
+use mathlib.Core.Bool.{Bool, true, false, ◌&&◌, or-false}
 use mathlib.Core.Path.{◌≡◌, refl}
-use Prim.Native.Nat.{ℕ, zero, suc, ◌≤◌, ◌<◌}
-use native.Mathlib.Omega.{arith}
+use Prim.Native.Nat.{ℕ, suc}
 use Rattle.std.proofs.Common.{Option, Some, None}
 use Rattle.table.specs.Fold.{if, some_to}
 use Rattle.stream.specs.Choice.{first_best}
 use Rattle.stream.specs.Search.{goes_first}
-use Rattle.stream.proofs.Best.{best_low, best_skips, best_starts, best_next}
+use Rattle.stream.proofs.Best.{best_skips, best_starts, best_next}
 
 -- a choice of the stream is one of the whole
 whole : (b : Bool) (m n : ℕ) → Some (if b m n) ≡ (if b (Some m) (Some n))

@@ -1,6 +1,6 @@
 -- The latest safe moment is rounded down once, and nothing is cut off before; asking gives it; the horizon lies between release and deadline.
-use mathlib.Core.Bool.{Bool, true, false, false≢true}
-use mathlib.Core.Path.{◌≡◌, sym, ap, ap₂, ◌∙◌}
+use mathlib.Core.Bool.{true}
+use mathlib.Core.Path.{◌≡◌, ap, ap₂, ◌∙◌}
 use Prim.Native.Nat.{ℕ, ◌+◌, ◌-◌, ◌*◌, ◌/◌, ◌≤◌, ◌<◌}
 use native.Mathlib.Nat.{div-add-mod', div-mul-le_self, lt-div-mul-add}
 use native.Mathlib.Omega.{arith}
@@ -9,7 +9,7 @@ use Rattle.time.specs.Time.{moment}
 use Rattle.time.specs.Latest.{remainders, latest_of}
 use Rattle.time.specs.declared.Clock.{Clock}
 use Rattle.time.specs.declared.remainders.Remainders.{Remainders}
-use Rattle.std.proofs.Common.{Option, Some, None}
+use Rattle.std.proofs.Common.{Some}
 use Rattle.time.proofs.Asking.{of_sums}
 use Rattle.session.specs.declared.Session.{Session}
 use Rattle.session.specs.Session.{stream_at, horizon, scaled_part, latest, asked, sound}

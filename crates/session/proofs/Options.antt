@@ -1,7 +1,7 @@
 -- What a test hands out: it is there exactly where the test passes.
 use mathlib.Core.Bool.{Bool, true, false}
 use mathlib.Core.Path.{◌≡◌, refl}
-use Rattle.std.proofs.Common.{Option, Some, None}
+use Rattle.std.proofs.Common.{Some, None}
 use Rattle.table.specs.Fold.{if}
 
 pub some_if : {A : Type 0} (b : Bool) {x y : A} → (if b (Some x) None) ≡ Some y → (b ≡ true) × (x ≡ y)

@@ -1,14 +1,13 @@
 -- The search for the request to send, step by step.
-use mathlib.Core.Bool.{Bool, true, false, ◌&&◌, ◌||◌, or-true, or-false}
+use mathlib.Core.Bool.{Bool, true, false, or-false}
 use mathlib.Core.Path.{◌≡◌, refl, sym, ap, ◌∙◌}
-use Prim.Native.Nat.{ℕ, zero, suc, ◌+◌, ◌≤◌}
+use Prim.Native.Nat.{ℕ, zero, suc, ◌+◌}
 use native.Mathlib.Numerals.{add-one}
 use native.Mathlib.Omega.{arith}
-use lib.Dec.{leb, ltb, eqb}
+use lib.Dec.{leb}
 use borrow.Author.Tests.{eq-eqb, ne_eqb, le-leb, lt-leb}
 use Rattle.std.proofs.Common.{Option, Some, None}
 use Rattle.table.specs.Fold.{if, some_to}
-use Rattle.time.specs.Time.{moment}
 use Rattle.session.specs.Session.{stream_at, horizon, filled_at, some_filled, sound}
 use Rattle.stream.specs.Choice.{first_best}
 use Rattle.session.specs.Choice.{taken_before, sent_before, chosen}

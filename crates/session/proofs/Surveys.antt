@@ -1,17 +1,15 @@
 -- The one pass over the streams where no slot is filled: what it has found among those passed.
-use mathlib.Core.Bool.{Bool, true, false, not, ◌&&◌, ◌||◌, false≢true}
+use mathlib.Core.Bool.{Bool, true, false, ◌||◌, false≢true}
 use mathlib.Core.Path.{◌≡◌, refl, sym, ap, ◌∙◌}
-use Prim.Native.Nat.{ℕ, suc, ◌+◌, ◌≤◌, ◌<◌}
+use Prim.Native.Nat.{ℕ, ◌+◌, ◌≤◌, ◌<◌}
 use native.Mathlib.Numerals.{add-one}
 use native.Mathlib.Omega.{arith}
-use lib.Dec.{leb, eqb}
+use lib.Dec.{leb}
 use Rattle.std.proofs.Common.{Option, Some, None}
-use Rattle.table.specs.Fold.{if, some_to, all_to}
+use Rattle.table.specs.Fold.{if, some_to}
 use Rattle.table.proofs.Folds.{some_not_all}
-use Rattle.time.specs.Time.{session_end, moment}
-use Rattle.stream.specs.Stream.{slots, closes_past_end}
-use Rattle.stream.specs.Bounds.{Bounded}
-use Rattle.stream.specs.Choice.{first_best}
+use Rattle.time.specs.Time.{moment}
+use Rattle.stream.specs.Stream.{closes_past_end}
 use Rattle.stream.specs.Search.{lapsing}
 use Rattle.stream.proofs.Best.{best_below}
 use Rattle.session.specs.Session.{stream_at, horizon, slots_at, no_slot, sound}
@@ -21,7 +19,7 @@ use Rattle.session.specs.Inner.{survey_of}
 use Rattle.session.specs.declared.Session.{Session}
 use Rattle.time.specs.declared.Clock.{Clock}
 use Rattle.session.proofs.Options.{some_if}
-use Rattle.session.proofs.Sound.{sound_of, bounded_by}
+use Rattle.session.proofs.Sound.{sound_of}
 use Rattle.session.proofs.Lapses.{lapse_to, lapse_more}
 
 -- of the streams below a count: the slot that would expire, and whether one would close its job past the end

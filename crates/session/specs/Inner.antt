@@ -1,6 +1,7 @@
 -- What the outlook and the inner functions answer, and what the inner ones ask of their callers. No rule stands here.
 use Rattle.std.specs.Prelude.{true, not, ◌≡◌, ℕ, zero, suc, ◌≤◌, ◌<◌, Option, Some, None}
 use Rattle.table.specs.Fold.{if}
+use Rattle.table.specs.declared.numbers.Numbers.{Numbers}
 use Rattle.table.specs.Ranges.{streams_max, span_max}
 use Rattle.time.specs.Time.{moment}
 use Rattle.stream.specs.Bounds.{Bounded}
@@ -32,6 +33,10 @@ pick_of s = if (some_filled s) (Some (request_at s (chosen s))) None
 abbrev pub survey_of : Session → Survey
 survey_of s = record { expiring = if (not (no_slot s)) (Some (expiring s)) None; beyond = move_passes_end s }
 
+-- W, H and k of a session
+abbrev pub numbers_kept : Session → Numbers
+numbers_kept s = record { worst = s.worst; span = s.span; padding = s.padding }
+
 -- a census with one more stream, if there is one
 abbrev pub counted_on : Option Census → Stream → Option Census
 counted_on None x = None
@@ -39,7 +44,7 @@ counted_on (Some c) x = counted c x
 
 -- what is kept of the first n streams of a session as they are judged, and of the used ones
 unfoldable pub census_to : Session → ℕ → Option Census
-census_to s zero = begun s.worst s.span s.padding s.count s.horizon (stream_at s 0)
+census_to s zero = begun (numbers_kept s) s.count s.horizon (stream_at s 0)
 census_to s (suc n) = counted_on (census_to s n) (stream_at s n)
 
 abbrev pub census_of : Session → Option Census

@@ -1,12 +1,12 @@
 -- A session: its streams, the horizon, the latest safe moment, and when it is sound.
-use Rattle.std.specs.Prelude.{Bool, ◌&&◌, ◌||◌, List, [], map, ℕ, ◌+◌, ◌-◌, ◌*◌, ◌/◌, length, get_or, set, leb, ltb, eqb, ℤ, pos, ◌-ℤ◌, Option}
+use Rattle.std.specs.Prelude.{Bool, ◌&&◌, ◌||◌, List, map, ℕ, ◌+◌, ◌-◌, ◌*◌, ◌/◌, length, get_or, set, leb, ltb, eqb, ℤ, pos, ◌-ℤ◌, Option}
 use Rattle.table.specs.Fold.{if, sum_to, smallest_to, all_to, some_to}
 use Rattle.table.specs.Ranges.{streams_max}
 use Rattle.table.specs.Admission.{admission_of}
 use Rattle.table.specs.Whole.{eq_z, signed_sum_to}
 use Rattle.table.specs.Margin.{margin_of}
 use Rattle.table.specs.declared.Table.{Table}
-use Rattle.time.specs.Time.{session_end, moment, disk_time}
+use Rattle.time.specs.Time.{session_end, moment}
 use Rattle.time.specs.Latest.{remainders, latest_of}
 pub use Rattle.stream.specs.Stream.{no_stream}
 use Rattle.stream.specs.Stream.{slots, filled, part_of, sound_stream, unused_stream, stream_in}

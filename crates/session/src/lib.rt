@@ -18,13 +18,14 @@ ghost use Rattle.table.specs.Fold.{list_to};
 ghost use Rattle.table.specs.Ranges.{streams_max};
 ghost use Rattle.table.specs.Admission.{admission_of};
 ghost use Rattle.table.specs.Margin.{margin_of};
+ghost use Rattle.session.specs.Inner.{numbers_kept};
 ghost use Rattle.session.specs.Opening.{opened_stream, fresh_session, zero_session, opening_of};
 
 use calls::Reply;
 use order::Order;
 pub use searches::Outlook;
 use stream::Stream;
-use table::{Admission, Margin, Table};
+use table::{Margin, Numbers, Refusal, Table};
 use time::{Charge, Clock, Remainders};
 
 // The first `count` of the eight streams are used. The margin is that of the table; the horizon is the smallest deadline, and the sum of all remainders is scaled by the span. `served` is the stream whose request is at the disk, counted from 1, with its place and its tag, or zeros; the tag stands with the other numbers of 32 bits, so that no byte is left between them.
@@ -52,10 +53,11 @@ pub struct Answer {
     pub reply: Reply,
 }
 
+// A session that was opened, and the margin of its table; or the refusal, beside the all-zero session.
 #[derive(Clone, Copy)]
 pub struct Opened {
     pub session: Session,
-    pub admission: Admission,
+    pub admission: Result<Margin, Refusal>,
 }
 
 impl Session {
@@ -64,33 +66,18 @@ impl Session {
         ensures { result ≡ opening_of table order }
     {
         let admission = table.admission();
-        match admission {
-            Admission::Admitted(margin) => {
-                let session = fresh(table, margin, order);
-                Opened {
-                    session: session,
-                    admission: admission,
-                }
-            }
-            Admission::Refused(_) | Admission::Over(_) => {
-                let session = Session::zero();
-                Opened {
-                    session: session,
-                    admission: admission,
-                }
-            }
-        }
+        let session = match admission {
+            Ok(margin) => fresh(table, margin, order),
+            Err(_) => Session::zero(),
+        };
+        Opened { session, admission }
     }
 
     // The all-zero session, which is not sound: it stands where none was made.
     pub fn zero() -> Session
         ensures { result ≡ zero_session }
     {
-        let unused = Stream::fresh(0, 0, 0);
-        let streams = [unused; Table::STREAMS_MAX];
         let start = Clock::at(0);
-        let margin = Margin::none();
-        let nothing = Remainders::default();
         Session {
             order: Order::Nearest,
             worst: 0,
@@ -98,14 +85,25 @@ impl Session {
             padding: 0,
             tag: 0,
             count: 0,
-            margin: margin,
+            margin: Margin::default(),
             horizon: start,
-            remainders: nothing,
+            remainders: Remainders::default(),
             clock: start,
             head: 0,
             served: 0,
             place: 0,
-            streams: streams,
+            streams: [Stream::fresh(0, 0, 0); Table::STREAMS_MAX],
+        }
+    }
+
+    // W, H and k.
+    pub(crate) fn numbers(&self) -> Numbers
+        ensures { result ≡ numbers_kept self.now }
+    {
+        Numbers {
+            worst: self.worst,
+            span: self.span,
+            padding: self.padding,
         }
     }
 }
@@ -115,24 +113,22 @@ fn fresh(t: Table, margin: Margin, order: Order) -> Session
     requires { (admission_of t ≡ 0) × (margin.0 ≡ margin_of t) }
     ensures { result ≡ fresh_session t order }
 {
-    let streams = opened_streams(t);
     let start = Clock::at(0);
-    let nothing = Remainders::default();
     let mut session = Session {
-        order: order,
+        order,
         worst: t.worst,
         span: t.span,
         padding: t.padding,
         tag: 0,
         count: t.count,
-        margin: margin,
+        margin,
         horizon: start,
-        remainders: nothing,
+        remainders: Remainders::default(),
         clock: start,
         head: 0,
         served: 0,
         place: 0,
-        streams: streams,
+        streams: opened_streams(t),
     };
     let h = session.soonest();
     let load = t.span as u64 - margin.left();
@@ -161,9 +157,7 @@ fn opened_stream(t: Table, i: usize) -> Stream
     requires { (i < t.count) × (t.count ≤ streams_max) }
     ensures { result ≡ opened_stream t i }
 {
-    let reserved = t.reserved;
-    let period = t.period;
-    let e = reserved[i];
-    let budget = table::granted(t.worst, t.padding, e);
-    Stream::fresh(e, period[i], budget)
+    let booked = t.reservation(i);
+    let budget = t.numbers().granted(booked.reserved);
+    Stream::fresh(booked.reserved, booked.period, budget)
 }

@@ -32,14 +32,7 @@ impl Session {
         ensures { result ≡ census_of self.now }
     {
         let first = &self.streams[0];
-        let mut census = Census::begin(
-            self.worst,
-            self.span,
-            self.padding,
-            self.count,
-            self.horizon,
-            first,
-        )?;
+        let mut census = Census::begin(self.numbers(), self.count, self.horizon, first)?;
         for x in &self.streams[..self.count] {
             census = census.with(x)?;
         }

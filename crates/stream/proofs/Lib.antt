@@ -8,3 +8,4 @@ pub mod Best
 pub mod Ranks
 pub mod First
 pub mod Leading
+pub mod Refused

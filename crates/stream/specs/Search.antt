@@ -1,8 +1,10 @@
 -- What the code's searches keep of the streams passed so far. No rule stands here: a reader of the rules may pass this file over.
-use Rattle.std.specs.Prelude.{Bool, true, ◌&&◌, ◌||◌, List, ℕ, ◌+◌, ◌*◌, ◌/◌, ◌≤◌, ◌<◌, min, get_or, replicate, leb, ltb, eqb, ℤ, pos, ◌-ℤ◌, Option, None, Some}
+use Rattle.std.specs.Prelude.{Bool, true, ◌&&◌, ◌||◌, List, ℕ, ◌+◌, ◌*◌, ◌/◌, ◌≤◌, ◌<◌, min, get_or, leb, ltb, eqb, ℤ, pos, ◌-ℤ◌, Option, None, Some}
 use Rattle.table.specs.Fold.{if}
 use Rattle.table.specs.Ranges.{streams_max, worst_max, span_max}
-use Rattle.table.specs.Admission.{numbers_refusal, stream_refusal}
+use Rattle.table.specs.Refusal.{given, ◌or_next◌, outside}
+use Rattle.table.specs.Admission.{ranges_refusal, stream_refusal}
+use Rattle.table.specs.declared.numbers.Numbers.{Numbers}
 use Rattle.table.specs.Whole.{eq_z}
 use Rattle.table.specs.Margin.{less_load}
 use Rattle.time.specs.Time.{moment, disk_time, parts_max}
@@ -43,12 +45,10 @@ pub record Summable (sums : Sums) : Type 0 where
   pub parts_high : sums.parts ≤ parts_max
 
 -- what is kept of a session's streams as it is judged: before the first used stream, and with one more
-abbrev pub first_census : ℕ → ℕ → ℕ → Clock → Stream → Census
-first_census worst span k h first =
+abbrev pub first_census : Numbers → Clock → Stream → Census
+first_census numbers h first =
     record {
-      worst = worst;
-      span = span;
-      padding = k;
+      numbers = numbers;
       horizon = h;
       soonest = first.deadline;
       sums = nothing_summed;
@@ -59,47 +59,45 @@ first_census worst span k h first =
 abbrev pub next_census : Census → Stream → Census
 next_census c x =
     record {
-      worst = c.worst;
-      span = c.span;
-      padding = c.padding;
+      numbers = c.numbers;
       horizon = c.horizon;
       soonest = moment (min c.soonest.0 x.deadline.0);
-      sums = summed c.sums x c.span c.horizon.0;
-      shares = c.shares + x.granted.0 * (c.span / x.period);
+      sums = summed c.sums x c.numbers.span c.horizon.0;
+      shares = c.shares + x.granted.0 * (c.numbers.span / x.period);
       least = min c.least x.period;
     }
 
 -- nothing is kept where the numbers are refused, and where a stream is not in order
-unfoldable pub begun : ℕ → ℕ → ℕ → ℕ → Clock → Stream → Option Census
-begun worst span k count h first =
-    if (eqb (numbers_refusal (record { worst = worst; span = span; padding = k; count = count; reserved = replicate streams_max 0; period = replicate streams_max 0 })) 0)
-    (Some (first_census worst span k h first))
+unfoldable pub begun : Numbers → ℕ → Clock → Stream → Option Census
+begun numbers count h first =
+    if (eqb (given (outside 1 streams_max count) 1 or_next ranges_refusal numbers.worst numbers.span numbers.padding) 0)
+    (Some (first_census numbers h first))
     None
 
 unfoldable pub counted : Census → Stream → Option Census
-counted c x = if (in_order c.worst c.span c.padding c.horizon.0 x) (Some (next_census c x)) None
+counted c x = if (in_order c.numbers.worst c.numbers.span c.numbers.padding c.horizon.0 x) (Some (next_census c x)) None
 
 -- and neither does a sum of shares: eight of the span are far less
 abbrev pub shares_max : ℕ
 shares_max = 1_000_000_000_000
 
 pub record Countable (c : Census) : Type 0 where
-  pub worst_low : 0 < c.worst
-  pub worst_high : c.worst ≤ worst_max
-  pub span_high : c.span ≤ span_max
+  pub worst_low : 0 < c.numbers.worst
+  pub worst_high : c.numbers.worst ≤ worst_max
+  pub span_high : c.numbers.span ≤ span_max
   pub shares_high : c.shares ≤ shares_max
   pub summable : Summable c.sums
 
 -- what it says of the streams, and of the margin and the sum that a session keeps, once all are passed
 abbrev pub load_so : Census → ℕ
-load_so c = c.shares + c.worst * (c.span / c.least)
+load_so c = c.shares + c.numbers.worst * (c.numbers.span / c.least)
 
 unfoldable pub says : Census → ℤ → ℤ → Bool
 says c margin sum =
-    leb (load_so c) c.span
-    && eq_z margin (less_load c.span (load_so c))
+    leb (load_so c) c.numbers.span
+    && eq_z margin (less_load c.numbers.span (load_so c))
     && eqb c.horizon.0 c.soonest.0
-    && eq_z sum (remainders_so c.sums c.span)
+    && eq_z sum (remainders_so c.sums c.numbers.span)
 
 -- and with these it can say it
 pub record Judgeable (c : Census) : Type 0 where

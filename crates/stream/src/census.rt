@@ -3,15 +3,13 @@ ghost use Rattle.std.specs.Prelude.{◌≡◌, ◌<◌};
 ghost use Rattle.stream.specs.Search.{begun, counted, Countable, says, Judgeable};
 
 use crate::{Stream, Sums};
-use table::{Margin, Table};
+use table::{Margin, Numbers, Table};
 use time::{Clock, Remainders};
 
 // W, H, k and the horizon that the session keeps, and, of the used streams that were passed, the smallest deadline, the sums of charges and parts, the sum of the shares and the smallest period.
 #[derive(Clone, Copy)]
 pub struct Census {
-    pub worst: u32,
-    pub span: u32,
-    pub padding: u32,
+    pub numbers: Numbers,
     pub horizon: Clock,
     pub soonest: Clock,
     pub sums: Sums,
@@ -21,31 +19,14 @@ pub struct Census {
 
 impl Census {
     // Nothing passed yet, or none where the numbers are refused: the smallest deadline and period start with those of the first stream.
-    pub fn begin(
-        worst: u32,
-        span: u32,
-        padding: u32,
-        count: usize,
-        horizon: Clock,
-        first: &Stream,
-    ) -> Option<Census>
-        ensures { result ≡ begun worst span padding count horizon first.now }
+    pub fn begin(numbers: Numbers, count: usize, horizon: Clock, first: &Stream) -> Option<Census>
+        ensures { result ≡ begun numbers count horizon first.now }
     {
-        let table = Table {
-            worst,
-            span,
-            padding,
-            count,
-            reserved: [0u32; Table::STREAMS_MAX],
-            period: [0u32; Table::STREAMS_MAX],
-        };
-        if table::numbers_refusal(table) != 0 {
+        if (count < 1) | (Table::STREAMS_MAX < count) | numbers.ranges_refusal().is_err() {
             return None;
         }
         Some(Census {
-            worst,
-            span,
-            padding,
+            numbers,
             horizon,
             soonest: first.deadline,
             sums: Sums::none(),
@@ -59,14 +40,14 @@ impl Census {
         requires { Countable self }
         ensures { result ≡ counted self x.now }
     {
-        let h = self.horizon;
-        if !x.is_in_order(self.worst, self.span, self.padding, h) {
+        if !x.is_in_order(self.numbers, self.horizon) {
             return None;
         }
-        let share = x.granted.times((self.span / x.period) as u64);
+        let span = self.numbers.span;
+        let share = x.granted.times((span / x.period) as u64);
         Some(Census {
             soonest: self.soonest.min(x.deadline),
-            sums: self.sums.with(x, self.span, h),
+            sums: self.sums.with(x, span, self.horizon),
             shares: self.shares + share,
             least: self.least.min(x.period),
             ..self
@@ -78,14 +59,14 @@ impl Census {
         requires { Judgeable self }
         ensures { result ≡ says self margin.0 remainders.0 }
     {
-        let load = self.shares + self.worst as u64 * (self.span / self.least) as u64;
-        let span = self.span as u64;
-        if span < load {
+        let Numbers { worst, span, .. } = self.numbers;
+        let load = self.shares + worst as u64 * (span / self.least) as u64;
+        if (span as u64) < load {
             return false;
         }
-        let left = margin.is_left(span - load);
+        let left = margin.is_left(span as u64 - load);
         let soonest = self.horizon == self.soonest;
-        let summed = remainders == self.sums.remainders(self.span);
+        let summed = remainders == self.sums.remainders(span);
         left & soonest & summed
     }
 }

@@ -8,7 +8,6 @@ mod sums;
 
 ghost use Rattle.std.specs.Prelude.{◌≡◌, ◌-◌, ◌≤◌, ◌<◌};
 ghost use Rattle.stream.specs.Stream.{queue_max, slots, filled, sound_queue, sound_cells, zero_job, unused_stream, arrived, without, charged, lapsed, closed, moved, closes_past_end, fresh_stream};
-ghost use Rattle.table.specs.Fold.{closed_up};
 ghost use Rattle.table.specs.Ranges.{worst_max, period_max};
 ghost use Rattle.table.specs.Admission.{granted_of};
 ghost use Rattle.time.specs.Time.{session_end};
@@ -19,6 +18,7 @@ pub use census::Census;
 pub use choice::{Pick, consider};
 pub use expiry::better;
 pub use sums::Sums;
+use table::{Numbers, Reservation, closed_up};
 use time::{Charge, Clock};
 
 #[repr(C)]
@@ -49,18 +49,8 @@ pub struct Stream {
     pub last: Job,
 }
 
-// The rows of a queue: its places, and their tags.
-#[derive(Clone, Copy)]
-struct Rows {
-    places: [u64; Stream::QUEUE_MAX],
-    tags: [u32; Stream::QUEUE_MAX],
-}
-
 impl Stream {
     pub const QUEUE_MAX: usize = 16;
-
-    // The index of a queue's last cell.
-    const QUEUE_LAST: usize = Self::QUEUE_MAX - 1;
 
     // A stream at its first release: nothing queued, nothing charged, no job closed.
     pub fn fresh(reserved: u32, period: u32, granted: u64) -> Stream
@@ -68,30 +58,25 @@ impl Stream {
     {
         let start = Clock::at(0);
         let nothing = Charge::of(0);
-        let last = Job {
-            charge: nothing,
-            closed: start,
-            deadline: start,
-            expired: 0,
-            start: nothing,
-        };
-        let budget = Charge::of(granted);
-        let deadline = Clock::at(period as u64);
-        let places = [0u64; Stream::QUEUE_MAX];
-        let tags = [0u32; Stream::QUEUE_MAX];
         Stream {
             reserved,
             period,
-            granted: budget,
+            granted: Charge::of(granted),
             release: start,
-            deadline,
+            deadline: Clock::at(period as u64),
             charge: nothing,
             expired: 0,
             start: nothing,
             queued: 0,
-            places,
-            tags,
-            last,
+            places: [0; Stream::QUEUE_MAX],
+            tags: [0; Stream::QUEUE_MAX],
+            last: Job {
+                charge: nothing,
+                closed: start,
+                deadline: start,
+                expired: 0,
+                start: nothing,
+            },
         }
     }
 
@@ -115,30 +100,34 @@ impl Stream {
     }
 
     // Whether its cells are those of a stream in use, whatever the horizon.
-    pub(crate) fn is_sound(&self, worst: u32, k: u32) -> bool
-        requires { (0 < worst) × (worst ≤ worst_max) × (granted_of worst k self.now.reserved ≤ period_max) }
-        ensures { result ≡ sound_cells worst k self.now }
+    pub(crate) fn is_sound(&self, numbers: Numbers) -> bool
+        requires { (0 < numbers.worst) × (numbers.worst ≤ worst_max) × (granted_of numbers.worst numbers.padding self.now.reserved ≤ period_max) }
+        ensures { result ≡ sound_cells numbers.worst numbers.padding self.now }
     {
-        let budget = self.granted == Charge::of(table::granted(worst, k, self.reserved));
+        let budget = self.granted == Charge::of(numbers.granted(self.reserved));
         let due = self.deadline.is_later_by(self.release, self.period);
         let in_session = !self.deadline.is_past_end();
         let charge = self.charge.is_near(self.granted);
         if !(budget & due & in_session & charge) {
             return false;
         }
-        let covered = self.charge.covers(self.start, worst, self.expired);
+        let covered = self.charge.covers(self.start, numbers.worst, self.expired);
         covered && queue_is_sound(&self.places, &self.tags, self.queued)
     }
 
     // Whether nothing refuses its reservation, its cells are those of a stream in use, and its job is open at the horizon.
-    pub(crate) fn is_in_order(&self, worst: u32, span: u32, k: u32, h: Clock) -> bool
-        requires { (0 < worst) × (worst ≤ worst_max) }
-        ensures { result ≡ in_order worst span k h.0 self.now }
+    pub(crate) fn is_in_order(&self, numbers: Numbers, h: Clock) -> bool
+        requires { (0 < numbers.worst) × (numbers.worst ≤ worst_max) }
+        ensures { result ≡ in_order numbers.worst numbers.span numbers.padding h.0 self.now }
     {
-        if table::stream_refusal(worst, span, k, self.reserved, self.period) != 0 {
+        let reservation = Reservation {
+            reserved: self.reserved,
+            period: self.period,
+        };
+        if numbers.stream_refusal(reservation).is_err() {
             return false;
         }
-        let cells = self.is_sound(worst, k);
+        let cells = self.is_sound(numbers);
         cells & (self.release <= h) & (h <= self.deadline)
     }
 
@@ -167,16 +156,12 @@ impl Stream {
         requires { (j < queue_max) × (1 ≤ self.queued) }
         ensures { result ≡ without j self }
     {
-        let places = self.places;
-        let tags = self.tags;
-        let left = closed_up(places, tags, j);
-        let places_left = left.places;
-        let tags_left = left.tags;
-        let mut x = self;
-        x.places = places_left;
-        x.tags = tags_left;
-        x.queued = self.queued - 1;
-        x
+        Stream {
+            queued: self.queued - 1,
+            places: closed_up(0, self.places, j),
+            tags: closed_up(0, self.tags, j),
+            ..self
+        }
     }
 
     // With a completion charged.
@@ -184,10 +169,10 @@ impl Stream {
         requires { (self.charge.0 ≤ session_end) × (duration.0 ≤ session_end) }
         ensures { result ≡ charged duration.0 self }
     {
-        let charge = self.charge.plus(duration);
-        let mut x = self;
-        x.charge = charge;
-        x
+        Stream {
+            charge: self.charge.plus(duration),
+            ..self
+        }
     }
 
     // With a slot expired.
@@ -195,11 +180,11 @@ impl Stream {
         requires { (self.charge.0 ≤ session_end) × (self.expired ≤ session_end) }
         ensures { result ≡ lapsed worst self }
     {
-        let charge = self.charge.plus(Charge::of(worst as u64));
-        let mut x = self;
-        x.charge = charge;
-        x.expired = self.expired + 1;
-        x
+        Stream {
+            charge: self.charge.plus(Charge::of(worst as u64)),
+            expired: self.expired + 1,
+            ..self
+        }
     }
 
     // At a move: its job is closed if it is due at the horizon.
@@ -229,26 +214,22 @@ impl Stream {
         requires { self.deadline.0 ≤ session_end }
         ensures { result ≡ closed now self }
     {
-        let deadline = self.deadline;
-        let charge = self.charge;
-        let started = self.start;
-        let carried = charge.above(self.granted);
-        let last = Job {
-            charge: charge,
-            closed: now,
-            deadline: deadline,
-            expired: self.expired,
-            start: started,
-        };
-        let next = deadline.plus(self.period);
-        let mut x = self;
-        x.release = deadline;
-        x.deadline = next;
-        x.charge = carried;
-        x.expired = 0;
-        x.start = carried;
-        x.last = last;
-        x
+        let carried = self.charge.above(self.granted);
+        Stream {
+            release: self.deadline,
+            deadline: self.deadline.plus(self.period),
+            charge: carried,
+            expired: 0,
+            start: carried,
+            last: Job {
+                charge: self.charge,
+                closed: now,
+                deadline: self.deadline,
+                expired: self.expired,
+                start: self.start,
+            },
+            ..self
+        }
     }
 }
 
@@ -266,25 +247,4 @@ fn queue_is_sound(
     let places = places[queued..].iter().all(|place| *place == 0);
     let tags = tags[queued..].iter().all(|tag| *tag == 0);
     places & tags
-}
-
-// The rows of a queue without the request at j: those behind it close up.
-fn closed_up(places: [u64; Stream::QUEUE_MAX], tags: [u32; Stream::QUEUE_MAX], j: usize) -> Rows
-    requires { j < queue_max }
-    ensures { (result.places ≡ closed_up 0 j places) × (result.tags ≡ closed_up 0 j tags) }
-{
-    let mut places_left = places;
-    let mut tags_left = tags;
-    let mut i = j;
-    while i < Stream::QUEUE_LAST {
-        places_left[i] = places[i + 1];
-        tags_left[i] = tags[i + 1];
-        i += 1;
-    }
-    places_left[Stream::QUEUE_LAST] = 0;
-    tags_left[Stream::QUEUE_LAST] = 0;
-    Rows {
-        places: places_left,
-        tags: tags_left,
-    }
 }

@@ -19,9 +19,8 @@ impl Sums {
     pub fn none() -> Sums
         ensures { result ≡ nothing_summed }
     {
-        let nothing = Charge::of(0);
         Sums {
-            charges: nothing,
+            charges: Charge::of(0),
             parts: 0,
         }
     }
@@ -31,10 +30,9 @@ impl Sums {
         requires { Summable self × (span ≤ span_max) × ((worst : ℕ) × Bounded worst h.0 x.now) }
         ensures { result ≡ summed self x.now span h.0 }
     {
-        let charges = self.charges.plus(x.charge);
         let part = x.granted.times(h.since(x.release)) * (span / x.period) as u64;
         Sums {
-            charges: charges,
+            charges: self.charges.plus(x.charge),
             parts: self.parts + part,
         }
     }

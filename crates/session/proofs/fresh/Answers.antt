@@ -19,8 +19,8 @@ use Rattle.session.proofs.Openings.{opened_fit, opened_sum, margin_left, opening
 use Rattle.session.proofs.fresh.Goals as goal
 use Rattle.session.proofs.fresh.Goals.{After-left, After-soonest-h}
 
-pub opened_streams-streams-requires : goal.opened_streams-streams-requires
-opened_streams-streams-requires c = (admits_of c.args.t c.requires.0).numbers.count_high
+pub opened_streams-requires : goal.opened_streams-requires
+opened_streams-requires c = (admits_of c.args.t c.requires.0).numbers.count_high
 
 pub soonest-h-requires : goal.soonest-h-requires
 soonest-h-requires c =
@@ -28,7 +28,7 @@ soonest-h-requires c =
     let order = c.args.order in
     let pre = c.requires in
     let fit = opened_fit t order pre.0 in
-    rw (c.default-nothing.ensures, c.at-start.ensures, c.opened_streams-streams.ensures, ap margin pre.1)
+    rw (c.default.ensures, c.at-start.ensures, c.opened_streams.ensures, ap margin pre.1)
     (bookkept (opened_session t order) fit.used)
 
 -- the horizon is that of the streams
@@ -36,9 +36,9 @@ soonest_is : (c : After-soonest-h) → c.soonest-h.result ≡ moment (horizon (o
 soonest_is c =
     rw (
       c.soonest-h.ensures,
-      c.default-nothing.ensures,
+      c.default.ensures,
       c.at-start.ensures,
-      c.opened_streams-streams.ensures,
+      c.opened_streams.ensures,
       ap margin c.requires.1,
     )
 
@@ -87,6 +87,6 @@ returns c =
       sum_is,
       soonest-is,
       c.at-start.ensures,
-      c.opened_streams-streams.ensures,
+      c.opened_streams.ensures,
       ap margin c.requires.1,
     )

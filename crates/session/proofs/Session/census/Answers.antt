@@ -1,33 +1,34 @@
-use mathlib.Core.Path.{◌≡◌, refl, sym, ap, ◌∙◌, subst}
-use Prim.Native.Nat.{ℕ, suc, ◌+◌, ◌≤◌}
+use mathlib.Core.Path.{◌≡◌, sym, ap, ◌∙◌, subst}
+use Prim.Native.Nat.{ℕ, suc}
 use native.Mathlib.Numerals.{add-one}
 use native.Mathlib.Omega.{arith}
 use lib.ListN.{length, length-map}
 use Rattle.stream.specs.contracts.Stream as Cells
 use Rattle.std.proofs.Common.{Option, Some, None}
 use Rattle.stream.specs.Search.{counted}
-use Rattle.stream.specs.declared.Stream.{Stream}
 use Rattle.stream.specs.declared.census.Census.{Census}
 use Rattle.session.specs.Session.{stream_at}
 use Rattle.session.specs.Inner.{counted_on, census_to}
-use Rattle.session.specs.declared.Session.{Session}
 use Rattle.session.proofs.InUse.{used_in, used_is, used_all}
 use Rattle.session.proofs.Counted.{counted_to, countable, few_counted, none_on}
 use Rattle.session.proofs.Session.census.Goals as goal
+use Rattle.session.proofs.Session.census.Goals.{After-begin}
+
+-- what it begins with
+begins : (c : After-begin) → c.begin.result ≡ census_to c.args.self.now 0
+unfolding census_to
+begins c = rw (c.begin.ensures, c.numbers.ensures)
 
 pub returns-in_err-census : goal.returns-in_err-census
-unfolding census_to
 returns-in_err-census c =
     let s = c.args.self.now in
-    c.from_residual.ensures ∙ sym (none_on s 0 s.count (omega arith) (sym c.begin.ensures ∙ c.in_err-census.was))
+    c.from_residual.ensures ∙ sym (none_on s 0 s.count (omega arith) (sym (begins (goal.at.returns-in_err-census c).After-begin) ∙ c.in_err-census.was))
 
 pub shared_ref_as_front-x-items : goal.shared_ref_as_front-x-items
-unfolding census_to
-shared_ref_as_front-x-items c = few_counted c.args.self.now _ (sym c.begin.ensures ∙ c.in_ok-census.was)
+shared_ref_as_front-x-items c = few_counted c.args.self.now _ (sym (begins (goal.at.shared_ref_as_front-x-items c).After-begin) ∙ c.in_ok-census.was)
 
 pub loop-x-init : goal.loop-x-init
-unfolding census_to
-loop-x-init c = sym c.begin.ensures ∙ c.in_ok-census.was
+loop-x-init c = sym (begins (goal.at.loop-x-init c).After-begin) ∙ c.in_ok-census.was
 
 pub with-requires : goal.with-requires
 with-requires c =
@@ -61,10 +62,9 @@ loop-x-preserved c =
     subst (λ (n : ℕ). census_to s n ≡ Some c.in_ok-census-2.census) (sym (add-one at.x-index)) next
 
 pub returns : goal.returns
-unfolding census_to
 returns c =
     let s = c.args.self.now in
-    let few = few_counted s _ (sym c.begin.ensures ∙ c.in_ok-census.was) in
+    let few = few_counted s _ (sym (begins (goal.at.returns c).After-begin) ∙ c.in_ok-census.was) in
     let eight : length s.streams ≡ 8 = omega (arith, c.well_formed, length-map s.streams (Cells.the_type).to) in
     let all = used_all s eight few c.loop-x.x-index c.loop-x.auto.x-index-end c.loop-x-test.false in
     sym c.loop-x.invariant ∙ ap (census_to s) all

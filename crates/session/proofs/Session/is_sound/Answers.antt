@@ -1,18 +1,18 @@
 -- `Session::is_sound` looks at the used streams, at the unused ones, and then at the clock and the disk: each way out cites what decides there.
-use mathlib.Core.Bool.{Bool, true, false, not, ◌&&◌, false≢true}
+use mathlib.Core.Bool.{true, false, not, ◌&&◌}
 use mathlib.Core.Path.{◌≡◌, refl, sym, ◌∙◌}
-use Prim.Native.Nat.{ℕ, ◌+◌, ◌-◌, ◌≤◌, ◌<◌}
+use Prim.Native.Nat.{◌-◌, ◌≤◌, ◌<◌}
 use native.Mathlib.Omega.{arith}
 use lib.Dec.{leb}
-use lib.ListN.{length, length-map, get_or, take, drop}
+use lib.ListN.{length, length-map, take, drop}
 use borrow.Author.Rules.{rules}
 use borrow.Author.Tests.{tests as facts}
 use Rattle.std.proofs.lemmas.Iterator.{cases_from_all, YieldsList-from_slice}
-use Rattle.std.proofs.lemmas.List.{get_or-drop, length-drop, take_all}
+use Rattle.std.proofs.lemmas.List.{length-drop, take_all}
 use Rattle.table.proofs.Judged.{numbers_of}
 use Rattle.stream.specs.Stream.{unused_stream}
 use Rattle.stream.specs.contracts.Stream as Cells
-use Rattle.session.specs.Session.{table_of, sound}
+use Rattle.session.specs.Session.{table_of}
 use Rattle.session.proofs.Offsets.{offset_fits}
 use Rattle.session.proofs.Counted.{CountedTo, not_sound, counted_to, counted_fails, judgeable}
 use Rattle.session.proofs.Judging.{Looked, looks, tests, refused, idle_decides, at_disk, can_have, busy_decides}

@@ -1,8 +1,5 @@
-use mathlib.Core.List.{List}
-use mathlib.Core.Path.{◌≡◌, refl, subst}
-use Prim.Native.Nat.{ℕ}
+use mathlib.Core.Path.{◌≡◌, subst}
 use native.Mathlib.Omega.{arith}
-use Rattle.stream.specs.declared.Stream.{Stream}
 use Rattle.session.proofs.Sound.{sound_of, deadline_high}
 use Rattle.session.proofs.Dues.{grounds}
 use Rattle.session.proofs.Closings.{Moving, moving_none, moving_more, can_look, moves}

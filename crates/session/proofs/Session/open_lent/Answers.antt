@@ -8,4 +8,4 @@ use Rattle.session.proofs.Session.open_lent.Goals as goal
 pub returns : goal.returns
 returns c =
     rw (c.open_taken.ensures, c.take_in.ensures)
-    (ap (λ (t : Table). opening_of t c.args.order) (taken_table c.args.worst c.args.span c.args.padding c.args.table.now))
+    (ap (λ (t : Table). opening_of t c.args.order) (taken_table c.args.numbers.worst c.args.numbers.span c.args.numbers.padding c.args.table.now))

@@ -5,4 +5,4 @@ use Rattle.session.specs.Opening.{opening_of}
 use Rattle.session.proofs.Session.open_taken.Goals as goal
 
 pub returns : goal.returns
-returns c = c.open.ensures ∙ ap (λ (t : Table). opening_of t c.args.order) c.of-table.ensures
+returns c = c.open.ensures ∙ ap (λ (t : Table). opening_of t c.args.order) c.of.ensures

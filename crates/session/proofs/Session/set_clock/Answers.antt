@@ -1,5 +1,4 @@
 -- `Session::set_clock` stores the time, and tells whether it was late.
-use mathlib.Core.Bool.{◌&&◌}
 use mathlib.Core.Path.{◌≡◌, sym, ◌∙◌}
 use lib.Dec.{ltb}
 use borrow.Author.Rules.{rules}

@@ -1,14 +1,14 @@
 use mathlib.Core.Path.{◌≡◌, refl, ap, ◌∙◌}
-use Prim.Native.Nat.{ℕ, ◌+◌, min}
+use Prim.Native.Nat.{ℕ, min}
 use native.Mathlib.Numerals.{add-one}
 use native.Mathlib.Omega.{arith}
 use borrow.Author.Rules.{rules}
-use lib.ListN.{length, length-map}
+use lib.ListN.{length-map}
 use Rattle.table.specs.Fold.{smallest_to}
 use Rattle.time.specs.Time.{moment}
 use Rattle.session.specs.Session.{stream_at, horizon}
 use Rattle.stream.specs.contracts.Stream as Cells
-use Rattle.session.proofs.InUse.{used_in, used_is, used_all}
+use Rattle.session.proofs.InUse.{used_is, used_all}
 use Rattle.session.proofs.Session.soonest.Goals as goal
 
 pub loop-x-init : goal.loop-x-init

@@ -1,6 +1,6 @@
 use mathlib.Core.Bool.{Bool, ◌||◌}
 use mathlib.Core.Path.{◌≡◌, refl, sym, ap, ap₂, ◌∙◌}
-use Prim.Native.Nat.{ℕ, ◌+◌, ◌<◌}
+use Prim.Native.Nat.{ℕ, ◌<◌}
 use lib.ListN.{length}
 use native.Mathlib.Omega.{arith}
 use Rattle.std.proofs.Common.{Option}
@@ -21,10 +21,13 @@ better-expiring-requires c =
     let q = sound_of s c.requires in
     let i = c.loop-i.i in
     let each = bounded_by s q s.horizon refl in
-    let long : (n : ℕ) → n < s.count → n < length s.streams = λ n l. let within = inside s c.requires n l in omega (arith, within, q.fit.eight) in
-    (long i c.loop-i-test.true, each i c.loop-i-test.true, λ b e.
-    let l = found_in s c.requires i b c.loop-i.auto.i-end (sym c.loop-i.invariant.0 ∙ e) in
-    (long b l, each b l))
+    let long : (n : ℕ) → n < s.count → n < length s.streams = λ n l. let within = inside s c.requires n l in omega (arith, within, q.fit.eight) in (
+      long i c.loop-i-test.true,
+      each i c.loop-i-test.true,
+      λ b e.
+          let l = found_in s c.requires i b c.loop-i.auto.i-end (sym c.loop-i.invariant.0 ∙ e) in
+          (long b l, each b l),
+    )
 
 pub offset_bounds-self-i : goal.offset_bounds-self-i
 offset_bounds-self-i c = offset_fits _ _ (inside c.args.self.now c.requires _ c.loop-i-test.true) refl

@@ -2,9 +2,6 @@
 use mathlib.Core.Bool.{true}
 use mathlib.Core.Path.{◌≡◌, sym, ◌∙◌}
 use Rattle.session.specs.Session.{sound}
-use Rattle.session.specs.Calls.{send, move, expire, verdict}
-use Rattle.session.specs.declared.Session.{Session}
-use Rattle.calls.specs.declared.Call.{Call}
 use Rattle.session.proofs.Dues.{by_31, past_31}
 use Rattle.session.proofs.Answers.{Idle, Unfilled, answers, unsound_verdict, turn_busy, turn_sends, turn_unfilled, turn_ends, turn_moves, turn_waits, turn_expires}
 use lib.Dec.{ltb}

@@ -4,4 +4,4 @@ use Rattle.session.proofs.Session.zero.Goals as goal
 
 pub returns : goal.returns
 unfolding zero_session
-returns c = rw (c.default-nothing.ensures, c.none-margin.ensures, c.at-start.ensures, c.fresh-unused.ensures)
+returns c = rw (c.default.ensures, c.default-2.ensures, c.at-start.ensures, c.fresh.ensures)

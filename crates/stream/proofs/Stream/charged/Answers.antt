@@ -4,4 +4,4 @@ use Rattle.stream.proofs.Stream.charged.Goals as goal
 
 pub returns : goal.returns
 unfolding charged
-returns c = rw c.plus-charge.ensures
+returns c = rw c.plus.ensures

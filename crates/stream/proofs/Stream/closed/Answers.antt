@@ -5,4 +5,4 @@ use Rattle.stream.proofs.Stream.closed.Goals as goal
 
 pub returns : goal.returns
 unfolding closed
-returns c = rw (c.above-carried.ensures, c.plus-next.ensures) refl
+returns c = rw (c.above-carried.ensures, c.plus.ensures) refl

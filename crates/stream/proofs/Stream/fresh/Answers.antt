@@ -5,4 +5,4 @@ use Rattle.stream.proofs.Stream.fresh.Goals as goal
 pub returns : goal.returns
 unfolding fresh_stream
 returns c =
-    rw (c.at-deadline.ensures, c.of-budget.ensures, c.of-nothing.ensures, c.at-start.ensures)
+    rw (c.at.ensures, c.of.ensures, c.of-nothing.ensures, c.at-start.ensures)

@@ -29,7 +29,7 @@ not_past d = search (rules, tests)
 
 -- what the code finds of them is that
 tested : (c : After-is_near-charge)
-    → (c.eq-budget.result && c.is_later_by-due.result && not c.is_past_end-in_session.result && c.is_near-charge.result) ≡ first c.args.worst c.args.k c.args.self.now
+    → (c.eq-budget.result && c.is_later_by-due.result && not c.is_past_end-in_session.result && c.is_near-charge.result) ≡ first c.args.numbers.worst c.args.numbers.padding c.args.self.now
 tested c =
     rw (
       c.is_near-charge.ensures,
@@ -56,7 +56,7 @@ charge_small worst k x high t =
 pub covers-covered-requires : goal.covers-covered-requires
 covers-covered-requires c =
     let passed = sym (tested (goal.at.covers-covered-requires c).After-is_near-charge) ∙ c.if-not-budget-due.false in
-    charge_small c.args.worst c.args.k c.args.self.now c.requires.2 passed
+    charge_small c.args.numbers.worst c.args.numbers.padding c.args.self.now c.requires.2 passed
 
 pub returns-then-covered : goal.returns-then-covered
 unfolding sound_cells

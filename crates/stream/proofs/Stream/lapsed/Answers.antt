@@ -3,9 +3,9 @@ use Rattle.stream.specs.Stream.{lapsed}
 use native.Mathlib.Omega.{arith}
 use Rattle.stream.proofs.Stream.lapsed.Goals as goal
 
-pub plus-charge-requires : goal.plus-charge-requires
-plus-charge-requires c = (c.requires.0, rw c.of.ensures (omega (arith, c.ranges)))
+pub plus-requires : goal.plus-requires
+plus-requires c = (c.requires.0, rw c.of.ensures (omega (arith, c.ranges)))
 
 pub returns : goal.returns
 unfolding lapsed
-returns c = rw (c.plus-charge.ensures, c.of.ensures)
+returns c = rw (c.plus.ensures, c.of.ensures)

@@ -5,5 +5,4 @@ use Rattle.stream.proofs.Stream.without.Goals as goal
 pub returns : goal.returns
 unfolding without
 returns c =
-    let rows = c.closed_up-left.ensures in
-    rw (rows.0, rows.1)
+    rw (c.closed_up.ensures, c.closed_up-2.ensures)

@@ -19,24 +19,24 @@ nonzero_div-load c =
     c.requires.least_low
 
 pub overflow_cast-load-2 : goal.overflow_cast-load-2
-overflow_cast-load-2 c = let a = c.args in omega (arith, div-le_self a.self.span a.self.least)
+overflow_cast-load-2 c = let a = c.args in omega (arith, div-le_self a.self.numbers.span a.self.least)
 
 pub overflow_mul-load : goal.overflow_mul-load
 overflow_mul-load c =
-    let blocking-high : let self = c.args.self in self.worst * (self.span / self.least) ≤ 1_000_000 * self.span = let self = c.args.self in
-    mul-le-mul c.requires.countable.worst_high (div-le_self self.span self.least) in
+    let blocking-high : let self = c.args.self in self.numbers.worst * (self.numbers.span / self.least) ≤ 1_000_000 * self.numbers.span = let self = c.args.self in
+    mul-le-mul c.requires.countable.worst_high (div-le_self self.numbers.span self.least) in
     omega (arith, blocking-high)
 
 pub overflow_add-load : goal.overflow_add-load
 overflow_add-load c =
-    let blocking-high : let self = c.args.self in self.worst * (self.span / self.least) ≤ 1_000_000 * self.span = let self = c.args.self in
-    mul-le-mul c.requires.countable.worst_high (div-le_self self.span self.least) in
+    let blocking-high : let self = c.args.self in self.numbers.worst * (self.numbers.span / self.least) ≤ 1_000_000 * self.numbers.span = let self = c.args.self in
+    mul-le-mul c.requires.countable.worst_high (div-le_self self.numbers.span self.least) in
     omega (arith, blocking-high, c.requires.countable.shares_high)
 
 -- a load above the span fails
-load-fails : (c : Census) (margin sum : ℤ) → c.span < load_so c → false ≡ says c margin sum
+load-fails : (c : Census) (margin sum : ℤ) → c.numbers.span < load_so c → false ≡ says c margin sum
 unfolding says
-load-fails c margin sum over = rw (lt-leb (load_so c) c.span over)
+load-fails c margin sum over = rw (lt-leb (load_so c) c.numbers.span over)
 
 pub returns-then-span-load : goal.returns-then-span-load
 returns-then-span-load c =
@@ -49,12 +49,12 @@ remainders-requires c =
     (p.summable, p.span_high)
 
 -- else margin, horizon and sum decide
-three-tests : (c : Census) (margin sum : ℤ) (left soonest summed : Bool) → load_so c ≤ c.span
-    → left ≡ eq_z margin (pos (c.span - load_so c)) → soonest ≡ eqb c.horizon.0 c.soonest.0 → summed ≡ eq_z sum (remainders_so c.sums c.span)
+three-tests : (c : Census) (margin sum : ℤ) (left soonest summed : Bool) → load_so c ≤ c.numbers.span
+    → left ≡ eq_z margin (pos (c.numbers.span - load_so c)) → soonest ≡ eqb c.horizon.0 c.soonest.0 → summed ≡ eq_z sum (remainders_so c.sums c.numbers.span)
     → (left && soonest && summed) ≡ says c margin sum
 unfolding says
 three-tests c margin sum left soonest summed fits l h s =
-    rw (le-leb (load_so c) c.span fits, less_left c.span (load_so c) fits, l, h, s)
+    rw (le-leb (load_so c) c.numbers.span fits, less_left c.numbers.span (load_so c) fits, l, h, s)
 
 pub returns : goal.returns
 unfolding eq_z

@@ -2,7 +2,6 @@
 use mathlib.Core.Bool.{true}
 use mathlib.Core.Path.{◌≡◌, sym, ◌∙◌}
 use Prim.Native.Nat.{ℕ, ◌≤◌, ◌*◌, ◌/◌, min}
-use native.Mathlib.Nat.{div-le_self}
 use native.Mathlib.Omega.{arith}
 use borrow.Author.Rules.{rules}
 use Rattle.time.specs.Time.{moment}
@@ -27,7 +26,7 @@ share-small : (worst span k h : ℕ) (x : Stream) → in_order worst span k h x 
 share-small worst span k h x t = rw (order_share worst span k h x t) (share_high worst span k x.reserved x.period (order_fits worst span k h x t))
 
 -- past the test the stream is in order
-good : (c : Else-not-is_in_order) → let a = c.args in in_order a.self.worst a.self.span a.self.padding a.self.horizon.0 a.x.now ≡ true
+good : (c : Else-not-is_in_order) → let a = c.args in in_order a.self.numbers.worst a.self.numbers.span a.self.numbers.padding a.self.horizon.0 a.x.now ≡ true
 good c = sym c.is_in_order.ensures ∙ c.if-not-is_in_order.false
 
 pub with-requires : goal.with-requires
@@ -35,12 +34,9 @@ with-requires c =
     let p = c.requires in
     (p.summable, p.span_high, (_, order_bounded _ _ _ _ _ (good (goal.at.with-requires c).Else-not-is_in_order) p.worst_low p.worst_high))
 
-pub nonzero_div-self : goal.nonzero_div-self
-nonzero_div-self c =
-    let low = (order_fits _ _ _ _ _ (good (goal.at.nonzero_div-self c).Else-not-is_in_order)).period_low in omega arith
-
-pub overflow_cast-self : goal.overflow_cast-self
-overflow_cast-self c = let a = c.args in omega (arith, div-le_self a.self.span a.x.now.period)
+pub nonzero_div-span : goal.nonzero_div-span
+nonzero_div-span c =
+    let low = (order_fits _ _ _ _ _ (good (goal.at.nonzero_div-span c).Else-not-is_in_order)).period_low in omega arith
 
 pub times-share-requires : goal.times-share-requires
 times-share-requires c = omega (arith, share-small _ _ _ _ _ (good (goal.at.times-share-requires c).Else-not-is_in_order))

@@ -21,7 +21,7 @@ overflow_mul-part c =
 pub returns : goal.returns
 returns c =
     let a = c.args in
-    rw (c.plus-charges.ensures, c.times.ensures, c.since.ensures, mul_comm a.x.now.granted.0 (a.h.0 - a.x.now.release.0))
+    rw (c.plus.ensures, c.times.ensures, c.since.ensures, mul_comm a.x.now.granted.0 (a.h.0 - a.x.now.release.0))
 
 pub overflow_add-result : goal.overflow_add-result
 overflow_add-result c =

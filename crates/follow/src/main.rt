@@ -4,28 +4,18 @@
 mod input;
 mod print;
 
-ghost use Rattle.std.specs.Prelude.{◌≡◌, ◌≤◌, length, take};
-
 use input::follow_input;
 use logs::Follower;
 use print::print_report;
 use std::fs::Files;
 use std::io;
 
-// What was read of a file: how many bytes, and whether it could not be read on.
-#[derive(Clone, Copy)]
-struct Read {
-    len: usize,
-    failed: bool,
-}
-
 // The buffer holds more than the longest file, so that a longer one is refused without being read to its end.
 fn main(rt: HostRuntime) -> io::Result<()> {
     let err = rt.stderr();
     if given::word_count(&rt) != 2 {
-        return say(
-            &err,
-            b"follow: name one session file; the listing is read from standard input\n",
+        return err.print(
+            "follow: name one session file; the listing is read from standard input\n",
         );
     }
     let mut name = [0u8; given::NAME_ROOM];
@@ -41,13 +31,11 @@ fn follow<R: Files + Print>(
     name: &[u8],
 ) -> io::Result<()> {
     let mut file = [0u8; given::FILE_ROOM];
-    let read = read_file(rt, name, &mut file);
-    if read.failed {
-        say(err, b"follow: cannot read ")?;
-        say(err, name)?;
-        return say(err, b"\n");
-    }
-    let len = read.len;
+    let Ok(len) = given::read_file(rt, name, &mut file) else {
+        err.print("follow: cannot read ")?;
+        err.write_all(name)?;
+        return err.print("\n");
+    };
     follow_listing(rt, err, from, &file[..len])
 }
 
@@ -59,27 +47,9 @@ fn follow_listing(
     file: &[u8],
 ) -> io::Result<()> {
     let mut buffer = [0u8; given::FILE_ROOM];
-    let listing = follow_input(from, Follower::begin(file), file, &mut buffer);
-    if listing.failed {
-        return say(err, b"follow: cannot read standard input\n");
-    }
+    let Ok(listing) = follow_input(from, Follower::begin(file), file, &mut buffer) else {
+        return err.print("follow: cannot read standard input\n");
+    };
     let held = listing.held;
     print_report(rt, listing.follower, file, &buffer[..held])
-}
-
-// Reads a file. One that cannot be read, as a folder, has failed.
-fn read_file(rt: &impl Files, name: &[u8], file: &mut [u8]) -> Read
-    ensures { (result.len ≤ length file.new) × (result.len ≡ length (take result.len file.new)) }
-{
-    match given::read_file(rt, name, file) {
-        Ok(len) => Read { len, failed: false },
-        Err(_) => Read {
-            len: 0,
-            failed: true,
-        },
-    }
-}
-
-fn say(err: &impl Print, words: &[u8]) -> io::Result<()> {
-    err.write_all(words)
 }

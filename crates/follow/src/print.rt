@@ -1,7 +1,4 @@
 // What is said of a listing.
-ghost use Rattle.listing.specs.Line.{Within};
-
-use listing::Text;
 use logs::Follower;
 use std::io;
 
@@ -12,21 +9,12 @@ pub(crate) fn print_report(
     file: &[u8],
     left: &[u8],
 ) -> io::Result<()> {
-    let mut more = true;
-    let mut k: usize = 0;
-    while k < usize::MAX && more {
-        let text = follower.report(file, left, k);
-        more = 0 < text.len;
-        print(rt, text)?;
-        k += 1;
+    for k in 0..usize::MAX {
+        let line = follower.report(file, left, k);
+        if line.is_empty() {
+            break;
+        }
+        rt.write_all(line.as_bytes())?;
     }
     Ok(())
-}
-
-fn print(rt: &impl Print, text: Text) -> io::Result<()>
-    requires { Within text }
-{
-    let bytes = text.bytes;
-    let len = text.len;
-    rt.write_all(&bytes[..len])
 }

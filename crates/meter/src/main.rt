@@ -3,19 +3,16 @@
 // Prints that number, the number of the last reply, and what was gathered from the sessions that were handed back.
 #![tactic(auto)]
 
-ghost use Rattle.listing.specs.Line.{Within};
-
 use file::{Event, Reading};
-use listing::Text;
 use order::Order;
-use session::Session;
+use session::{Answer, Session};
 use std::io;
 use table::Table;
 
 const TIMES_BYTES: usize = 8;
 
 // The number of the last reply, and the clocks and heads of all sessions, mixed into one number.
-#[derive(Clone, Copy)]
+#[derive(Clone, Copy, Default)]
 struct Tally {
     number: u64,
     mixed: u64,
@@ -56,7 +53,7 @@ fn meter(rt: &impl Print, times: u64, file: &[u8]) -> io::Result<()> {
 fn print_unread(rt: &impl Print, reading: Reading) -> io::Result<()> {
     match reading {
         Reading::LaidOut { .. } => Ok(()),
-        Reading::Refused(number) => print(rt, listing::refused(number, 0)),
+        Reading::Refused(number) => rt.write_all(listing::refused(number, 0).as_bytes()),
     }
 }
 
@@ -84,22 +81,25 @@ fn measure(
 // The session after the first events of a trace.
 fn run(opened: Session, trace: &[u8], events: usize) -> Session {
     let mut session = opened;
-    let mut i: usize = 0;
-    while i < events {
+    for i in 0..events {
         let stepped = trace::step(session, i as u64 + 1, file::event_at(trace, i));
         session = stepped.session;
-        i += 1;
     }
     session
 }
 
+// The calls of an event: each is a loop of its own, in which the call is known.
 fn repeated(session: Session, event: Event, times: u64) -> Tally {
     match event {
-        Event::Arrival { stream, place, tag } => arrivals(session, stream, place, tag, times),
-        Event::Turn => turns(session, times),
-        Event::OwnTurn { stream, index } => own_turns(session, stream, index, times),
-        Event::Done { duration } => completions(session, duration, times),
-        Event::Clock { time } => clock_reports(session, time, times),
+        Event::Arrival { stream, place, tag } => {
+            calls(session, times, |kept| kept.arrival(stream, place, tag))
+        }
+        Event::Turn => calls(session, times, |kept| kept.turn()),
+        Event::OwnTurn { stream, index } => {
+            calls(session, times, |kept| kept.own_turn(stream, index))
+        }
+        Event::Done { duration } => calls(session, times, |kept| kept.done(duration)),
+        Event::Clock { time } => calls(session, times, |kept| kept.clock(time)),
         Event::Malformed => Tally {
             number: 16,
             mixed: 0,
@@ -113,120 +113,38 @@ fn zero_of(times: u64) -> u64 {
 }
 
 fn openings(table: Table, order: Order, times: u64) -> Tally {
-    let mut number: u64 = 0;
-    let mut mixed: u64 = 0;
+    let mut tally = Tally::default();
     let mut kept = table;
     let zero = zero_of(times);
-    let mut i: u64 = 0;
-    while i < times {
-        kept.count = kept.count ^ zero as usize;
+    for _ in 0..times {
+        kept.count ^= zero as usize;
         let opened = Session::open(kept, order);
         let admission = opened.admission;
-        number = admission.number();
-        mixed = mixed ^ opened.session.head;
-        i += 1;
+        tally.number = admission.number();
+        tally.mixed ^= opened.session.head;
     }
-    Tally { number, mixed }
+    tally
 }
 
-fn arrivals(session: Session, stream: u64, place: u64, tag: u32, times: u64) -> Tally {
-    let mut number: u64 = 0;
-    let mut mixed: u64 = 0;
+// Makes a call of the same session over and over.
+fn calls<F: Fn(Session) -> Answer>(session: Session, times: u64, call: F) -> Tally
+    requires { F.IsAlwaysCallable call }
+{
+    let mut tally = Tally::default();
     let mut kept = session;
     let zero = zero_of(times);
-    let mut i: u64 = 0;
-    while i < times {
-        kept.head = kept.head ^ zero;
-        let answer = kept.arrival(stream, place, tag);
+    for _ in 0..times {
+        kept.head ^= zero;
+        let answer = call(kept);
         let reply = answer.reply;
         let clock = answer.session.clock;
-        number = reply.number();
-        mixed = mixed ^ clock.micros() ^ answer.session.head;
-        i += 1;
+        tally.number = reply.number();
+        tally.mixed ^= clock.micros() ^ answer.session.head;
     }
-    Tally { number, mixed }
-}
-
-fn turns(session: Session, times: u64) -> Tally {
-    let mut number: u64 = 0;
-    let mut mixed: u64 = 0;
-    let mut kept = session;
-    let zero = zero_of(times);
-    let mut i: u64 = 0;
-    while i < times {
-        kept.head = kept.head ^ zero;
-        let answer = kept.turn();
-        let reply = answer.reply;
-        let clock = answer.session.clock;
-        number = reply.number();
-        mixed = mixed ^ clock.micros() ^ answer.session.head;
-        i += 1;
-    }
-    Tally { number, mixed }
-}
-
-fn own_turns(session: Session, stream: u64, index: u64, times: u64) -> Tally {
-    let mut number: u64 = 0;
-    let mut mixed: u64 = 0;
-    let mut kept = session;
-    let zero = zero_of(times);
-    let mut i: u64 = 0;
-    while i < times {
-        kept.head = kept.head ^ zero;
-        let answer = kept.own_turn(stream, index);
-        let reply = answer.reply;
-        let clock = answer.session.clock;
-        number = reply.number();
-        mixed = mixed ^ clock.micros() ^ answer.session.head;
-        i += 1;
-    }
-    Tally { number, mixed }
-}
-
-fn completions(session: Session, duration: u64, times: u64) -> Tally {
-    let mut number: u64 = 0;
-    let mut mixed: u64 = 0;
-    let mut kept = session;
-    let zero = zero_of(times);
-    let mut i: u64 = 0;
-    while i < times {
-        kept.head = kept.head ^ zero;
-        let answer = kept.done(duration);
-        let reply = answer.reply;
-        let clock = answer.session.clock;
-        number = reply.number();
-        mixed = mixed ^ clock.micros() ^ answer.session.head;
-        i += 1;
-    }
-    Tally { number, mixed }
-}
-
-fn clock_reports(session: Session, time: u64, times: u64) -> Tally {
-    let mut number: u64 = 0;
-    let mut mixed: u64 = 0;
-    let mut kept = session;
-    let zero = zero_of(times);
-    let mut i: u64 = 0;
-    while i < times {
-        kept.head = kept.head ^ zero;
-        let answer = kept.clock(time);
-        let reply = answer.reply;
-        let clock = answer.session.clock;
-        number = reply.number();
-        mixed = mixed ^ clock.micros() ^ answer.session.head;
-        i += 1;
-    }
-    Tally { number, mixed }
+    tally
 }
 
 fn tell(rt: &impl Print, times: u64, tally: Tally) -> io::Result<()> {
-    print(rt, listing::line(times, tally.number, 0, 0, tally.mixed, 0))
-}
-
-fn print(rt: &impl Print, text: Text) -> io::Result<()>
-    requires { Within text }
-{
-    let bytes = text.bytes;
-    let len = text.len;
-    rt.write_all(&bytes[..len])
+    let line = listing::line(times, tally.number, 0, 0, tally.mixed, 0);
+    rt.write_all(line.as_bytes())
 }

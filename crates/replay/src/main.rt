@@ -1,10 +1,7 @@
 // Reads a session file from standard input, runs its trace, and prints a line for each event.
 #![tactic(auto)]
 
-ghost use Rattle.listing.specs.Line.{Within};
-
 use file::Reading;
-use listing::Text;
 use session::Session;
 use std::io;
 use table::Admission;
@@ -35,36 +32,26 @@ fn replay(rt: &impl Print, file: &[u8]) -> io::Result<()> {
     let opened = Session::open(file::table_of(file), order);
     let admission = opened.admission;
     let Admission::Admitted(_) = admission else {
-        return print(rt, listing::refused(admission.number(), admission.over()));
+        return rt.write_all(listing::refused(admission.number(), admission.over()).as_bytes());
     };
-    print(rt, listing::header())?;
+    rt.write_all(listing::header().as_bytes())?;
     run(rt, opened.session, &file[start..end], events)
 }
 
 fn print_unread(rt: &impl Print, reading: Reading) -> io::Result<()> {
     match reading {
         Reading::LaidOut { .. } => Ok(()),
-        Reading::Refused(number) => print(rt, listing::refused(number, 0)),
+        Reading::Refused(number) => rt.write_all(listing::refused(number, 0).as_bytes()),
     }
 }
 
 // Runs the events of a trace, and prints a line for each.
 fn run(rt: &impl Print, opened: Session, trace: &[u8], events: usize) -> io::Result<()> {
     let mut session = opened;
-    let mut i: usize = 0;
-    while i < events {
+    for i in 0..events {
         let stepped = trace::step(session, i as u64 + 1, file::event_at(trace, i));
-        print(rt, stepped.text)?;
+        rt.write_all(stepped.text.as_bytes())?;
         session = stepped.session;
-        i += 1;
     }
     Ok(())
-}
-
-fn print(rt: &impl Print, text: Text) -> io::Result<()>
-    requires { Within text }
-{
-    let bytes = text.bytes;
-    let len = text.len;
-    rt.write_all(&bytes[..len])
 }

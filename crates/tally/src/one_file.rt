@@ -2,7 +2,7 @@
 ghost use Rattle.std.specs.Prelude.{◌≡◌, IfOk};
 ghost use Rattle.std.specs.Io.{ReadsAtMost};
 
-use crate::print::{print, print_counts};
+use crate::print::print_counts;
 use counts::Counts;
 use std::fs::Files;
 use std::io;
@@ -24,7 +24,7 @@ pub(crate) fn tally_file<R: Files + Print>(
     if filed.refusal == 0 {
         print_counts(rt, counts, filed.count)?;
     } else {
-        print(rt, listing::refused(filed.refusal, filed.over))?;
+        rt.write_all(listing::refused(filed.refusal, filed.over).as_bytes())?;
     }
     Ok(totals.and(counts))
 }

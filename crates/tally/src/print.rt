@@ -1,8 +1,5 @@
 // What is printed, and what is said on standard error.
-ghost use Rattle.listing.specs.Line.{Within};
-
 use counts::{Counts, Tally};
-use listing::Text;
 use std::io;
 use table::Table;
 
@@ -11,7 +8,7 @@ pub(crate) fn print_totals(rt: &impl Print, err: &impl Print, totals: Counts) ->
     let Some(rows) = totals.rows else {
         return err.print("tally: a total passes 64 bits\n");
     };
-    print(rt, listing::total())?;
+    rt.write_all(listing::total().as_bytes())?;
     print_rows(rt, &rows)
 }
 
@@ -25,7 +22,7 @@ pub(crate) fn print_counts(rt: &impl Print, counts: Counts, count: usize) -> io:
 
 // Prints the header, and a line for each row.
 fn print_rows(rt: &impl Print, rows: &[Tally]) -> io::Result<()> {
-    print(rt, listing::tally_header())?;
+    rt.write_all(listing::tally_header().as_bytes())?;
     for (stream, row) in (1..).zip(rows) {
         print_row(rt, stream, *row)?;
     }
@@ -33,23 +30,13 @@ fn print_rows(rt: &impl Print, rows: &[Tally]) -> io::Result<()> {
 }
 
 fn print_row(rt: &impl Print, stream: u64, row: Tally) -> io::Result<()> {
-    print(
-        rt,
-        listing::tally_line(
-            stream,
-            row.jobs,
-            row.late,
-            row.expired,
-            row.time,
-            row.largest,
-        ),
-    )
-}
-
-pub(crate) fn print(rt: &impl Print, text: Text) -> io::Result<()>
-    requires { Within text }
-{
-    let bytes = text.bytes;
-    let len = text.len;
-    rt.write_all(&bytes[..len])
+    let line = listing::tally_line(
+        stream,
+        row.jobs,
+        row.late,
+        row.expired,
+        row.time,
+        row.largest,
+    );
+    rt.write_all(line.as_bytes())
 }

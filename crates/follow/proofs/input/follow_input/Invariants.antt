@@ -1,4 +1,4 @@
--- `follow_input` counts its turns; what is held lies within the buffer.
+-- `follow_input` reads piece by piece; what is held lies within the buffer.
 use Rattle.std.proofs.Common.{◌≤◌, length}
 use Rattle.follow.proofs.input.follow_input.Given as goal
 

@@ -1,9 +1,0 @@
--- `turns` counts its calls.
-use Rattle.std.proofs.Common.{◌-◌, ◌≤◌}
-use Rattle.meter.proofs.turns.Given as goal
-
-abbrev pub invariant-loop-i : goal.invariant-loop-i
-invariant-loop-i l = l.i ≤ l.times
-
-abbrev pub decreases-loop-i : goal.decreases-loop-i
-decreases-loop-i l = l.times - l.i

@@ -1,11 +1,14 @@
 // What a program is given: the words that it is started with, the files that they name, and bytes that are read until a buffer is full.
 #![tactic(auto)]
 
+mod quoting;
+
 ghost use Rattle.std.specs.Prelude.{◌≡◌, ◌<◌, ◌≤◌, length, take, IfOk, MatchResult};
 ghost use Rattle.std.specs.Io.{ReadsAtMost};
 ghost use Rattle.std.specs.Io.KnownBytes.{Consumes, IsAtEnd};
 ghost use Rattle.std.specs.Str.{IsUtf8};
 
+pub use quoting::quote;
 use std::env::{Env, FillError};
 use std::fs::{Files, OpenOptions};
 use std::io::{ErrorKind, Read};

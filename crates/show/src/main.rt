@@ -1,13 +1,11 @@
 // Reads a session file from standard input, and prints it as notes. It says on standard error what it cannot read.
 #![tactic(auto)]
 
-ghost use Rattle.listing.specs.Line.{Within};
+ghost use Rattle.std.specs.Prelude.{◌≡◌, Ok};
+ghost use Rattle.file.specs.Reading.{read_of};
 
-use file::{Form, Reading};
-use listing::Text;
-use order::Order;
+use file::Layout;
 use std::io;
-use table::Table;
 
 // The buffer holds more than the longest file, so that a longer one is refused without being read to its end.
 // Of an input that cannot be read it says so, and prints nothing.
@@ -21,58 +19,22 @@ fn main(rt: HostRuntime) -> io::Result<()> {
 
 // Prints the notes of a file, or says by which number it is refused.
 fn show(rt: &impl Print, err: &impl Print, file: &[u8]) -> io::Result<()> {
-    let reading = file::read(file);
-    let Reading::LaidOut {
-        form,
-        order,
-        count,
-        start,
-        end,
-        events,
-    } = reading
-    else {
-        return tell_unread(err, reading);
-    };
-    let lines = notes::head_lines(form) + count + events;
-    print_lines(
-        rt,
-        form,
-        order,
-        file::table_of(file),
-        &file[start..end],
-        lines,
-    )
-}
-
-fn tell_unread(err: &impl Print, reading: Reading) -> io::Result<()> {
-    match reading {
-        Reading::LaidOut { .. } => Ok(()),
-        Reading::Refused(number) => print(err, listing::refused(number, 0)),
+    match file::read(file) {
+        Ok(layout) => print_notes(rt, file, layout),
+        Err(refusal) => err.write_all(listing::refused(refusal.number(), 0).as_bytes()),
     }
 }
 
-// Prints the first lines of the notes of a file.
-fn print_lines(
-    rt: &impl Print,
-    form: Form,
-    order: Order,
-    table: Table,
-    trace: &[u8],
-    lines: usize,
-) -> io::Result<()> {
-    let mut i: usize = 0;
-    while i < lines {
-        let line = notes::line_at(form, order, table, trace, i);
-        print(rt, notes::shown(line))?;
-        i += 1;
+// Prints the lines of the notes of a file.
+#[tactic(auto, using(file::proofs::Round::accepted_is_within))]
+fn print_notes(rt: &impl Print, file: &[u8], layout: Layout) -> io::Result<()>
+    requires { read_of file.now ≡ Ok layout }
+{
+    let table = file::table_of(file);
+    let trace = &file[layout.start..layout.end];
+    for i in 0..notes::head_lines(layout.form) + layout.count + layout.events {
+        let line = notes::line_at(layout.form, layout.order, table, trace, i);
+        rt.write_all(notes::shown(line).as_bytes())?;
     }
     Ok(())
-}
-
-fn print(to: &impl Print, text: Text) -> io::Result<()>
-    requires { Within text }
-{
-    let bytes = text.bytes;
-    let len = text.len;
-    to.write_all(&bytes[..len])
 }

@@ -2,7 +2,7 @@
 #![tactic(auto)]
 
 ghost use Rattle.std.specs.Prelude.{◌≡◌};
-ghost use Rattle.view.specs.View.{view_of, state_of, closing_of};
+ghost use Rattle.view.specs.View.{refusal_number, view_of, stream_of, state_of, closing_of};
 
 use session::Session;
 use stream::{Job, Stream};
@@ -11,7 +11,7 @@ use time::Clock;
 
 // The number is 0, or 31 beside zeros.
 #[repr(C)]
-#[derive(Clone, Copy)]
+#[derive(Clone, Copy, Debug, PartialEq, Eq)]
 pub struct View {
     pub number: u64,
     pub clock: Clock,
@@ -22,7 +22,7 @@ pub struct View {
 
 // One stream. The number is 0, or 31 or 8 beside zeros.
 #[repr(C)]
-#[derive(Clone, Copy)]
+#[derive(Clone, Copy, Debug, PartialEq, Eq)]
 pub struct State {
     pub number: u64,
     pub stream: Stream,
@@ -30,76 +30,87 @@ pub struct State {
 
 // The last job that a stream closed. The number is 0, or 31 or 8 beside zeros.
 #[repr(C)]
-#[derive(Clone, Copy)]
+#[derive(Clone, Copy, Debug, PartialEq, Eq)]
 pub struct Closing {
     pub number: u64,
     pub job: Job,
 }
 
+// Why a stream is not shown: its session is not sound, or has no such stream.
+#[derive(Clone, Copy, Debug, PartialEq, Eq)]
+enum Refusal {
+    Unsound,
+    NoSuchStream,
+}
+
+impl Refusal {
+    // The number by which callers are told.
+    fn number(self) -> u64
+        ensures { result ≡ refusal_number self }
+    {
+        match self {
+            Refusal::Unsound => 31,
+            Refusal::NoSuchStream => 8,
+        }
+    }
+}
+
 // The clock, the horizon, the latest safe moment and the margin: 31.
-pub fn view_of(session: Session) -> View
-    ensures { result ≡ view_of session }
+pub fn view_of(session: &Session) -> View
+    ensures { result ≡ view_of session.now }
 {
-    let ahead = session.outlook();
-    if !ahead.sound {
+    let Some(ahead) = session.outlook() else {
         let start = Clock::at(0);
-        let none = Margin::none();
         return View {
-            number: 31,
+            number: Refusal::Unsound.number(),
             clock: start,
             horizon: start,
             latest: start,
-            margin: none,
+            margin: Margin::default(),
         };
-    }
-    let now = session.clock;
-    let h = ahead.horizon;
-    let until = ahead.latest;
-    let margin = session.margin;
+    };
     View {
         number: 0,
-        clock: now,
-        horizon: h,
-        latest: until,
-        margin: margin,
+        clock: session.clock,
+        horizon: ahead.horizon,
+        latest: ahead.latest,
+        margin: session.margin,
     }
 }
 
 // A stream, counted from 1: 31, 8.
-pub fn state_of(session: Session, stream: u64) -> State
-    ensures { result ≡ state_of session stream }
+pub fn state_of(session: &Session, stream: u64) -> State
+    ensures { result ≡ state_of session.now stream }
 {
-    let unused = Stream::fresh(0, 0, 0);
-    if !session.is_sound() {
-        return State {
-            number: 31,
-            stream: unused,
-        };
-    }
-    if (stream == 0) | ((session.count as u64) < stream) {
-        return State {
-            number: 8,
-            stream: unused,
-        };
-    }
-    let i = (stream - 1) as usize;
-    let streams = session.streams;
-    let x = streams[i];
-    State {
-        number: 0,
-        stream: x,
+    match stream_of(session, stream) {
+        Ok(stream) => State { number: 0, stream },
+        Err(refusal) => State {
+            number: refusal.number(),
+            stream: Stream::fresh(0, 0, 0),
+        },
     }
 }
 
 // The last job that a stream, counted from 1, closed, all zeros before the first: 31, 8.
-pub fn closing_of(session: Session, stream: u64) -> Closing
-    ensures { result ≡ closing_of session stream }
+pub fn closing_of(session: &Session, stream: u64) -> Closing
+    ensures { result ≡ closing_of session.now stream }
 {
     let state = state_of(session, stream);
-    let x = state.stream;
-    let job = x.last;
     Closing {
         number: state.number,
-        job: job,
+        job: state.stream.last,
     }
+}
+
+// The stream that is to be shown, counted from 1.
+fn stream_of(session: &Session, stream: u64) -> Result<Stream, Refusal>
+    ensures { result ≡ stream_of session.now stream }
+{
+    if !session.is_sound() {
+        return Err(Refusal::Unsound);
+    }
+    if (stream == 0) | ((session.count as u64) < stream) {
+        return Err(Refusal::NoSuchStream);
+    }
+    Ok(session.streams[(stream - 1) as usize])
 }

@@ -1,49 +1,45 @@
--- `state_of` shows a stream of a sound session, or refuses by 31 and 8: each way out rewrites the tests that led there.
-use mathlib.Core.Bool.{true}
-use mathlib.Core.Path.{◌≡◌}
-use Prim.Native.Nat.{◌-◌, ◌≤◌, ◌<◌}
-use native.Mathlib.Omega.{arith}
+-- `state_of` shows the stream, or the refusal's number beside zeros.
+use mathlib.Core.Bool.{Bool, true, false, not}
+use mathlib.Core.Path.{◌≡◌, refl, sym, ap, ◌∙◌}
+use Prim.Native.Nat.{ℕ, ◌-◌}
+use lib.Dec.{eqb}
+use Rattle.std.proofs.Common.{Result, Ok, Err}
 use Rattle.table.specs.Fold.{if}
 use Rattle.table.specs.Refusal.{given, ◌or_next◌}
-use Rattle.session.specs.Session.{sound}
+use Rattle.stream.specs.Stream.{fresh_stream}
+use Rattle.stream.specs.declared.Stream.{Stream}
+use Rattle.session.specs.Session.{stream_at, sound}
 use Rattle.session.specs.Calls.{no_such_stream}
-use Rattle.view.specs.View.{state_refusal, state_of}
-use Rattle.session.proofs.Dues.{by_31, past_31}
-use Rattle.session.proofs.Grounds.{named}
-use Rattle.session.proofs.Sound.{count_high}
+use Rattle.session.specs.declared.Session.{Session}
+use Rattle.view.specs.View.{refusal_number, state_refusal, stream_of, state_of}
+use Rattle.view.specs.declared.Refusal.{Refusal}
+use Rattle.view.specs.declared.State.{State}
 use Rattle.view.proofs.state_of.Goals as goal
-use Rattle.view.proofs.state_of.Goals.{Else-not-is_sound, Else-stream-session}
 
-pub returns-then-not-is_sound : goal.returns-then-not-is_sound
-unfolding state_of state_refusal given ◌or_next◌ if
-returns-then-not-is_sound c =
-    rw (by_31 _ _ c.is_sound.ensures c.if-not-is_sound.true, c.fresh-unused.ensures)
+abbrev as_state : Result Stream Refusal → State
+as_state (Ok x) = record { number = 0; stream = x }
+as_state (Err r) = record { number = refusal_number r; stream = fresh_stream 0 0 0 }
 
--- past 31 the session is sound
-ok : (c : Else-not-is_sound) → sound c.args.session ≡ true
-ok c = past_31 _ _ c.is_sound.ensures c.if-not-is_sound.false
+-- the tests are those of `stream_of`
+state_is : (s : Session) (n : ℕ) → as_state (stream_of s n) ≡ state_of s n
+unfolding state_of state_refusal stream_of given ◌or_next◌ if
+state_is s n = go (sound s) (no_such_stream s n)
+  where
+    shown : Bool → Bool → Result Stream Refusal
+    shown ok none = if ok (if none (Err Refusal.NoSuchStream) (Ok (stream_at s (n - 1)))) (Err Refusal.Unsound)
 
-pub returns-then-stream-session : goal.returns-then-stream-session
-unfolding state_of state_refusal given ◌or_next◌ no_such_stream if
-returns-then-stream-session c = rw (ok c.before, c.if-stream-session.true, c.fresh-unused.ensures)
+    number : Bool → Bool → ℕ
+    number ok none = given (not ok) 31 or_next given none 8
 
--- past 8 the stream is one of the eight
-exists : (c : Else-stream-session) → let a = c.args in (1 ≤ a.stream) × (a.stream - 1 < 8)
-unfolding no_such_stream
-exists c =
-    let a = c.args in
-    let n = named a.session a.stream c.if-stream-session.false in
-    (n.0, omega (arith, n, count_high a.session (ok c.before)))
+    go : (ok none : Bool) → as_state (shown ok none) ≡ record { number = number ok none; stream = if (eqb (number ok none) 0) (stream_at s (n - 1)) (fresh_stream 0 0 0) }
+    go true true = refl
+    go true false = refl
+    go false none = refl
 
-pub overflow_sub-i : goal.overflow_sub-i
-overflow_sub-i c = (exists c).0
+pub returns-in-Ok : goal.returns-in-Ok
+returns-in-Ok c = ap as_state (sym c.in-Ok.is ∙ c.stream_of.ensures) ∙ state_is c.args.session.now c.args.stream
 
-pub offset_bounds-streams-i : goal.offset_bounds-streams-i
-offset_bounds-streams-i c = omega (arith, exists c.before)
-
-pub bounds-streams-i : goal.bounds-streams-i
-bounds-streams-i c = (exists c.before).1
-
-pub returns : goal.returns
-unfolding state_of state_refusal given ◌or_next◌ no_such_stream if
-returns c = rw (ok c.before.before.before, c.if-stream-session.false)
+pub returns-in-Err : goal.returns-in-Err
+returns-in-Err c =
+    rw (c.number.ensures, c.fresh.ensures)
+    (ap as_state (sym c.in-Err.is ∙ c.stream_of.ensures) ∙ state_is c.args.session.now c.args.stream)

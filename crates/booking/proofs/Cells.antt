@@ -1,20 +1,21 @@
 -- A desk's cells and its streams: the cells of a sound desk are its streams and then 0, and stay so as a stream is added or withdrawn.
-use mathlib.Core.Bool.{true, ◌||◌}
-use mathlib.Core.List.{List, [], ◌∷◌, ◌++◌}
+use mathlib.Core.Bool.{Bool, true, ◌||◌}
+use mathlib.Core.List.{List, [], ◌∷◌, ◌++◌, append_assoc}
 use mathlib.Core.Path.{◌≡◌, sym, ◌∙◌, ap, ap₂}
-use mathlib.Core.Logic.{⊎_elim}
-use Prim.Native.Nat.{ℕ, suc, ◌-◌, ◌≤◌, ◌<◌}
+use mathlib.Core.Logic.{◌↔◌, ⊎_elim}
+use Prim.Native.Nat.{ℕ, suc, ◌+◌, ◌-◌, ◌≤◌, ◌<◌}
 use native.Mathlib.Omega.{arith}
 use native.Mathlib.Decide.{ℕ_discrete}
-use lib.ListN.{length, take, set, length-append, length-set, get_or-eq_default, get_or-append}
+use lib.ListN.{length, take, drop, set, get_or, length-append, length-set, length-drop, get_or-eq_default, get_or-append}
 use lib.Dec.{ltb}
-use lib.Seq.{length-take-le, get_or-take, get_or-set_same, get_or-set_other, get_or-append_seam, ext_get_or}
+use lib.Seq.{length-take-le, get_or-take, get_or-set_same, get_or-set_other, get_or-append_seam, ext_get_or, get_or-append-add, get_or-drop}
+use borrow.Rule.Slice.PartMut.{put_mid}
 use borrow.Author.Tests.{leb-true, eqb-true, le-leb, lt-ltb, le-ltb, eq-eqb}
 use Rattle.table.specs.Fold.{list_to, leaving, closed_up}
 use Rattle.table.specs.Ranges.{streams_max}
 use Rattle.table.specs.Reservations.{no_record, record_at, records_of}
 use Rattle.table.specs.declared.reservations.Reservation.{Reservation}
-use Rattle.table.proofs.Tests.{both, used_or_zero, le_or_lt}
+use Rattle.table.proofs.Tests.{both, used_or_zero, same_test, le_or_lt}
 use Rattle.table.proofs.Folds.{all_at, all_of}
 use Rattle.table.proofs.Lists.{length_list_to, get_d_list_to, get_d_padded, length_closed_up, closed_up_leaving, leaving_below, leaving_from, length_leaving}
 use Rattle.booking.specs.Book.{streams_of, empty_cell, sound_cells}
@@ -145,6 +146,78 @@ cells_of d h =
     (λ (used : i < d.count). sym (get_or-take d.count d.streams i no_record used))
     (le_or_lt d.count i) in
     record { eight = eight; count_high = high; long = long; are = listed_is d.streams (streams_of d) eight (omega arith) reads }
+
+-- the cells past a desk's streams are unused exactly where its cells are sound
+pub sound_by : (d : Desk) (b : Bool) → length d.streams ≡ streams_max → d.count ≤ streams_max
+    → (b ≡ true) ↔ ((k : ℕ) → k < length (drop d.count d.streams) → get_or (drop d.count d.streams) k no_record ≡ no_record)
+    → b ≡ sound_cells d
+unfolding sound_cells empty_cell
+sound_by d b eight high told = same_test b (sound_cells d) (λ e. there (told.0 e)) (λ h. told.1 (back h))
+  where
+    there : ((k : ℕ) → k < length (drop d.count d.streams) → get_or (drop d.count d.streams) k no_record ≡ no_record) → sound_cells d ≡ true
+    there none =
+        rw (eq-eqb (length d.streams) streams_max eight, le-leb d.count streams_max high)
+        (all_of (λ i. ltb i d.count || empty_cell (record_at d.streams i)) streams_max
+        (λ i l.
+        ⊎_elim
+        (λ (past : d.count ≤ i).
+        let place : d.count + (i - d.count) ≡ i = omega arith in
+        let e : record_at d.streams i ≡ no_record =
+        ap (λ (n : ℕ). record_at d.streams n) (sym place)
+        ∙ sym (get_or-drop d.count d.streams (i - d.count) no_record)
+        ∙ none (i - d.count) (omega (arith, length-drop d.count d.streams, eight)) in
+        rw (le-ltb i d.count past, e))
+        (λ (used : i < d.count). rw (lt-ltb i d.count used))
+        (le_or_lt d.count i)))
+
+    back : sound_cells d ≡ true → (k : ℕ) → k < length (drop d.count d.streams) → get_or (drop d.count d.streams) k no_record ≡ no_record
+    back h k l =
+        let c = cells_of d h in
+        get_or-drop d.count d.streams k no_record
+        ∙ ap (λ (cells : List Reservation). record_at cells (d.count + k)) c.are
+        ∙ listed_at (streams_of d) (omega (arith, c.long, high)) (d.count + k)
+        ∙ get_or-eq_default (streams_of d) no_record (omega (arith, c.long))
+
+-- one desk's cells with another's streams behind its own hold the streams of both
+pub both_listed : (first second : Desk) → Cells first → Cells second → first.count + second.count ≤ streams_max
+    → put_mid first.count second.count first.streams (streams_of second) ≡ listed (streams_of first ++ streams_of second)
+both_listed first second one two few =
+    listed_is (streams_of first ++ (streams_of second ++ drop second.count (drop first.count first.streams))) (streams_of first ++ streams_of second) eight
+    (omega (arith, length-append (streams_of first) (streams_of second), one.long, two.long)) reads
+  where
+    eight : length (streams_of first ++ (streams_of second ++ drop second.count (drop first.count first.streams))) ≡ streams_max
+    eight =
+        let xs = streams_of first in
+        let ys = streams_of second in
+        let rest = drop second.count (drop first.count first.streams) in
+        let a = length-append xs (ys ++ rest) in
+        let b = length-append ys rest in
+        let c = length-drop second.count (drop first.count first.streams) in
+        let d = length-drop first.count first.streams in
+        omega (arith, a, b, c, d, one.eight, one.long, two.long, one.count_high, few)
+
+    reads : (i : ℕ) → record_at (streams_of first ++ (streams_of second ++ drop second.count (drop first.count first.streams))) i ≡ record_at (streams_of first ++ streams_of second) i
+    reads i =
+        let xs = streams_of first in
+        let ys = streams_of second in
+        let rest = drop second.count (drop first.count first.streams) in
+        ap (λ (zs : List Reservation). record_at zs i) (sym (append_assoc xs ys rest))
+        ∙ ⊎_elim
+        (λ (past : length (xs ++ ys) ≤ i).
+        let n = i - length (xs ++ ys) in
+        let place : length (xs ++ ys) + n ≡ i = omega arith in
+        let there : first.count + (second.count + n) ≡ i = omega (arith, length-append xs ys, one.long, two.long) in
+        ap (λ (m : ℕ). record_at ((xs ++ ys) ++ rest) m) (sym place)
+        ∙ get_or-append-add (xs ++ ys) rest n no_record
+        ∙ get_or-drop second.count (drop first.count first.streams) n no_record
+        ∙ get_or-drop first.count first.streams (second.count + n) no_record
+        ∙ ap (λ (m : ℕ). record_at first.streams m) there
+        ∙ ap (λ (zs : List Reservation). record_at zs i) one.are
+        ∙ listed_at xs (omega (arith, one.long, one.count_high)) i
+        ∙ get_or-eq_default xs no_record (omega (arith, length-append xs ys))
+        ∙ sym (get_or-eq_default (xs ++ ys) no_record past))
+        (λ (l : i < length (xs ++ ys)). get_or-append (xs ++ ys) rest no_record i l)
+        (le_or_lt (length (xs ++ ys)) i)
 
 -- A desk whose cells are sound is the one of its streams, and so what is proved of such holds of it.
 module _ (d : Desk) (h : sound_cells d ≡ true) where

@@ -1,15 +1,30 @@
 -- The refusals of a booking, one after the other: each way out of a function cites what is known there.
 use mathlib.Core.Path.{◌≡◌, sym}
 use Prim.Native.Nat.{ℕ, ◌≤◌, ◌<◌}
+use native.Mathlib.Omega.{arith}
 use borrow.Author.Tests.{not-false, le-leb, lt-leb, lt-ltb, le-ltb}
 use Rattle.table.specs.Refusal.{given, ◌or_next◌}
 use Rattle.table.specs.Ranges.{streams_max}
-use Rattle.table.specs.Admission.{load_of, stream_refusal}
+use Rattle.table.specs.Admission.{stream_refusal, parts_refusal, admission_of}
+use Rattle.table.specs.Reservations.{table_of_records}
+use Rattle.table.specs.declared.Table.{Table}
 use Rattle.table.proofs.Tests.{given_none, or_next_none, or_next_first}
-use Rattle.booking.specs.Book.{desk_of, count_in, table_in, shares_in, is_sound}
+use Rattle.table.proofs.Margins.{refusal_some as table_some, past_parts}
+use Rattle.booking.specs.Refusal.{refusal_number}
+use Rattle.booking.specs.declared.refusal.Refusal.{Refusal}
+use Rattle.booking.specs.declared.refusal.Refusal.TheVariants.{Table as OfTable, Limit, Stream, Desk, Unsound}
+use Rattle.booking.specs.Book.{desk_of, with_desk, count_in, table_in, shares_in, is_sound}
 use Rattle.booking.specs.Bookings.{with_stream, added, desk_refusal, add_refusal}
 use Rattle.booking.specs.declared.Book.{Book}
 use Rattle.booking.proofs.Sound.{Sound, sound_of}
+
+-- the number of a refusal is never 0
+pub refusal_some : (r : Refusal) → refusal_number r ≡ 0 → ⊥
+refusal_some (OfTable r) e = table_some r e
+refusal_some Limit e = omega arith
+refusal_some Stream e = omega arith
+refusal_some Desk e = omega arith
+refusal_some Unsound e = omega arith
 
 module _ (b : Book) (desk : ℕ) where
   -- past 31 and 30
@@ -43,14 +58,11 @@ module _ (b : Book) (desk : ℕ) where
           unfolding add_refusal ◌or_next◌ given
           add_at_limit past = rw (none, lt-leb streams_max (count_in b) space, fits, lt-ltb own_limit own_shares past)
 
+          -- past the limit, the table of all streams is refused as it is when it is opened
           module _ (kept : own_shares ≤ own_limit) where
-            abbrev load : ℕ
-            load = load_of (table_in (added b desk e p))
+            abbrev all : Table
+            all = table_in (added b desk e p)
 
-            pub add_at_load : b.span < load → 7 ≡ add_refusal b desk e p
-            unfolding add_refusal ◌or_next◌ given
-            add_at_load over = rw (none, lt-leb streams_max (count_in b) space, fits, le-ltb own_limit own_shares kept, lt-ltb b.span load over)
-
-            pub add_at_none : load ≤ b.span → 0 ≡ add_refusal b desk e p
-            unfolding add_refusal ◌or_next◌ given
-            add_at_none within-span = rw (none, lt-leb streams_max (count_in b) space, fits, le-ltb own_limit own_shares kept, le-ltb b.span load within-span)
+            pub add_at_admission : parts_refusal all ≡ 0 → admission_of all ≡ add_refusal b desk e p
+            unfolding add_refusal ◌or_next◌ given with_desk table_of_records
+            add_at_admission parts = rw (past_parts all parts, none, lt-leb streams_max (count_in b) space, fits, le-ltb own_limit own_shares kept)

@@ -9,7 +9,7 @@ use lib.ListN.{length, length-append}
 use borrow.Author.Tests.{leb-true, eqb-true, le-leb, eq-eqb, ne_eqb}
 use Rattle.table.specs.Fold.{if}
 use Rattle.table.specs.Ranges.{streams_max}
-use Rattle.table.specs.Admission.{load_of, ranges_refusal, numbers_refusal, stream_refusal, streams_refusal, admission_of, judged_shares, judged_load}
+use Rattle.table.specs.Admission.{load_of, ranges_refusal, numbers_refusal, stream_refusal, streams_refusal, parts_refusal, admission_of, judged_shares}
 use Rattle.table.specs.Reservations.{no_record, table_of_records}
 use Rattle.table.specs.declared.reservations.Reservation.{Reservation}
 use Rattle.table.proofs.Tests.{both, or_next_none, le_or_lt}
@@ -19,7 +19,7 @@ use Rattle.booking.specs.Book.{desk_of, with_desk, streams_of, streams_in, count
 use Rattle.booking.specs.Bookings.{with_stream, added}
 use Rattle.booking.specs.declared.Desk.{Desk}
 use Rattle.booking.specs.declared.Book.{Book}
-use Rattle.booking.proofs.Streams.{EachFits, streams_each, parts_fit, load_judged, shares_judged, fits_left, fits_right}
+use Rattle.booking.proofs.Streams.{EachFits, streams_each, parts_fit, shares_judged, fits_left, fits_right}
 use Rattle.booking.proofs.Cells.{cells_of, more_streams, more_sound}
 use Rattle.booking.proofs.Desks.{desk_has, first_has, second_has, desk_count, desk_each, with_count, with_each}
 
@@ -165,7 +165,7 @@ module _ (b : Book) (s : Sound b) where
           unused = s.unused;
         }
 
-  -- With a stream more, whose reservation is in order, the cells are sound, each stream is in order, and shares and load are judged.
+  -- With a stream more, whose reservation is in order, the cells are sound, each stream is in order, nothing of 1 to 6 is refused, and the shares are judged.
   module _ (desk e p : ℕ) (space : count_in b < streams_max) where
     abbrev own : Desk
     own = with_stream (desk_of b desk) e p
@@ -203,10 +203,10 @@ module _ (b : Book) (s : Sound b) where
       pub added_fits : EachFits b.worst b.span b.padding (streams_in (added b desk e p))
       added_fits = added_each (Fits b) sound_fits passes
 
-      pub added_load : judged_load (table_in (added b desk e p)) ≡ load_of (table_in (added b desk e p))
+      pub added_parts : parts_refusal (table_in (added b desk e p)) ≡ 0
       unfolding with_desk
-      added_load =
-          load_judged b.worst b.span b.padding (streams_in (added b desk e p)) sound_ranges (omega (arith, added_long)) (omega (arith, added_long)) added_fits
+      added_parts =
+          parts_fit b.worst b.span b.padding (streams_in (added b desk e p)) sound_ranges (omega (arith, added_long)) (omega (arith, added_long)) added_fits
 
       pub added_shares : judged_shares (table_with b (streams_of own)) ≡ shares_in b own
       added_shares =

@@ -5,9 +5,14 @@ use Rattle.table.specs.Ranges.{streams_max}
 use Rattle.table.specs.Admission.{shares_of, ranges_refusal, admission_of}
 use Rattle.table.specs.Reservations.{record_at, lent_table}
 use Rattle.table.specs.declared.Table.{Table}
+use Rattle.table.specs.declared.numbers.Numbers.{Numbers}
 use Rattle.table.specs.declared.reservations.Reservation.{Reservation}
 use Rattle.booking.specs.declared.Desk.{Desk}
 use Rattle.booking.specs.declared.Book.{Book}
+
+-- "W, H and k are fixed first."
+abbrev pub numbers_of : Book → Numbers
+numbers_of b = record { worst = b.worst; span = b.span; padding = b.padding }
 
 -- desk 1 and desk 2; a number that is neither is refused before it is looked at
 unfoldable pub desk_of : Book → ℕ → Desk

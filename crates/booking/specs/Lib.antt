@@ -1,3 +1,4 @@
+pub mod Refusal
 pub mod Book
 pub mod Bookings
 pub mod Laws

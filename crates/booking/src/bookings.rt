@@ -1,65 +1,61 @@
 // The bookings, by value: each hands the table back beside its reply.
-ghost use Rattle.std.specs.Prelude.{◌≡◌};
-ghost use Rattle.booking.specs.Bookings.{accepted, refused, booked, zero_book, begun_of, desk_refusal, add_refusal, withdraw_refusal, add_of, withdraw_of, booking_of, finished_of, closed_of};
+ghost use Rattle.std.specs.Prelude.{◌≡◌, IfOk};
+ghost use Rattle.booking.specs.Refusal.{refusal_number, refused_by};
+ghost use Rattle.booking.specs.Book.{desk_of};
+ghost use Rattle.booking.specs.Bookings.{accepted, refused, booked, zero_book, begun_of, with_stream, without_stream, desk_refusal, add_refusal, withdraw_refusal, add_of, withdraw_of, booking_of, finished_of, closed_of};
 
+use crate::refusal::Refusal;
 use crate::{Book, Booked, Booking, Closed, Desk, Finished, Receipt};
-use table::{Table, ranges_refusal, stream_refusal};
+use table::{Numbers, Records, Reservation, Table};
 
 impl Book {
     pub const DESKS: u64 = 2;
 
     // Begins a table with W, H, k and the limits of desk 1 and desk 2: 2, 3, 4, and then the table is all zero.
-    pub fn begin(worst: u32, span: u32, padding: u32, limit1: u64, limit2: u64) -> Booked
-        ensures { result ≡ begun_of worst span padding limit1 limit2 }
+    pub fn begin(numbers: Numbers, limit1: u64, limit2: u64) -> Booked
+        ensures { result ≡ begun_of numbers.worst numbers.span numbers.padding limit1 limit2 }
     {
-        let refusal = ranges_refusal(worst, span, padding);
-        if refusal != 0 {
-            return refuse(Self::zero(), refusal);
+        match numbers.ranges_refusal() {
+            Ok(()) => {
+                let book = Book {
+                    worst: numbers.worst,
+                    span: numbers.span,
+                    padding: numbers.padding,
+                    unused: 0,
+                    first: Desk::empty(limit1),
+                    second: Desk::empty(limit2),
+                };
+                accepted(book, 0)
+            }
+            Err(refusal) => refused(Self::zero(), Refusal::from(refusal)),
         }
-        let first = Desk::empty(limit1);
-        let second = Desk::empty(limit2);
-        let book = Book {
-            worst,
-            span,
-            padding,
-            unused: 0,
-            first,
-            second,
-        };
-        accept(book, 0)
     }
 
     // The same, whatever the table was before.
-    pub fn begin_anew(self, worst: u32, span: u32, padding: u32, limit1: u64, limit2: u64) -> Booked
-        ensures { result ≡ begun_of worst span padding limit1 limit2 }
+    pub fn begin_anew(self, numbers: Numbers, limit1: u64, limit2: u64) -> Booked
+        ensures { result ≡ begun_of numbers.worst numbers.span numbers.padding limit1 limit2 }
     {
-        Self::begin(worst, span, padding, limit1, limit2)
+        Self::begin(numbers, limit1, limit2)
     }
 
     // A stream more of a desk: 31, 30, 1, 5, 6, 18, 7.
     pub fn add(self, desk: u64, reserved: u32, period: u32) -> Booked
         ensures { result ≡ add_of self desk reserved period }
     {
-        let refusal = self.add_refusal(desk, reserved, period);
-        if refusal != 0 {
-            return refuse(self, refusal);
+        match self.with_more(desk, Reservation { reserved, period }) {
+            Ok(own) => accepted(self.with_desk(desk, own), own.count),
+            Err(refusal) => refused(self, refusal),
         }
-        let own = self.desk(desk);
-        let next = own.with_stream(reserved, period);
-        accept(self.with_desk(desk, next), next.count)
     }
 
     // One stream less of a desk, by its number among its own: 31, 30, 19.
     pub fn withdraw(self, desk: u64, number: u64) -> Booked
         ensures { result ≡ withdraw_of self desk number }
     {
-        let refusal = self.withdraw_refusal(desk, number);
-        if refusal != 0 {
-            return refuse(self, refusal);
+        match self.with_fewer(desk, number) {
+            Ok(own) => accepted(self.with_desk(desk, own), own.count),
+            Err(refusal) => refused(self, refusal),
         }
-        let own = self.desk(desk);
-        let next = own.without_stream(number);
-        accept(self.with_desk(desk, next), next.count)
     }
 
     // Either.
@@ -80,10 +76,9 @@ impl Book {
     pub fn finish(self) -> Closed
         ensures { result ≡ closed_of self }
     {
-        let finished = self.finished();
         Closed {
             book: self,
-            finished,
+            finished: self.finished(),
         }
     }
 
@@ -91,14 +86,14 @@ impl Book {
         ensures { result ≡ finished_of self }
     {
         if self.is_sound() {
-            let records = self.records();
-            return Finished { number: 0, records };
+            return Finished {
+                number: 0,
+                records: self.records(),
+            };
         }
-        let none = Desk::empty(0);
-        let records = none.records();
         Finished {
-            number: 31,
-            records,
+            number: Refusal::Unsound.number(),
+            records: Records::default(),
         }
     }
 
@@ -106,75 +101,57 @@ impl Book {
     pub fn zero() -> Book
         ensures { result ≡ zero_book }
     {
-        let none = Desk::empty(0);
-        Book {
-            worst: 0,
-            span: 0,
-            padding: 0,
-            unused: 0,
-            first: none,
-            second: none,
-        }
+        Self::default()
     }
 
-    // 31 and 30: the table handed in, and the desk.
-    fn desk_refusal(self, desk: u64) -> u64
-        ensures { result ≡ desk_refusal self desk }
+    // A desk of a sound table: 31 and 30.
+    fn own(self, desk: u64) -> Result<Desk, Refusal>
+        ensures number { refused_by result ≡ desk_refusal self desk }
+        ensures value { IfOk result (λ own. own ≡ desk_of self desk) }
     {
         if !self.is_sound() {
-            return 31;
+            return Err(Refusal::Unsound);
         }
-        if (desk < 1) | (Self::DESKS < desk) {
-            30
-        } else {
-            0
+        match desk {
+            1 => Ok(self.first),
+            2 => Ok(self.second),
+            _ => Err(Refusal::Desk),
         }
     }
 
-    fn add_refusal(self, desk: u64, reserved: u32, period: u32) -> u64
-        ensures { result ≡ add_refusal self desk reserved period }
+    // A desk with a stream more.
+    fn with_more(self, desk: u64, stream: Reservation) -> Result<Desk, Refusal>
+        ensures number { refused_by result ≡ add_refusal self desk stream.reserved stream.period }
+        ensures value { IfOk result (λ own. own ≡ with_stream (desk_of self desk) stream.reserved stream.period) }
     {
-        let first = self.desk_refusal(desk);
-        if first != 0 {
-            return first;
-        }
+        let old = self.own(desk)?;
         if Table::STREAMS_MAX <= self.count() {
-            return 1;
+            return Err(Refusal::Table(table::Refusal::Streams));
         }
-        let stream = stream_refusal(self.worst, self.span, self.padding, reserved, period);
-        if stream != 0 {
-            return stream;
+        self.numbers().stream_refusal(stream)?;
+        let own = old.with_stream(stream);
+        if own.limit < self.shares(own) {
+            return Err(Refusal::Limit);
         }
-        let old = self.desk(desk);
-        let own = old.with_stream(reserved, period);
-        let shares = self.shares(own);
-        if own.limit < shares {
-            return 18;
-        }
-        let next = self.with_desk(desk, own);
-        let table = next.table();
-        let load = table.load();
-        if (self.span as u64) < load { 7 } else { 0 }
+        self.with_desk(desk, own).table().admission()?;
+        Ok(own)
     }
 
-    fn withdraw_refusal(self, desk: u64, number: u64) -> u64
-        ensures { result ≡ withdraw_refusal self desk number }
+    // A desk with the stream of a number less.
+    fn with_fewer(self, desk: u64, number: u64) -> Result<Desk, Refusal>
+        ensures number { refused_by result ≡ withdraw_refusal self desk number }
+        ensures value { IfOk result (λ own. own ≡ without_stream (desk_of self desk) number) }
     {
-        let first = self.desk_refusal(desk);
-        if first != 0 {
-            return first;
+        let old = self.own(desk)?;
+        if (number < 1) | ((old.count as u64) < number) {
+            return Err(Refusal::Stream);
         }
-        let own = self.desk(desk);
-        if (number < 1) | ((own.count as u64) < number) {
-            19
-        } else {
-            0
-        }
+        Ok(old.without_stream(number))
     }
 }
 
 // 0, and the desk's own count.
-fn accept(book: Book, count: usize) -> Booked
+fn accepted(book: Book, count: usize) -> Booked
     ensures { result ≡ booked book (accepted count) }
 {
     let receipt = Receipt {
@@ -185,9 +162,12 @@ fn accept(book: Book, count: usize) -> Booked
 }
 
 // The number of a refusal, and 0: the table is what it was.
-fn refuse(book: Book, number: u64) -> Booked
-    ensures { result ≡ booked book (refused number) }
+fn refused(book: Book, refusal: Refusal) -> Booked
+    ensures { result ≡ booked book (refused (refusal_number refusal)) }
 {
-    let receipt = Receipt { number, value: 0 };
+    let receipt = Receipt {
+        number: refusal.number(),
+        value: 0,
+    };
     Booked { book, receipt }
 }

@@ -3,20 +3,21 @@
 
 mod bookings;
 mod lent;
+mod refusal;
 mod soundness;
 
 ghost use Rattle.std.specs.Prelude.{◌≡◌, true, ◌≤◌, ◌<◌};
 ghost use Rattle.table.specs.Ranges.{streams_max};
 ghost use Rattle.table.specs.Admission.{judged_shares};
 ghost use Rattle.table.specs.Reservations.{records_of};
-ghost use Rattle.booking.specs.Book.{desk_of, with_desk, streams_of, streams_in, count_in, table_with, table_in, sound_cells};
+ghost use Rattle.booking.specs.Book.{numbers_of, with_desk, streams_of, streams_in, count_in, table_with, table_in, sound_cells};
 ghost use Rattle.booking.specs.Bookings.{empty_desk, with_stream, without_stream};
 
-use table::{Records, Reservation, Table};
+use table::{Numbers, Records, Reservation, Table, closed_up};
 
 // What one desk has booked, and the limit on the sum of its streams' shares. Of its eight cells the first `count` are used, in order of booking; the others are 0.
 #[repr(C)]
-#[derive(Clone, Copy)]
+#[derive(Clone, Copy, Debug, Default, PartialEq, Eq)]
 pub struct Desk {
     pub limit: u64,
     pub count: usize,
@@ -25,7 +26,7 @@ pub struct Desk {
 
 // The numbers of the whole table, and both desks. The cell `unused` is 0, and is there so that no byte is padding.
 #[repr(C)]
-#[derive(Clone, Copy)]
+#[derive(Clone, Copy, Debug, Default, PartialEq, Eq)]
 pub struct Book {
     pub worst: u32,
     pub span: u32,
@@ -37,14 +38,14 @@ pub struct Book {
 
 // The reply to a booking: 0 and how many streams the desk has then, or the number of a refusal and 0.
 #[repr(C)]
-#[derive(Clone, Copy)]
+#[derive(Clone, Copy, Debug, Default, PartialEq, Eq)]
 pub struct Receipt {
     pub number: u64,
     pub value: u64,
 }
 
 // What a booking comes to.
-#[derive(Clone, Copy)]
+#[derive(Clone, Copy, Debug, PartialEq, Eq)]
 pub struct Booked {
     pub book: Book,
     pub receipt: Receipt,
@@ -52,21 +53,21 @@ pub struct Booked {
 
 // The streams of a finished table, as opening takes them, and 0; or 31, and none.
 #[repr(C)]
-#[derive(Clone, Copy)]
+#[derive(Clone, Copy, Debug, Default, PartialEq, Eq)]
 pub struct Finished {
     pub number: u64,
     pub records: Records,
 }
 
 // What finishing comes to: the table is what it was.
-#[derive(Clone, Copy)]
+#[derive(Clone, Copy, Debug, PartialEq, Eq)]
 pub struct Closed {
     pub book: Book,
     pub finished: Finished,
 }
 
 // A booking of a desk, which is 1 or 2: a stream more, or the one less that has this number among its own, counted from 1.
-#[derive(Clone, Copy)]
+#[derive(Clone, Copy, Debug, PartialEq, Eq)]
 pub enum Booking {
     Add {
         desk: u64,
@@ -80,36 +81,25 @@ pub enum Booking {
 }
 
 impl Desk {
-    const LAST: usize = 7;
-
     // A desk that has booked nothing.
     fn empty(limit: u64) -> Desk
         ensures { result ≡ empty_desk limit }
     {
-        let none = Reservation {
-            reserved: 0,
-            period: 0,
-        };
         Desk {
             limit,
-            count: 0,
-            streams: [none; Table::STREAMS_MAX],
+            ..Desk::default()
         }
     }
 
     // The desk with a stream more, behind the others.
-    fn with_stream(self, reserved: u32, period: u32) -> Desk
+    fn with_stream(self, stream: Reservation) -> Desk
         requires { self.count < streams_max }
-        ensures { result ≡ with_stream self reserved period }
+        ensures { result ≡ with_stream self stream.reserved stream.period }
     {
-        let count = self.count;
-        let mut streams = self.streams;
-        streams[count] = Reservation { reserved, period };
-        Desk {
-            limit: self.limit,
-            count: count + 1,
-            streams,
-        }
+        let mut desk = self;
+        desk.streams[self.count] = stream;
+        desk.count += 1;
+        desk
     }
 
     // The desk without the stream of this number: those behind it close up.
@@ -117,21 +107,10 @@ impl Desk {
         requires { (1 ≤ number) × (number ≤ self.count) × (self.count ≤ streams_max) }
         ensures { result ≡ without_stream self number }
     {
-        let streams = self.streams;
-        let mut left = streams;
-        let mut i = number as usize - 1;
-        while i < Self::LAST {
-            left[i] = streams[i + 1];
-            i += 1;
-        }
-        left[Self::LAST] = Reservation {
-            reserved: 0,
-            period: 0,
-        };
         Desk {
             limit: self.limit,
             count: self.count - 1,
-            streams: left,
+            streams: closed_up(Reservation::default(), self.streams, number as usize - 1),
         }
     }
 
@@ -149,14 +128,15 @@ impl Desk {
 }
 
 impl Book {
-    // Desk 1, or else desk 2.
-    fn desk(self, desk: u64) -> Desk
-        ensures { result ≡ desk_of self desk }
+    // W, H and k.
+    fn numbers(self) -> Numbers
+        ensures { result ≡ numbers_of self }
     {
-        if desk == 1 {
-            return self.first;
+        Numbers {
+            worst: self.worst,
+            span: self.span,
+            padding: self.padding,
         }
-        self.second
     }
 
     // The same table, of which that desk is another.
@@ -177,30 +157,21 @@ impl Book {
         requires { (self.first.count ≤ streams_max) × (self.second.count ≤ streams_max) }
         ensures { result ≡ count_in self }
     {
-        let first = self.first;
-        let second = self.second;
-        first.count + second.count
+        self.first.count + self.second.count
     }
 
     // All streams, desk 1's first and then desk 2's, as opening takes them.
+    // It asks the same as `table` and `table_refusal`: a struct that keeps it would have to be made by each caller, from other tests each time.
     fn records(self) -> Records
         requires { (sound_cells self.first ≡ true) × (sound_cells self.second ≡ true) × (count_in self ≤ streams_max) }
         ensures { result ≡ records_of (streams_in self) }
     {
-        let first = self.first;
         let second = self.second;
-        let streams = second.streams;
-        let at = first.count;
-        let mut rows = first.streams;
-        let mut i: usize = 0;
-        while i < second.count {
-            rows[at + i] = streams[i];
-            i += 1;
-        }
-        Records {
-            rows,
-            count: at + second.count,
-        }
+        let at = self.first.count;
+        let count = self.count();
+        let mut rows = self.first.streams;
+        rows[at..count].copy_from_slice(&second.streams[..second.count]);
+        Records { rows, count }
     }
 
     // The sum of a desk's own shares, where 1 to 6 refuse no table of its streams, and else 0.
@@ -208,9 +179,7 @@ impl Book {
         requires { sound_cells desk ≡ true }
         ensures { result ≡ judged_shares (table_with self (streams_of desk)) }
     {
-        let records = desk.records();
-        let table = Table::of(self.worst, self.span, self.padding, records);
-        table.shares()
+        Table::of(self.numbers(), desk.records()).shares()
     }
 
     // The table of all streams.
@@ -218,7 +187,6 @@ impl Book {
         requires { (sound_cells self.first ≡ true) × (sound_cells self.second ≡ true) × (count_in self ≤ streams_max) }
         ensures { result ≡ table_in self }
     {
-        let records = self.records();
-        Table::of(self.worst, self.span, self.padding, records)
+        Table::of(self.numbers(), self.records())
     }
 }

@@ -1,10 +1,12 @@
 // Which booking tables are sound: what breaks none of 2 to 7, no limit and no unused cell.
-ghost use Rattle.std.specs.Prelude.{◌≡◌, true, ◌≤◌};
+ghost use Rattle.std.specs.Prelude.{◌≡◌, true, ℕ, ◌<◌, ◌≤◌, ◌↔◌, length, slice_index_or, IsTrue};
+ghost use Rattle.table.specs.Reservations.{no_record};
 ghost use Rattle.table.specs.Ranges.{streams_max};
-ghost use Rattle.booking.specs.Book.{count_in, empty_cell, sound_cells, table_refusal, is_sound};
+ghost use Rattle.table.specs.Refusal.{refused_by};
+ghost use Rattle.booking.specs.Book.{count_in, sound_cells, table_refusal, is_sound};
 
 use crate::{Book, Desk};
-use table::{Reservation, Table, ranges_refusal};
+use table::{Refusal, Reservation, Table};
 
 impl Book {
     // Whether the table is sound.
@@ -19,7 +21,7 @@ impl Book {
         if Table::STREAMS_MAX < self.count() {
             return false;
         }
-        if self.table_refusal() != 0 {
+        if self.table_refusal().is_err() {
             return false;
         }
         (self.shares(first) <= first.limit)
@@ -28,15 +30,15 @@ impl Book {
     }
 
     // 2 to 7: without streams, which have no load, 2 to 4 are left.
-    fn table_refusal(self) -> u64
+    fn table_refusal(self) -> Result<(), Refusal>
         requires { (sound_cells self.first ≡ true) × (sound_cells self.second ≡ true) × (count_in self ≤ streams_max) }
-        ensures { result ≡ table_refusal self }
+        ensures { refused_by result ≡ table_refusal self }
     {
         if self.count() == 0 {
-            return ranges_refusal(self.worst, self.span, self.padding);
+            return self.numbers().ranges_refusal();
         }
-        let admission = self.table().admission();
-        admission.number()
+        self.table().admission()?;
+        Ok(())
     }
 }
 
@@ -48,20 +50,13 @@ impl Desk {
         if Table::STREAMS_MAX < self.count {
             return false;
         }
-        let streams = self.streams;
-        let mut empty = true;
-        let mut i: usize = 0;
-        while i < Table::STREAMS_MAX {
-            empty = empty & ((i < self.count) | is_empty(streams[i]));
-            i += 1;
-        }
-        empty
+        are_empty(&self.streams[self.count..])
     }
 }
 
-// Whether a cell is unused.
-fn is_empty(cell: Reservation) -> bool
-    ensures { result ≡ empty_cell cell }
+// Whether cells are unused.
+fn are_empty(cells: &[Reservation]) -> bool
+    ensures { IsTrue result ↔ ((k : ℕ) → k < length cells.now → slice_index_or cells.now k no_record ≡ no_record) }
 {
-    (cell.reserved == 0) & (cell.period == 0)
+    cells.iter().all(|cell| *cell == Reservation::default())
 }

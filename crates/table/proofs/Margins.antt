@@ -1,4 +1,5 @@
 -- What admission answers, and the laws of margins.
+use mathlib.Core.Bool.{true, false, false≢true}
 use mathlib.Core.Path.{◌≡◌, refl, sym, subst, ◌∙◌, ap}
 use mathlib.Core.Logic.{◌⊎◌, inl, inr, ⊎_elim}
 use Prim.Native.Nat.{ℕ, zero, suc, ◌-◌, ◌≤◌, ◌<◌}
@@ -7,9 +8,10 @@ use lib.Dec.{ltb, le→leb, ltb→lt, lit≤}
 use lib.IntN.{ℤ, pos, negsuc, +ℤ_comm, -ℤ-+ℤ_cancel}
 use lib.Signed.{◌≤ℤ◌, ◌<ℤ◌}
 use borrow.Author.Tests.{lt-ltb, le-ltb, ne_eqb}
-use Rattle.std.proofs.Common.{Ok, Err}
+use Rattle.std.proofs.Common.{Result, Ok, Err}
+use Rattle.std.specs.Result.{is_err}
 use Rattle.table.specs.Fold.{if}
-use Rattle.table.specs.Refusal.{given, ◌or_next◌, refusal_number}
+use Rattle.table.specs.Refusal.{given, ◌or_next◌, refusal_number, refused_by}
 use Rattle.table.specs.Admission.{load_of, numbers_refusal, stream_refusal, stream_refusal_at, streams_refusal, parts_refusal, admission_of}
 use Rattle.table.specs.Whole.{below_zero}
 use Rattle.table.specs.Margin.{margin_of, margin, refusal_of, refusal_margin, answered, answer_of, number_in, margin_in}
@@ -32,6 +34,10 @@ unfolding admission_of parts_refusal
 in_order t = or_next_assoc _ _ _
 
 -- where 1 to 6 refuse nothing, the load decides
+pub past_parts : (t : Table) → parts_refusal t ≡ 0 → admission_of t ≡ given (ltb t.span (load_of t)) 7
+unfolding ◌or_next◌
+past_parts t z = rw (in_order t, z)
+
 pub load_fits : (t : Table) → parts_refusal t ≡ 0 → load_of t ≤ t.span → admission_of t ≡ 0
 unfolding ◌or_next◌ given
 load_fits t z l = rw (in_order t, z, le-ltb _ _ l)
@@ -115,6 +121,15 @@ refusal_some Padding e = omega arith
 refusal_some Period e = omega arith
 refusal_some Budget e = omega arith
 refusal_some (Load m) e = omega arith
+
+-- so what is answered tells whether anything is refused
+pub refused_some : {A : Type 0} (r : Result A Refusal) → is_err r ≡ true → refused_by r ≡ 0 → ⊥
+refused_some (Ok x) e z = absurd (false≢true e)
+refused_some (Err r) e z = refusal_some r z
+
+pub refused_none : {A : Type 0} (r : Result A Refusal) → is_err r ≡ false → refused_by r ≡ 0
+refused_none (Ok x) e = refl
+refused_none (Err r) e = absurd (false≢true (sym e))
 
 -- the refusals of 1 to 6, and back
 refusal_is : (r : Refusal) (m : ℤ) → refusal_number r ≤ 6 → refusal_of (refusal_number r) m ≡ r

@@ -1,16 +1,15 @@
--- `Book::begin` gives the refusal of W, H or k beside the all-zero table, or a table of two desks that have booked nothing.
-use mathlib.Core.Path.{sym, ◌∙◌}
+-- `Book::begin` gives the refusal of W, H and k, or a table of two desks that have booked nothing.
 use borrow.Author.Tests.{ne_eqb}
 use Rattle.table.specs.Fold.{if}
+use Rattle.table.proofs.Margins.{refusal_some}
 use Rattle.booking.specs.Bookings.{begun_of}
 use Rattle.booking.proofs.Book.begin.Goals as goal
 
-pub returns-then-refusal-ne0 : goal.returns-then-refusal-ne0
+pub returns-in-Ok : goal.returns-in-Ok
 unfolding begun_of if
-returns-then-refusal-ne0 c = rw (c.refuse.ensures, c.zero.ensures, ← c.ranges_refusal-refusal.ensures, ne_eqb _ 0 c.if-refusal-ne0.true)
+returns-in-Ok c = rw (c.accepted.ensures, c.empty.ensures, c.empty-in-Ok.ensures, ← c.in-Ok.ensures)
 
-pub returns : goal.returns
+pub returns-in-Err : goal.returns-in-Err
 unfolding begun_of if
-returns c =
-    let no = sym c.ranges_refusal-refusal.ensures ∙ c.if-refusal-ne0.false in
-    rw (c.accept.ensures, c.empty-second.ensures, c.empty-first.ensures, no)
+returns-in-Err c =
+    rw (c.refused.ensures, c.zero.ensures, c.from.ensures, ← c.in-Err.ensures, ne_eqb _ 0 (refusal_some c.in-Err.refusal))

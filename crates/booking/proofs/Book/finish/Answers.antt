@@ -2,4 +2,4 @@
 use Rattle.booking.proofs.Book.finish.Goals as goal
 
 pub returns : goal.returns
-returns c = rw c.finished-finished.ensures
+returns c = rw c.finished.ensures

@@ -1,30 +1,26 @@
 -- `Book::finished` gives the streams of a sound table, and else 31 and none.
-use mathlib.Core.Bool.{true}
-use mathlib.Core.Path.{◌≡◌, refl, sym, ◌∙◌}
-use Rattle.table.specs.Fold.{if, all_to}
-use Rattle.booking.specs.Book.{empty_cell, sound_cells}
-use Rattle.booking.specs.Bookings.{finished_of, empty_desk}
+use lib.ListN.{replicate}
+use mathlib.Core.Path.{◌≡◌, sym, ◌∙◌}
+use native.Mathlib.Omega.{arith}
+use Rattle.std.proofs.lemmas.Grind.{common_steps}
+use Rattle.table.specs.Fold.{if, list_to}
+use Rattle.table.specs.Reservations.{no_record, records_of}
+use Rattle.table.specs.Ranges.{streams_max}
+use Rattle.booking.specs.Bookings.{finished_of}
 use Rattle.booking.proofs.Sound.{sound_of}
 use Rattle.booking.proofs.Book.finished.Goals as goal
 
--- a desk that has booked nothing has no stream
-none-sound : sound_cells (empty_desk 0) ≡ true
-unfolding sound_cells empty_cell all_to
-none-sound = refl
-
-pub records-records-requires : goal.records-records-requires
-records-records-requires c =
+pub records-requires : goal.records-requires
+records-requires c =
     let s = sound_of _ (sym c.is_sound.ensures ∙ c.if-is_sound.true) in
     (s.first, s.second, s.count_high)
 
 pub returns-then-is_sound : goal.returns-then-is_sound
 unfolding finished_of if
-returns-then-is_sound c = rw (sym c.is_sound.ensures ∙ c.if-is_sound.true, c.records-records.ensures)
-
-pub records-records-requires-2 : goal.records-records-requires-2
-records-records-requires-2 c = rw c.empty-none.ensures none-sound
+returns-then-is_sound c = rw (sym c.is_sound.ensures ∙ c.if-is_sound.true, c.records.ensures)
 
 pub returns : goal.returns
-unfolding finished_of if
+unfolding finished_of if records_of list_to
 returns c =
-    rw (sym c.is_sound.ensures ∙ c.if-is_sound.false, c.records-records-2.ensures, c.empty-none.ensures)
+    let none : c.default.result ≡ record { rows = replicate streams_max no_record; count = 0 } = grind (arith, common_steps) in
+    rw (← c.if-is_sound.ensures, c.number.ensures, none)

@@ -6,6 +6,7 @@ use lib.Dec.{eqb}
 use borrow.Author.Tests.{le-leb, lt-leb, ne_eqb}
 use Rattle.table.specs.Ranges.{streams_max}
 use Rattle.table.proofs.Tests.{both}
+use Rattle.table.proofs.Margins.{refused_some, refused_none}
 use Rattle.booking.specs.Book.{count_in, sound_cells, table_refusal, keeps_limit, is_sound}
 use Rattle.booking.specs.declared.Book.{Book}
 use Rattle.booking.proofs.Cells.{cells_of}
@@ -55,21 +56,22 @@ few c = rw c.count.ensures at c.if-count-gt-STREAMS_MAX.false
 pub table_refusal-requires : goal.table_refusal-requires
 table_refusal-requires c = let cells = cells-pass c.before.before in (cells.0, cells.1, few c)
 
-pub returns-then-table_refusal-ne0 : goal.returns-then-table_refusal-ne0
-returns-then-table_refusal-ne0 c =
-    sym (at-refusal _ (cells-pass c.before.before.before.before) (few c.before.before) (λ none. c.if-table_refusal-ne0.true (c.table_refusal.ensures ∙ none)))
+pub returns-then-is_err : goal.returns-then-is_err
+returns-then-is_err c =
+    let some = refused_some c.table_refusal.result (sym c.if-is_err.ensures.value) in
+    sym (at-refusal _ (cells-pass c.before.before.before.before.before.before) (few c.before.before.before.before) (λ none. some (c.table_refusal.ensures ∙ none)))
 
 pub shares-requires : goal.shares-requires
-shares-requires c = (cells-pass c.before.before.before.before).0
+shares-requires c = (cells-pass c.before.before.before.before.before.before).0
 
 pub shares-requires-2 : goal.shares-requires-2
-shares-requires-2 c = (cells-pass c.before.before.before.before.before.before).1
+shares-requires-2 c = (cells-pass c.before.before.before.before.before.before.before.before).1
 
 pub returns : goal.returns
 unfolding keeps_limit
 returns c =
-    let cells = cells-pass c.before.before.before.before.before.before.before.before.before in
-    let small = few c.before.before.before.before.before.before.before in
-    let none = sym c.table_refusal.ensures ∙ c.if-table_refusal-ne0.false in
+    let cells = cells-pass c.before.before.before.before.before.before.before.before.before.before.before in
+    let small = few c.before.before.before.before.before.before.before.before.before in
+    let none = sym c.table_refusal.ensures ∙ refused_none c.table_refusal.result (sym c.if-is_err.ensures.value) in
     let judged = desks_judged _ cells.0 cells.1 small none in
     rw (at-limits _ cells small none, ← judged.0, ← judged.1, ← c.shares.ensures, ← c.shares-2.ensures)

@@ -6,14 +6,14 @@ use Rattle.table.specs.declared.reservations.Records.{Records}
 use Rattle.table.proofs.LentTables.{taken_table}
 use Rattle.booking.proofs.Book.shares.Goals as goal
 
-pub records-records-requires : goal.records-records-requires
-records-records-requires c = c.requires
+pub records-requires : goal.records-requires
+records-requires c = c.requires
 
 pub returns : goal.returns
 returns c =
     let b = c.args.self in
     let table =
-    c.of-table.ensures
-    ∙ ap (λ (r : Records). table_of_records b.worst b.span b.padding r.rows r.count) c.records-records.ensures
+    (rw c.numbers.ensures at c.of.ensures)
+    ∙ ap (λ (r : Records). table_of_records b.worst b.span b.padding r.rows r.count) c.records.ensures
     ∙ taken_table b.worst b.span b.padding _ in
     c.shares.ensures ∙ ap judged_shares table

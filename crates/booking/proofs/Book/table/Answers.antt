@@ -5,12 +5,12 @@ use Rattle.table.specs.declared.reservations.Records.{Records}
 use Rattle.table.proofs.LentTables.{taken_table}
 use Rattle.booking.proofs.Book.table.Goals as goal
 
-pub records-records-requires : goal.records-records-requires
-records-records-requires c = c.requires
+pub records-requires : goal.records-requires
+records-requires c = c.requires
 
 pub returns : goal.returns
 returns c =
     let b = c.args.self in
-    c.of.ensures
-    ∙ ap (λ (r : Records). table_of_records b.worst b.span b.padding r.rows r.count) c.records-records.ensures
+    (rw c.numbers.ensures at c.of.ensures)
+    ∙ ap (λ (r : Records). table_of_records b.worst b.span b.padding r.rows r.count) c.records.ensures
     ∙ taken_table b.worst b.span b.padding _

@@ -1,38 +1,26 @@
-use mathlib.Core.Bool.{◌||◌}
-use mathlib.Core.Path.{◌≡◌, refl, ap, ◌∙◌}
-use native.Mathlib.Numerals.{add-one}
+-- `Desk::is_sound` tests the count, and that the cells past it are unused.
+use mathlib.Core.Path.{◌≡◌}
 use native.Mathlib.Omega.{arith}
-use lib.Dec.{ltb}
-use lib.ListN.{length, length-map}
-use borrow.Author.Tests.{eq-eqb, le-leb, lt-leb}
-use Rattle.table.specs.Fold.{all_to}
+use lib.ListN.{length, take, drop, length-drop}
+use lib.Seq.{take_all}
+use Prim.Native.Nat.{◌-◌}
+use borrow.Author.Tests.{eq-eqb, lt-leb}
+use borrow.Author.Rules.{rules}
 use Rattle.table.specs.Ranges.{streams_max}
-use Rattle.table.specs.Reservations.{record_at}
-use Rattle.booking.specs.Book.{empty_cell, sound_cells}
-use Rattle.table.specs.contracts.reservations.Reservation as Cells
+use Rattle.booking.specs.Book.{sound_cells}
+use Rattle.booking.proofs.Cells.{sound_by}
 use Rattle.booking.proofs.Desk.is_sound.Goals as goal
 
 pub returns-then-self-gt-STREAMS_MAX : goal.returns-then-self-gt-STREAMS_MAX
 unfolding sound_cells
 returns-then-self-gt-STREAMS_MAX c =
     let self = c.args.self in
-    rw (eq-eqb (length self.streams) streams_max (omega (arith, c.well_formed, length-map self.streams (Cells.the_type).to)), lt-leb self.count streams_max c.if-self-gt-STREAMS_MAX.true)
-
-pub loop-i-init : goal.loop-i-init
-unfolding all_to
-loop-i-init c = (omega arith, refl)
-
-pub loop-i-preserved : goal.loop-i-preserved
-unfolding all_to
-loop-i-preserved c =
-    let at = c.loop-i in
-    (omega arith, rw (add-one at.i, ← at.invariant.1, c.is_empty.ensures))
+    let eight : length self.streams ≡ streams_max = search rules in
+    rw (eq-eqb (length self.streams) streams_max eight, lt-leb self.count streams_max c.if-self-gt-STREAMS_MAX.true)
 
 pub returns : goal.returns
-unfolding sound_cells
 returns c =
     let self = c.args.self in
-    let at = c.loop-i in
-    let past : at.i ≡ streams_max = omega (arith, at.invariant.0) in
-    let long = eq-eqb (length self.streams) streams_max (omega (arith, c.well_formed, length-map self.streams (Cells.the_type).to)) in
-    rw (long, le-leb self.count streams_max c.if-self-gt-STREAMS_MAX.false) (at.invariant.1 ∙ ap (all_to (λ j. ltb j self.count || empty_cell (record_at self.streams j))) past)
+    let eight : length self.streams ≡ streams_max = search rules in
+    let whole : take (length self.streams - self.count) (drop self.count self.streams) ≡ drop self.count self.streams = take_all _ _ (omega (arith, eight, length-drop self.count self.streams)) in
+    sound_by self c.are_empty.result eight c.if-self-gt-STREAMS_MAX.false (rw whole at c.are_empty.ensures)

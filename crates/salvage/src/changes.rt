@@ -2,8 +2,8 @@
 ghost use Rattle.std.specs.Prelude.{◌≤◌};
 ghost use Rattle.repair.specs.Pieces.{table_end_max};
 
-use crate::pieces::{go_to, is_at_end};
-use crate::say::print;
+use crate::failure::Failure;
+use crate::pieces::{check_end, go_to, read_piece};
 use file::{Event, Form};
 use repair::{Change, Rest, Taken};
 use std::io;
@@ -12,79 +12,48 @@ use std::io::{Read, Seek};
 // A place for each event of a piece, and for a torn rest.
 const PLACES: usize = 4_097;
 
-// What is left of the trace, whether there may be more of it, and whether it could not be read on.
-#[derive(Clone, Copy)]
-struct Printed {
-    rest: Rest,
-    more: bool,
-    failed: bool,
-}
-
-// Prints the list of changes, and answers whether the file could be read to its end.
+// Prints the list of changes, as far as the file can be read.
 pub(crate) fn print_changes<F: Read + Seek>(
     rt: &impl Print,
     old: &mut F,
     head: &[u8],
     taken: Taken,
     kept: usize,
-) -> io::Result<bool>
+) -> Result<(), Failure>
     requires { taken.start ≤ table_end_max }
 {
-    if !go_to(old, taken.start) {
-        return Ok(false);
-    }
+    go_to(old, taken.start)?;
     if !file::has_contents(head, Form::Two, taken.count, kept) {
-        let contents = Change::contents();
-        print(rt, contents.line())?;
+        print_change(rt, Change::contents())?;
     }
-    let rest = Rest {
+    let mut rest = Rest {
         at: taken.start as u64,
         room: Event::MOST,
     };
-    let mut printed = Printed {
-        rest,
-        more: true,
-        failed: false,
-    };
+    let mut piece = [0u8; given::FILE_ROOM];
     for _ in 0..u64::MAX {
-        if !printed.more {
+        let len = read_piece(old, &mut piece)?;
+        rest = print_piece(rt, rest, &piece[..len])?;
+        if len < piece.len() {
             break;
         }
-        let rest = printed.rest;
-        printed = print_piece(rt, old, rest)?;
     }
-    Ok(is_at_end(old) & !printed.failed)
+    check_end(old)
 }
 
-// Reads a piece, and prints what is changed of it.
-fn print_piece(rt: &impl Print, old: &mut impl Read, rest: Rest) -> io::Result<Printed> {
-    let mut piece = [0u8; given::FILE_ROOM];
-    let Ok(len) = given::read_full(old, &mut piece) else {
-        return Ok(Printed {
-            rest,
-            more: false,
-            failed: true,
-        });
+// Prints what is changed of a piece, and answers what is left behind it. There is a place for each change, and no file is so long that a piece is refused.
+fn print_piece(rt: &impl Print, rest: Rest, piece: &[u8]) -> io::Result<Rest> {
+    let mut changes = [[0u64; 2]; PLACES];
+    let Ok(listed) = rest.list(piece, &mut changes) else {
+        return Ok(rest);
     };
-    let none = [0u64; 2];
-    let mut changes = [none; PLACES];
-    let listed = rest.list(&piece[..len], &mut changes);
-    let mut i: usize = 0;
-    while i < PLACES {
-        if i < listed.changes {
-            print_change(rt, changes[i])?;
-        }
-        i += 1;
+    for pair in changes.iter().take(listed.changes) {
+        print_change(rt, Change::from(*pair))?;
     }
-    let rest = listed.rest;
-    Ok(Printed {
-        rest,
-        more: len == piece.len(),
-        failed: false,
-    })
+    Ok(listed.rest)
 }
 
-fn print_change(rt: &impl Print, pair: [u64; 2]) -> io::Result<()> {
-    let change = Change::of(pair);
-    print(rt, change.line())
+fn print_change(rt: &impl Print, change: Change) -> io::Result<()> {
+    let line = change.line();
+    rt.write_all(line.as_bytes())
 }

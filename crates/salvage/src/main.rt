@@ -2,18 +2,18 @@
 #![tactic(auto)]
 
 mod changes;
+mod failure;
 mod pieces;
-mod say;
 
 ghost use Rattle.std.specs.Prelude.{◌≤◌};
 ghost use Rattle.repair.specs.Pieces.{table_end_max};
 
 use changes::print_changes;
-use file::{Event, Form, Writing};
+use failure::Failure;
+use file::{Event, Form};
 use order::Order;
-use pieces::{gather, is_at_end};
+use pieces::{check_end, gather, read_piece};
 use repair::Taken;
-use say::{print, say, unmade, unread, unwritten};
 use std::env::Env;
 use std::fs::{Files, OpenFile};
 use std::io;
@@ -22,7 +22,7 @@ use std::io::Write;
 fn main(rt: HostRuntime) -> io::Result<()> {
     let err = rt.stderr();
     if given::word_count(&rt) != 3 {
-        return say(&err, b"salvage: name the old file and the new one\n");
+        return err.print("salvage: name the old file and the new one\n");
     }
     let mut name = [0u8; given::NAME_ROOM];
     let len = given::word(&rt, 1, &mut name);
@@ -33,108 +33,61 @@ fn main(rt: HostRuntime) -> io::Result<()> {
 fn salvage<R: Env + Files + Print + Alloc>(rt: &R, err: &impl Print, old: &[u8]) -> io::Result<()> {
     let mut name = [0u8; given::NAME_ROOM];
     let len = given::word(rt, 2, &mut name);
-    salvage_as(rt, err, old, &name[..len])
-}
-
-fn salvage_as<R: Files + Print + Alloc>(
-    rt: &R,
-    err: &impl Print,
-    old: &[u8],
-    new: &[u8],
-) -> io::Result<()> {
-    let Ok(mut file) = given::open(rt, old) else {
-        return unread(err, old);
-    };
-    if !salvage_open(rt, err, &mut file, new)? {
-        unread(err, old)?;
+    let new = &name[..len];
+    match salvage_as(rt, old, new) {
+        Ok(()) => Ok(()),
+        Err(failure) => failure.say(rt, err, old, new),
     }
-    Ok(())
 }
 
-// Salvages a file that is open, and answers whether it could be read. The first bytes tell where the trace starts.
-fn salvage_open<R: Files + Print + Alloc>(
-    rt: &R,
-    err: &impl Print,
-    file: &mut R::File,
-    new: &[u8],
-) -> io::Result<bool> {
+// Salvages the old file as the new one. The first bytes tell where the trace starts.
+#[tactic(auto, using(repair::proofs::Head::trace_starts_early))]
+fn salvage_as<R: Files + Print>(rt: &R, old: &[u8], new: &[u8]) -> Result<(), Failure> {
+    let mut file = given::open(rt, old).map_err(|_| Failure::Unread)?;
     let mut head = [0u8; given::NAME_ROOM];
-    let Ok(len) = given::read_full(file, &mut head) else {
-        return Ok(false);
-    };
+    let len = read_piece(&mut file, &mut head)?;
     if len < head.len() {
-        if !is_at_end(file) {
-            return Ok(false);
-        }
+        check_end(&mut file)?;
     }
-    let taken = repair::take(&head[..len]);
-    if taken.number != 0 {
-        print(rt, listing::refused(taken.number, 0))?;
-        return Ok(true);
-    }
-    salvage_taken(rt, err, file, new, &head[..len], taken)
+    let taken = repair::take(&head[..len])?;
+    salvage_taken(rt, &mut file, new, &head[..len], taken)
 }
 
 // Goes over the trace twice: what is kept of it is written, and then what is not is printed.
-fn salvage_taken<R: Files + Print + Alloc>(
+fn salvage_taken<R: Files + Print>(
     rt: &R,
-    err: &impl Print,
     file: &mut R::File,
     new: &[u8],
     head: &[u8],
     taken: Taken,
-) -> io::Result<bool>
+) -> Result<(), Failure>
     requires { taken.start ≤ table_end_max }
 {
     let mut trace = [0u8; given::FILE_ROOM];
-    let gathered = gather(file, taken.start, &mut trace);
-    if gathered.failed {
-        return Ok(false);
+    let kept = gather(file, taken.start, &mut trace)?;
+    make(rt, new, head, &trace[..Event::SIZE * kept])?;
+    let printed = print_changes(rt, file, head, taken, kept);
+    if let Err(Failure::Unread) = printed {
+        let _ = given::remove(rt, new);
     }
-    let kept = Event::MOST - gathered.room;
-    let end = Event::SIZE * kept;
-    if !make(rt, err, new, head, &trace[..end])? {
-        return Ok(true);
-    }
-    if print_changes(rt, file, head, taken, kept)? {
-        return Ok(true);
-    }
-    let _ = given::remove(rt, new);
-    Ok(false)
+    printed
 }
 
-// Makes the new file, and answers whether it is there. The buffer holds more than the longest file.
-fn make<R: Files + Print + Alloc>(
-    rt: &R,
-    err: &impl Print,
-    new: &[u8],
-    head: &[u8],
-    trace: &[u8],
-) -> io::Result<bool> {
+// Makes the new file. The buffer holds more than the longest file.
+#[tactic(auto, using(file::proofs::Round::written_is_within))]
+fn make<R: Files>(rt: &R, new: &[u8], head: &[u8], trace: &[u8]) -> Result<(), Failure> {
     let mut file = [0u8; given::FILE_ROOM];
     let table = file::table_of(head);
-    match file::write(table, Form::Two, Order::Nearest, trace, &mut file) {
-        Writing::Written(len) => put(rt, err, new, &file[..len]),
-        Writing::Refused(number) => {
-            print(rt, listing::refused(number, 0))?;
-            Ok(false)
-        }
-    }
+    let len = file::write(table, Form::Two, Order::Nearest, trace, &mut file)?;
+    put(rt, new, &file[..len])
 }
 
 // Puts bytes into a file that was not there, or leaves none.
-fn put<R: Files + Alloc>(rt: &R, err: &impl Print, new: &[u8], bytes: &[u8]) -> io::Result<bool> {
-    let mut file = match given::create(rt, new) {
-        Ok(file) => file,
-        Err(error) => {
-            unmade(rt, err, new, error)?;
-            return Ok(false);
-        }
-    };
+fn put<R: Files>(rt: &R, new: &[u8], bytes: &[u8]) -> Result<(), Failure> {
+    let mut file = given::create(rt, new).map_err(Failure::Unmade)?;
     if file.write_all(bytes).is_ok() && file.sync_all().is_ok() {
-        return Ok(true);
+        return Ok(());
     }
     let _ = given::remove(rt, new);
-    unwritten(err, new)?;
-    Ok(false)
+    Err(Failure::Unwritten)
 }

@@ -7,7 +7,7 @@ ghost use Rattle.calls.specs.Replies.{number_of, value_of, called_stream, stream
 use time::{Charge, Clock};
 
 // Streams are counted from 1, a queue's places from 0. A tag is the host's own, and comes back as it was.
-#[derive(Clone, Copy)]
+#[derive(Clone, Copy, Debug, PartialEq, Eq)]
 pub enum Call {
     Arrival { stream: u64, place: u64, tag: u32 },
     Turn,
@@ -16,7 +16,8 @@ pub enum Call {
     Clock { time: u64 },
 }
 
-#[derive(Clone, Copy)]
+// A refusal is told by its number, since the laws of `session` speak of a reply by it (`number_of`).
+#[derive(Clone, Copy, Debug, PartialEq, Eq)]
 pub enum Reply {
     Refused {
         number: u64,
@@ -64,11 +65,8 @@ impl Call {
         ensures { result ≡ called_stream self }
     {
         match self {
-            Call::Arrival { stream, .. } => stream,
-            Call::OwnTurn { stream, .. } => stream,
-            Call::Turn => 0,
-            Call::Done { .. } => 0,
-            Call::Clock { .. } => 0,
+            Call::Arrival { stream, .. } | Call::OwnTurn { stream, .. } => stream,
+            Call::Turn | Call::Done { .. } | Call::Clock { .. } => 0,
         }
     }
 }
@@ -100,13 +98,12 @@ impl Reply {
             Reply::Refused { .. } => 0,
             Reply::Arrived { queued, .. } => queued,
             Reply::Sent { place, .. } => place,
-            Reply::Expired { charge, .. } => charge.micros(),
+            Reply::Expired { charge, .. }
+            | Reply::Done { charge, .. }
+            | Reply::Overlong { charge, .. } => charge.micros(),
             Reply::Moved { horizon } => horizon.micros(),
             Reply::Wait { until } => until.micros(),
-            Reply::Done { charge, .. } => charge.micros(),
-            Reply::Overlong { charge, .. } => charge.micros(),
-            Reply::Clock { time } => time.micros(),
-            Reply::Late { time } => time.micros(),
+            Reply::Clock { time } | Reply::Late { time } => time.micros(),
         }
     }
 
@@ -116,15 +113,13 @@ impl Reply {
     {
         match self {
             Reply::Refused { .. } => call.stream(),
-            Reply::Arrived { stream, .. } => stream,
-            Reply::Sent { stream, .. } => stream,
-            Reply::Expired { stream, .. } => stream,
-            Reply::Moved { .. } => 0,
-            Reply::Wait { .. } => 0,
-            Reply::Done { stream, .. } => stream,
-            Reply::Overlong { stream, .. } => stream,
-            Reply::Clock { .. } => 0,
-            Reply::Late { .. } => 0,
+            Reply::Arrived { stream, .. }
+            | Reply::Sent { stream, .. }
+            | Reply::Expired { stream, .. }
+            | Reply::Done { stream, .. }
+            | Reply::Overlong { stream, .. } => stream,
+            Reply::Moved { .. } | Reply::Wait { .. } | Reply::Clock { .. } | Reply::Late { .. } =>
+                0,
         }
     }
 
@@ -133,16 +128,8 @@ impl Reply {
         ensures { result ≡ tag_of self }
     {
         match self {
-            Reply::Refused { .. } => 0,
-            Reply::Arrived { .. } => 0,
-            Reply::Sent { tag, .. } => tag,
-            Reply::Expired { .. } => 0,
-            Reply::Moved { .. } => 0,
-            Reply::Wait { .. } => 0,
-            Reply::Done { tag, .. } => tag,
-            Reply::Overlong { tag, .. } => tag,
-            Reply::Clock { .. } => 0,
-            Reply::Late { .. } => 0,
+            Reply::Sent { tag, .. } | Reply::Done { tag, .. } | Reply::Overlong { tag, .. } => tag,
+            _ => 0,
         }
     }
 }

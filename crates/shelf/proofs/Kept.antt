@@ -1,6 +1,6 @@
 -- What an image keeps: it is its session and back again, a refusal changes none of its numbers, and what is asked of it is what it shows.
 use mathlib.Core.Path.{◌≡◌, refl, sym, ap, ◌∙◌}
-use mathlib.Core.Bool.{true, false≢true}
+use mathlib.Core.Bool.{Bool, true, false, false≢true}
 use Prim.Native.Nat.{ℕ, suc}
 use native.Mathlib.Omega.{arith}
 use Rattle.table.specs.Fold.{if}
@@ -16,10 +16,14 @@ use Rattle.view.specs.declared.View.{View}
 use Rattle.session.specs.Calls.{refusal, ruled, verdict, apply, answer_to}
 use Rattle.session.specs.declared.Session.{Session}
 use Rattle.calls.specs.declared.Call.{Call}
-use Rattle.shelf.specs.Image.{image_of, session_of, opened_as, told_as, answered_as, shown_of, moment_as, latest_as}
+use Rattle.shelf.specs.Image.{Answered, image_of, session_of, opened_as, told_as, answered_as, shown_of, moment_as, latest_as}
 use Rattle.shelf.specs.Laws.{NothingIsLost, AskedAsShown, RefusalChangesNothing, OtherOrdersAreRefused}
 use Rattle.shelf.specs.declared.images.Image.{Image}
-use Rattle.shelf.specs.declared.images.Answered.{Answered}
+
+-- where there is no such order
+pub no_order : (b : Bool) → (b ≡ true → ⊥) → b ≡ false
+no_order true never = absurd (never refl)
+no_order false never = refl
 
 back : (i : Image) → is_order i.order ≡ true → image_of (session_of i) ≡ i
 unfolding image_of session_of

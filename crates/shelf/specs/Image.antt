@@ -1,11 +1,11 @@
 -- A session as numbers alone, and what is answered to it.
-use Rattle.std.specs.Prelude.{ℕ, ℤ, pos}
+use Rattle.std.specs.Prelude.{ℕ, ℤ, pos, Option}
 use Rattle.table.specs.Fold.{if}
 use Rattle.table.specs.Margin.{margin, number_in, margin_in}
 use Rattle.table.specs.declared.Table.{Table}
 use Rattle.order.specs.Order.{order_number, is_order, order_of}
 use Rattle.time.specs.Latest.{latest_of, asked_number, asked_moment}
-use Rattle.time.specs.declared.remainders.Latest.{Latest}
+use Rattle.time.specs.declared.Clock.{Clock}
 use Rattle.session.specs.Opening.{zero_session, opening_of}
 use Rattle.calls.specs.Replies.{number_of, value_of, stream_of, tag_of}
 use Rattle.session.specs.Calls.{answer_to}
@@ -19,7 +19,6 @@ use Rattle.view.specs.declared.State.{State}
 use Rattle.view.specs.declared.Closing.{Closing}
 use Rattle.shelf.specs.declared.images.Image.{Image}
 use Rattle.shelf.specs.declared.images.Told.{Told}
-use Rattle.shelf.specs.declared.images.Answered.{Answered}
 use Rattle.shelf.specs.declared.images.Opening.{Opening}
 use Rattle.shelf.specs.declared.images.Moment.{Moment}
 
@@ -83,6 +82,11 @@ opened_as t order = if (is_order order) (opening_as (opening_of t (order_of orde
 unfoldable pub told_as : Call → Reply → Told
 told_as k r = record { number = number_of r; stream = stream_of k r; value = value_of r; tag = tag_of r }
 
+-- what a call comes to: the image afterwards, and the reply
+pub record Answered : Type 0 where
+  pub session : Image
+  pub reply : Told
+
 -- What a call is answered. An image whose order stands for none is refused 31, and is what it was.
 unfoldable pub answered_as : Image → Call → Answered
 answered_as i k =
@@ -104,7 +108,7 @@ abbrev pub closing_as : Image → ℕ → Closing
 closing_as i n = closing_of (shown_of i) n
 
 -- the latest safe moment as two numbers: 0 and the moment, or the refusal and 0
-abbrev pub moment_as : Latest → Moment
+abbrev pub moment_as : Option Clock → Moment
 moment_as latest = record { number = asked_number latest; at = asked_moment latest }
 
 -- what asking with three numbers is answered

@@ -12,16 +12,15 @@ ghost use Rattle.booking.specs.Bookings.{begun_of, add_of, withdraw_of, finished
 ghost use Rattle.shelf.specs.Image.{opened_as, answered_as, viewed_as, state_as, closing_as, latest_as};
 ghost use Rattle.shelf.specs.Filed.{read_as, wrote_as, wrote_on};
 
-use answers::{
-    arrival, clock, closing, done, filed, latest, open, own_turn, state, turn, view, written,
-};
+use answers::{call, closing, open, state, view};
 use booking::{Book, Finished, Receipt};
 use calls::Call;
-use file::{Form, Writing};
-pub use images::{Answered, Filed, Image, Moment, Opening, Told, Wrote};
+use file::{Form, Refusal};
+pub use images::{Filed, Image, Moment, Opening, Told, Wrote};
 use order::Order;
 use repair::Salvaged;
-use table::{Reservation, Table, take_in};
+use table::{Numbers, Reservation, Table, take_in};
+use time::{Clock, Remainders};
 use view::{Closing, State, View};
 
 // Opens a session with W, H, k, a lent table of any length and the number of an order.
@@ -35,52 +34,47 @@ pub extern "C" fn yerbagunt_open(
 ) -> Opening
     ensures { result ≡ opened_as (lent_table worst span padding table.now) order }
 {
-    open(worst, span, padding, take_in(table), order)
+    let numbers = Numbers {
+        worst,
+        span,
+        padding,
+    };
+    open(numbers, take_in(table), order)
 }
 
 #[unsafe(no_mangle)]
 pub extern "C" fn yerbagunt_arrival(session: &mut Image, stream: u64, place: u64, tag: u32) -> Told
     ensures { (result ≡ (answered_as session.old (Call.Arrival stream place tag)).reply) × (session.new ≡ (answered_as session.old (Call.Arrival stream place tag)).session) }
 {
-    let a = arrival(*session, stream, place, tag);
-    *session = a.session;
-    a.reply
+    call(session, Call::Arrival { stream, place, tag })
 }
 
 #[unsafe(no_mangle)]
 pub extern "C" fn yerbagunt_turn(session: &mut Image) -> Told
     ensures { (result ≡ (answered_as session.old Call.Turn).reply) × (session.new ≡ (answered_as session.old Call.Turn).session) }
 {
-    let a = turn(*session);
-    *session = a.session;
-    a.reply
+    call(session, Call::Turn)
 }
 
 #[unsafe(no_mangle)]
 pub extern "C" fn yerbagunt_own_turn(session: &mut Image, stream: u64, index: u64) -> Told
     ensures { (result ≡ (answered_as session.old (Call.OwnTurn stream index)).reply) × (session.new ≡ (answered_as session.old (Call.OwnTurn stream index)).session) }
 {
-    let a = own_turn(*session, stream, index);
-    *session = a.session;
-    a.reply
+    call(session, Call::OwnTurn { stream, index })
 }
 
 #[unsafe(no_mangle)]
 pub extern "C" fn yerbagunt_done(session: &mut Image, duration: u64) -> Told
     ensures { (result ≡ (answered_as session.old (Call.Done duration)).reply) × (session.new ≡ (answered_as session.old (Call.Done duration)).session) }
 {
-    let a = done(*session, duration);
-    *session = a.session;
-    a.reply
+    call(session, Call::Done { duration })
 }
 
 #[unsafe(no_mangle)]
 pub extern "C" fn yerbagunt_clock(session: &mut Image, time: u64) -> Told
     ensures { (result ≡ (answered_as session.old (Call.Clock time)).reply) × (session.new ≡ (answered_as session.old (Call.Clock time)).session) }
 {
-    let a = clock(*session, time);
-    *session = a.session;
-    a.reply
+    call(session, Call::Clock { time })
 }
 
 // The clock, the horizon, the latest safe moment and the margin of a session.
@@ -96,7 +90,7 @@ pub extern "C" fn yerbagunt_view(session: Image) -> View
 pub extern "C" fn yerbagunt_latest(horizon: u64, remainders: i64, span: u64) -> Moment
     ensures { result ≡ latest_as horizon remainders span }
 {
-    latest(horizon, remainders, span)
+    Moment::from(Clock::at(horizon).less_remainders(Remainders(remainders), span))
 }
 
 // A stream of a session, counted from 1.
@@ -120,7 +114,7 @@ pub extern "C" fn yerbagunt_last_job(session: Image, stream: u64) -> Closing
 pub extern "C" fn yerbagunt_read(file: &[u8]) -> Filed
     ensures { result ≡ read_as (read_of file.now) }
 {
-    filed(file::read(file))
+    Filed::from(file::read(file))
 }
 
 // The table of a session file, from any bytes.
@@ -143,12 +137,13 @@ pub extern "C" fn yerbagunt_write(
     ensures value { result ≡ wrote_as table order third trace.now out.old }
     ensures out_after { out.new ≡ wrote_on table order third trace.now out.old }
 {
-    if !(Order::is_number(order) & Form::is_third(third)) {
-        return written(Writing::Refused(16));
-    }
-    let form = Form::of_third(third);
-    let by = Order::of_number(order);
-    written(file::write(table, form, by, trace, out))
+    let Ok(order) = Order::try_from(order) else {
+        return Wrote::from(Err(Refusal::Layout));
+    };
+    let Ok(form) = Form::try_from(third) else {
+        return Wrote::from(Err(Refusal::Layout));
+    };
+    Wrote::from(file::write(table, form, order, trace, out))
 }
 
 // Writes a sound file of what is sound in an old one at the start of a buffer, and lists each change, as two numbers, at the start of a list.
@@ -177,9 +172,12 @@ pub extern "C" fn yerbagunt_begin(
 ) -> Receipt
     ensures { (result ≡ (begun_of worst span padding limit1 limit2).receipt) × (book.new ≡ (begun_of worst span padding limit1 limit2).book) }
 {
-    let a = (*book).begin_anew(worst, span, padding, limit1, limit2);
-    *book = a.book;
-    a.receipt
+    let numbers = Numbers {
+        worst,
+        span,
+        padding,
+    };
+    book.begin_lent(numbers, limit1, limit2)
 }
 
 // A stream more of a desk.
@@ -187,9 +185,7 @@ pub extern "C" fn yerbagunt_begin(
 pub extern "C" fn yerbagunt_add(book: &mut Book, desk: u64, reserved: u32, period: u32) -> Receipt
     ensures { (result ≡ (add_of book.old desk reserved period).receipt) × (book.new ≡ (add_of book.old desk reserved period).book) }
 {
-    let a = (*book).add(desk, reserved, period);
-    *book = a.book;
-    a.receipt
+    book.add_lent(desk, reserved, period)
 }
 
 // One stream less of a desk.
@@ -197,9 +193,7 @@ pub extern "C" fn yerbagunt_add(book: &mut Book, desk: u64, reserved: u32, perio
 pub extern "C" fn yerbagunt_withdraw(book: &mut Book, desk: u64, number: u64) -> Receipt
     ensures { (result ≡ (withdraw_of book.old desk number).receipt) × (book.new ≡ (withdraw_of book.old desk number).book) }
 {
-    let a = (*book).withdraw(desk, number);
-    *book = a.book;
-    a.receipt
+    book.withdraw_lent(desk, number)
 }
 
 // The streams of a finished table, as opening takes them.
@@ -207,6 +201,5 @@ pub extern "C" fn yerbagunt_withdraw(book: &mut Book, desk: u64, number: u64) ->
 pub extern "C" fn yerbagunt_finish(book: Book) -> Finished
     ensures { result ≡ finished_of book }
 {
-    let closed = book.finish();
-    closed.finished
+    book.finish().finished
 }

@@ -1,21 +1,13 @@
--- `open` judges the order first, and then gives the numbers of the session that was opened, and of what was answered.
-use mathlib.Core.Path.{sym, ◌∙◌}
+-- `open` judges the order first, and then gives the numbers of the session that was opened, and of what was answered.`
 use Rattle.table.specs.Fold.{if}
 use Rattle.shelf.specs.Image.{opened_as}
+use Rattle.shelf.proofs.Kept.{no_order}
 use Rattle.shelf.proofs.answers.open.Goals as goal
 
-pub returns-then-not-is_number : goal.returns-then-not-is_number
+pub returns-in-Ok : goal.returns-in-Ok
 unfolding opened_as if
-returns-then-not-is_number c = rw (sym c.is_number.ensures ∙ c.if-not-is_number.true, c.unopened.ensures)
+returns-in-Ok c = let order = c.in-Ok.ensures in rw (order.0, c.from.ensures, c.open_taken.ensures, order.1)
 
-pub returns : goal.returns
+pub returns-in-Err : goal.returns-in-Err
 unfolding opened_as if
-returns c =
-    rw (
-      sym c.is_number.ensures ∙ c.if-not-is_number.false,
-      c.margin.ensures,
-      c.number.ensures,
-      c.of-session.ensures,
-      c.open_taken-opened.ensures,
-      c.of_number.ensures,
-    )
+returns-in-Err c = rw (no_order _ c.in-Err.ensures, c.unopened.ensures)

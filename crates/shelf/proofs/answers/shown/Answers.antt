@@ -1,13 +1,13 @@
--- `shown` judges the order.
-use mathlib.Core.Path.{sym, ◌∙◌}
+-- `shown` judges the order.`
 use Rattle.table.specs.Fold.{if}
 use Rattle.shelf.specs.Image.{shown_of}
+use Rattle.shelf.proofs.Kept.{no_order}
 use Rattle.shelf.proofs.answers.shown.Goals as goal
 
-pub returns-then-not-is_number : goal.returns-then-not-is_number
+pub returns-in-Ok : goal.returns-in-Ok
 unfolding shown_of if
-returns-then-not-is_number c = rw (sym c.is_number.ensures ∙ c.if-not-is_number.true, c.zero.ensures)
+returns-in-Ok c = let session = c.in-Ok.ensures in rw (session.0, session.1)
 
-pub returns : goal.returns
+pub returns-in-Err : goal.returns-in-Err
 unfolding shown_of if
-returns c = rw (sym c.is_number.ensures ∙ c.if-not-is_number.false, c.session.ensures)
+returns-in-Err c = rw (no_order _ c.in-Err.ensures, c.zero.ensures)

@@ -2,8 +2,8 @@
 use mathlib.Core.Bool.{Bool, true, false, ◌&&◌}
 use mathlib.Core.Path.{◌≡◌, refl, ap}
 use mathlib.Core.List.{List}
-use Prim.Native.Nat.{ℕ, ◌+◌, ◌-◌, ◌≤◌, ◌<◌}
-use borrow.Author.Tests.{le-leb, lt-leb, eqb-true, eq-eqb, leb-true}
+use Prim.Native.Nat.{ℕ, ◌+◌, ◌-◌, ◌≤◌}
+use borrow.Author.Tests.{le-leb, eqb-true, eq-eqb, leb-true}
 use lib.ListN.{length}
 use Rattle.std.specs.declared.result.Result.TheVariants.{Ok, Err}
 use Rattle.table.specs.Fold.{if}
@@ -91,25 +91,12 @@ accepted_of file h =
     }
 
 module _ (file : List ℕ) where
-  -- test by test: the first that fails refuses, and where none does the file is accepted
-  pub count_fails : 8 < count_at file (start_in file) → is_laid_out file ≡ false
+  -- where nothing before the trace refuses it, the trace decides
+  pub trace_decides : count_at file (start_in file) ≤ 8 → trace_start file + third_length (form_in file) ≤ length file
+      → (is_contents (form_in file) file (trace_start file) (trace_end file) && is_order (third_in file)) ≡ true
+      → is_laid_out file ≡ is_trace (trace_in file)
   unfolding is_laid_out
-  count_fails h = rw (lt-leb _ _ h)
-
-  module _ (count : count_at file (start_in file) ≤ 8) where
-    pub length_fails : length file < trace_start file + third_length (form_in file) → is_laid_out file ≡ false
-    unfolding is_laid_out
-    length_fails h = rw (le-leb _ _ count, lt-leb _ _ h)
-
-    module _ (long : trace_start file + third_length (form_in file) ≤ length file) where
-      pub contents_fail : (is_contents (form_in file) file (trace_start file) (trace_end file) && is_order (third_in file)) ≡ false → is_laid_out file ≡ false
-      unfolding is_laid_out
-      contents_fail h = rw (le-leb _ _ count, le-leb _ _ long, h)
-
-      pub trace_decides : (is_contents (form_in file) file (trace_start file) (trace_end file) && is_order (third_in file)) ≡ true
-          → is_laid_out file ≡ is_trace (trace_in file)
-      unfolding is_laid_out
-      trace_decides h = rw (le-leb _ _ count, le-leb _ _ long, h)
+  trace_decides count long h = rw (le-leb _ _ count, le-leb _ _ long, h)
 
   -- the answer
   pub read_refused : is_laid_out file ≡ false → read_of file ≡ Err NotLaidOut

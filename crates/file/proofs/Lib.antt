@@ -1,5 +1,4 @@
 pub mod Choices
-pub mod Bounds
 pub mod Forms
 pub mod Columns
 pub mod Lengths

@@ -2,12 +2,11 @@
 use mathlib.Core.Bool.{true, false, cond, ◌&&◌}
 use mathlib.Core.Path.{◌≡◌, refl, ap}
 use mathlib.Core.List.{List}
-use Prim.Native.Nat.{ℕ, ◌+◌, ◌≤◌, ◌<◌, min}
+use Prim.Native.Nat.{ℕ, ◌+◌, ◌≤◌, min}
 use native.Mathlib.Omega.{arith}
-use borrow.Author.Tests.{le-leb, lt-leb, leb-true}
+use borrow.Author.Tests.{leb-true}
 use lib.ListN.{length}
 use Rattle.std.specs.declared.result.Result.TheVariants.{Ok, Err}
-use Rattle.table.specs.Fold.{if}
 use Rattle.table.proofs.Tests.{both}
 use Rattle.order.specs.Order.{is_order, order_of}
 use Rattle.cells.specs.Cells.{number_at}
@@ -19,22 +18,6 @@ use Rattle.file.specs.declared.refusal.Refusal.TheVariants.{Layout as NotLaidOut
 use Rattle.file.proofs.Choices.{if_is_cond}
 use Rattle.file.proofs.Forms.{third_width}
 use Rattle.file.proofs.Accepted.{chosen, unchosen, read_refused}
-
-module _ (file : List ℕ) where
-  -- test by test: the first that fails refuses, and where none does the parts are where they are said to be
-  pub count_unfit : 8 < count_at file (start_in file) → outline_of file ≡ Err NotLaidOut
-  unfolding outline_of if
-  count_unfit h = rw (lt-leb _ _ h)
-
-  module _ (count : count_at file (start_in file) ≤ 8) where
-    pub length_unfit : length file < trace_start file + third_length (form_in file) → outline_of file ≡ Err NotLaidOut
-    unfolding outline_of if
-    length_unfit h = rw (le-leb _ _ count, lt-leb _ _ h)
-
-    pub is_outlined_lem : trace_start file + third_length (form_in file) ≤ length file
-        → outline_of file ≡ Ok (record { form = form_in file; count = count_at file (start_in file); start = trace_start file; end = trace_end file })
-    unfolding outline_of if
-    is_outlined_lem h = rw (le-leb _ _ count, le-leb _ _ h)
 
 -- what an outline says
 pub record Outlined (file : List ℕ) (outline : Outline) : Type 0 where

@@ -1,11 +1,10 @@
 -- What the test of a trace says.
-use mathlib.Core.Bool.{Bool, true, false, ◌&&◌, false≢true}
+use mathlib.Core.Bool.{Bool, true, false, false≢true}
 use mathlib.Core.Path.{◌≡◌, refl, sym, ◌∙◌}
 use mathlib.Core.List.{List}
 use Prim.Native.Nat.{ℕ, ◌*◌, ◌%◌, ◌≤◌, ◌<◌}
 use native.Mathlib.Omega.{arith}
 use borrow.Author.Tests.{eqb-true, leb-true}
-use lib.Dec.{leb, eqb}
 use lib.ListN.{length}
 use Rattle.table.specs.Fold.{all_to}
 use Rattle.table.proofs.Tests.{both}
@@ -41,14 +40,3 @@ all_fails f n i l h = go (all_to f n) refl
     go : (b : Bool) → all_to f n ≡ b → b ≡ false
     go true e = absurd (false≢true (sym h ∙ all_at f n e i l))
     go false e = refl
-
--- the length decides first, then the events
-module _ (trace : List ℕ) where
-  pub events_decide : (eqb (length trace % event_size) 0 && leb (events_in trace) events_max) ≡ true
-      → is_trace trace ≡ all_to (λ i. formed (event_at trace i)) (events_in trace)
-  unfolding is_trace
-  events_decide h = rw h
-
-  pub length_decides : (eqb (length trace % event_size) 0 && leb (events_in trace) events_max) ≡ false → is_trace trace ≡ false
-  unfolding is_trace
-  length_decides h = rw h

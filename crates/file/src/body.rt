@@ -28,6 +28,7 @@ pub(crate) fn table_length(count: usize) -> usize
 }
 
 // The table whose body starts at an index.
+#[tactic(auto, unfolding(crate::specs::Reading::table_at))]
 pub(crate) fn table_at(file: &[u8], at: usize) -> Table
     requires { at ≤ table_start_max }
     ensures { result ≡ table_at file.now at }
@@ -67,6 +68,7 @@ fn used_at(file: &[u8], from: usize, count: usize, i: usize) -> u32
 }
 
 // Stores a table body from an index on.
+#[tactic(auto, using(crate::proofs::Stores::table_stored))]
 pub(crate) fn put_table(out: &mut [u8], at: usize, table: Table)
     requires { (at ≤ table_start_max) × (table.count ≤ streams_max) }
     ensures { out.new ≡ sets out.old at (table_body table) }

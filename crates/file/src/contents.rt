@@ -16,6 +16,7 @@ const TRACE_ENTRY: usize = 14;
 const THIRD_ENTRY: usize = 26;
 
 // Whether the contents table is that of a file of this form whose trace starts and ends there.
+#[tactic(auto, unfolding(crate::specs::Reading::is_contents))]
 pub(crate) fn is_contents(file: &[u8], form: Form, start: usize, end: usize) -> bool
     requires { (table_start form ≤ start) × (start ≤ end) }
     ensures { result ≡ is_contents form file.now start end }
@@ -38,6 +39,7 @@ fn is_third_entry(file: &[u8], form: Form, offset: usize) -> bool
 }
 
 // Whether the entry at an index has this kind, offset and length.
+#[tactic(auto, unfolding(crate::specs::Reading::is_entry))]
 fn is_entry(file: &[u8], at: usize, kind: u64, offset: usize, len: usize) -> bool
     requires { at ≤ table_start_max }
     ensures { result ≡ is_entry file.now at kind offset len }
@@ -48,6 +50,7 @@ fn is_entry(file: &[u8], at: usize, kind: u64, offset: usize, len: usize) -> boo
 }
 
 // Stores the contents table for bodies of these lengths.
+#[tactic(auto, using(crate::proofs::Stores::contents_stored, crate::proofs::Forms::start_low))]
 pub(crate) fn put_contents(out: &mut [u8], form: Form, table: usize, trace: usize)
     requires { (table ≤ table_length streams_max) × (trace ≤ event_size * events_max) }
     ensures { out.new ≡ sets out.old 0 (contents form table trace) }
@@ -70,6 +73,7 @@ fn put_third_entry(out: &mut [u8], form: Form, offset: usize)
 }
 
 // Stores an entry at an index.
+#[tactic(auto, using(crate::proofs::Stores::entry_stored))]
 fn put_entry(out: &mut [u8], at: usize, kind: u64, offset: usize, len: usize)
     requires { at ≤ table_start_max }
     ensures { out.new ≡ sets out.old at (entry kind offset len) }

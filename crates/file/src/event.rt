@@ -103,6 +103,7 @@ fn is_storable(event: Event) -> bool
 }
 
 // Stores the bytes of an event from an index on; of a malformed one there are none.
+#[tactic(auto, unfolding(crate::specs::File::bytes_of))]
 fn put_bytes_of(trace: &mut [u8], at: usize, event: Event)
     requires { at + event_size ≤ 2 ^ 63 }
     ensures { trace.new ≡ sets trace.old at (bytes_of event) }
@@ -118,6 +119,7 @@ fn put_bytes_of(trace: &mut [u8], at: usize, event: Event)
 }
 
 // Stores the cells of an event from an index on.
+#[tactic(auto, using(crate::proofs::Stores::event_stored))]
 fn put_cells(trace: &mut [u8], at: usize, kind: u64, stream: u64, tag: u32, value: u64)
     requires { at + event_size ≤ 2 ^ 63 }
     ensures { trace.new ≡ sets trace.old at (event_cells kind stream tag value) }

@@ -10,6 +10,7 @@ use crate::form::Form;
 use table::Table;
 
 // Whether the contents table is that of such a file.
+#[tactic(auto, using(crate::proofs::Choices::choices, crate::proofs::Forms::start_low), unfolding(crate::specs::Reading::has_contents))]
 pub fn has_contents(file: &[u8], form: Form, count: usize, events: usize) -> bool
     ensures { result ≡ has_contents form file.now count events }
 {
@@ -21,6 +22,7 @@ pub fn has_contents(file: &[u8], form: Form, count: usize, events: usize) -> boo
 }
 
 // Stores the contents table and the table body at the start of a buffer; where there is no such file, nothing.
+#[tactic(auto, using(crate::proofs::Choices::choices, crate::proofs::Forms::start_low, crate::proofs::Heads::head_stored), unfolding(crate::specs::Writing::headed_on))]
 pub fn put_head(out: &mut [u8], form: Form, table: Table, events: usize)
     ensures { out.new ≡ headed_on form table events out.old }
 {

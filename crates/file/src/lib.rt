@@ -42,7 +42,7 @@ pub struct Layout {
 }
 
 // Reads any bytes. The order and every event are judged, and no number of the table but its count.
-#[tactic(auto, using(crate::proofs::Outlines::outline_inside, crate::proofs::Outlines::judged, crate::proofs::Outlines::unfit_is_refused))]
+#[tactic(auto, using(crate::proofs::Outlines::unfit_is_refused))]
 pub fn read(file: &[u8]) -> Result<Layout, Refusal>
     ensures { result ≡ read_of file.now }
 {
@@ -66,6 +66,7 @@ pub fn read(file: &[u8]) -> Result<Layout, Refusal>
 }
 
 // The table of a file, from any bytes. Reading does not judge it; opening does.
+#[tactic(auto, using(crate::proofs::Forms::start_low))]
 pub fn table_of(file: &[u8]) -> Table
     ensures { result ≡ table_in file.now }
 {

@@ -18,6 +18,7 @@ pub struct Outline {
 }
 
 // Where the parts of any bytes are. Nothing in them is judged but the count, and that no body is cut short.
+#[tactic(auto, using(crate::proofs::Choices::choices, crate::proofs::Forms::start_low, crate::proofs::Forms::third_low), unfolding(crate::specs::Reading::outline_of))]
 pub fn outline_of(file: &[u8]) -> Result<Outline, Refusal>
     ensures { result ≡ outline_of file.now }
 {

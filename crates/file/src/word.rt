@@ -6,6 +6,7 @@ ghost use Rattle.cells.specs.Cells.{cell, number_at};
 use cells::{number_at, put_number};
 
 // The number in the four bytes from an index on.
+#[tactic(auto, using(cells::proofs::Numbers::number_lt))]
 pub(crate) fn word_at(bytes: &[u8], at: usize) -> u32
     ensures { result ≡ number_at 4 bytes.now at }
 {

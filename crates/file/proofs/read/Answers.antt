@@ -11,10 +11,10 @@ pub slice_bounds-trace-count : goal.slice_bounds-trace-count
 slice_bounds-trace-count c = (outline_inside _ _ (sym c.in_ok-outline.ensures)).in_order
 
 pub slice_bounds-trace-start : goal.slice_bounds-trace-start
-slice_bounds-trace-start c = let q = outline_inside _ _ (sym c.in_ok-outline.ensures) in search (rules, q.in_order, q.in_file)
+slice_bounds-trace-start c = let q = outline_inside _ _ (sym c.in_ok-outline.ensures) in search (rules, q.in_order)
 
 pub slice_bounds-trace-end : goal.slice_bounds-trace-end
-slice_bounds-trace-end c = let q = outline_inside _ _ (sym c.in_ok-outline.ensures) in search (rules, q.in_order, q.in_file)
+slice_bounds-trace-end c = let q = outline_inside _ _ (sym c.in_ok-outline.ensures) in search (rules, q.in_file)
 
 pub is_contents-requires : goal.is_contents-requires
 is_contents-requires c = let q = outline_inside _ _ (sym c.in_ok-outline.ensures) in (q.after_table, q.in_order)

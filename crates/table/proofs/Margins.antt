@@ -132,7 +132,7 @@ refused_none (Ok x) e = refl
 refused_none (Err r) e = absurd (false≢true (sym e))
 
 -- the refusals of 1 to 6, and back
-refusal_is : (r : Refusal) (m : ℤ) → refusal_number r ≤ 6 → refusal_of (refusal_number r) m ≡ r
+pub refusal_is : (r : Refusal) (m : ℤ) → refusal_number r ≤ 6 → refusal_of (refusal_number r) m ≡ r
 unfolding refusal_of if
 refusal_is Streams m l = refl
 refusal_is Worst m l = refl

@@ -4,15 +4,25 @@ use mathlib.Core.Logic.{◌⊎◌, inl, inr}
 use Prim.Native.Nat.{ℕ, zero, suc, ◌+◌, ◌-◌, ◌≤◌}
 use native.Mathlib.Nat.{mul-le-mul_right}
 use native.Mathlib.Omega.{arith}
+use lib.Dec.{lit≤}
 use borrow.Author.Tests.{ne_eqb}
 use Rattle.table.specs.Fold.{if}
 use Rattle.table.specs.Refusal.{◌or_next◌}
-use Rattle.table.specs.Admission.{padding_of, granted_of, numbers_refusal, stream_refusal_at, streams_refusal, admission_of}
+use Rattle.table.specs.Admission.{padding_of, granted_of, numbers_refusal, stream_refusal, stream_refusal_at, streams_refusal, admission_of}
 use Rattle.table.specs.declared.Table.{Table}
-use Rattle.table.proofs.Tests.{or_next_first}
+use Rattle.table.proofs.Tests.{or_next_first, or_next_high, given_high}
 use Rattle.terms.specs.Terms.{terms_of, refused_stream, stream_verdict, load_verdict, verdict_of}
 use Rattle.terms.specs.Laws.{VerdictIsOpenings, NothingCut}
 use Rattle.terms.proofs.Found.{Found, NoneFound, search_first}
+
+-- 1 to 4 are at most 4, and 5 and 6 at most 6
+pub numbers_high : (t : Table) → numbers_refusal t ≤ 4
+unfolding numbers_refusal
+numbers_high t = search (or_next_high, given_high, lit≤) depth 12
+
+pub stream_high : (t : Table) (i : ℕ) → stream_refusal_at t i ≤ 6
+unfolding stream_refusal
+stream_high t i = search (or_next_high, given_high, lit≤)
 
 -- a padding is 1 at least
 padding_some : (k : ℕ) → 1 ≤ padding_of k

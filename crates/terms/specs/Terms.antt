@@ -1,10 +1,10 @@
 -- What a card may say of a table: the terms of each stream and how far it could change alone, and whether the table is admitted, or which number of it is beyond which limit.
-use Rattle.std.specs.Prelude.{not, ℕ, ◌+◌, ◌-◌, ◌*◌, ◌/◌, ◌%◌, min, ltb, eqb, ℤ}
+use Rattle.std.specs.Prelude.{not, ℕ, ◌+◌, ◌-◌, ◌*◌, ◌/◌, ◌%◌, min, ltb, eqb, ℤ, Some, None}
 use Rattle.table.specs.Fold.{if}
 use Rattle.table.specs.Refusal.{given, first_to, outside}
 use Rattle.table.specs.Ranges.{streams_max, worst_min, worst_max, span_min, span_max, padding_max, period_min, period_max}
 use Rattle.table.specs.Admission.{reserved_at, period_at, padding_of, granted_of, load_of, numbers_refusal, stream_refusal_at}
-use Rattle.table.specs.Margin.{left_of, over_of}
+use Rattle.table.specs.Margin.{left_of, over_of, refusal_of}
 use Rattle.table.specs.declared.Table.{Table}
 use Rattle.terms.specs.declared.Terms.{Terms}
 use Rattle.terms.specs.declared.Change.{Change}
@@ -72,21 +72,35 @@ unfoldable pub refused_stream : Table → ℕ
 refused_stream t = first_to (numbered (stream_refusal_at t)) t.count
 
 -- the number by which opening refuses the table or 0, the stream that it speaks of or 0, and what was found
-abbrev pub verdict : ℕ → ℕ → Finding → Verdict
+pub record Said : Type 0 where
+  pub number : ℕ
+  pub stream : ℕ
+  pub finding : Finding
+
+abbrev pub verdict : ℕ → ℕ → Finding → Said
 verdict number stream finding = record { number = number; stream = stream; finding = finding }
 
+-- as the code holds it: nothing for 0, and a refusal of the load with the margin
+unfoldable pub as_said : ℤ → Said → Verdict
+as_said margin said =
+    record {
+      refusal = if (eqb said.number 0) None (Some (refusal_of said.number margin));
+      stream = if (eqb said.stream 0) None (Some said.stream);
+      finding = said.finding;
+    }
+
 -- what refuses stream i, and what was found of it
-unfoldable pub stream_verdict : Table → ℕ → Verdict
+unfoldable pub stream_verdict : Table → ℕ → Said
 stream_verdict t i =
     let number = stream_refusal_at t i in
     verdict number (i + 1) (stream_finding number t.worst t.span t.padding (reserved_at t i) (period_at t i))
 
 -- the load beside H, and 7 where it is above
-unfoldable pub load_verdict : Table → Verdict
+unfoldable pub load_verdict : Table → Said
 load_verdict t = verdict (given (ltb t.span (load_of t)) 7) 0 (found (load_of t) t.span)
 
 -- "Opening: 1, 2, 3, 4, then 5 and 6 stream by stream, then 7"
-unfoldable pub verdict_of : Table → Verdict
+unfoldable pub verdict_of : Table → Said
 verdict_of t =
     if (not (eqb (numbers_refusal t) 0)) (verdict (numbers_refusal t) 0 (numbers_finding t (numbers_refusal t)))
     (if (not (eqb (refused_stream t) 0)) (stream_verdict t (refused_stream t - 1))

@@ -1,15 +1,16 @@
 // What a card may say of a table: the terms of each stream and how far it could change alone, and whether the table is admitted, or which number of it is beyond which limit.
 #![tactic(auto)]
 
-ghost use Rattle.std.specs.Prelude.{◌≡◌, ◌-◌, ◌/◌, ◌≤◌, ◌<◌, min};
-ghost use Rattle.table.specs.Ranges.{streams_max};
-ghost use Rattle.terms.specs.Terms.{terms_of, change_of, hundredths_of, beyond, numbers_finding, period_finding, budget_finding, stream_finding, refused_stream, stream_verdict, load_verdict, verdict_of};
-ghost use Rattle.table.specs.Admission.{numbers_refusal, streams_refusal};
+ghost use Rattle.std.specs.Prelude.{◌≡◌, ◌+◌, ◌/◌, MatchOption};
+ghost use Rattle.table.specs.Refusal.{refusal_number};
+ghost use Rattle.table.specs.Admission.{numbers_refusal, stream_refusal_at, streams_refusal};
+ghost use Rattle.table.specs.Margin.{margin_of};
+ghost use Rattle.terms.specs.Terms.{terms_of, change_of, hundredths_of, beyond, numbers_finding, period_finding, budget_finding, stream_finding, refused_stream, load_verdict, verdict_of, as_said};
 
-use table::{Margin, Padding, Table};
+use table::{Margin, Numbers, Padding, Refusal, Reservation, Table};
 
 // The terms of a stream: the padding that k stands for, the granted budget, the disk time that each period gets more than, and the least number of requests.
-#[derive(Clone, Copy)]
+#[derive(Clone, Copy, Debug, PartialEq, Eq)]
 pub struct Terms {
     pub padding: u32,
     pub granted: u64,
@@ -18,7 +19,7 @@ pub struct Terms {
 }
 
 // How far the reserved time of one stream could change alone, while the others stay as they are: it may grow by so much at most; it has to shrink by so much at least; or it alone is not enough.
-#[derive(Clone, Copy)]
+#[derive(Clone, Copy, Debug, PartialEq, Eq)]
 pub enum Change {
     Grow(u64),
     Shrink(u64),
@@ -26,50 +27,51 @@ pub enum Change {
 }
 
 // A number of the table, or one that is worked out from it, and the limit that it is held to.
-#[derive(Clone, Copy)]
+#[derive(Clone, Copy, Debug, PartialEq, Eq)]
 pub struct Finding {
     pub value: u64,
     pub limit: u64,
 }
 
-// What opening says of a table: the number is 0 or its refusal, and the stream 0 where it speaks of none.
-#[derive(Clone, Copy)]
+// What opening says of a table: what refuses it, the stream that it speaks of, counted from 1, and what was found.
+#[derive(Clone, Copy, Debug, PartialEq, Eq)]
 pub struct Verdict {
-    pub number: u64,
-    pub stream: u64,
+    pub refusal: Option<Refusal>,
+    pub stream: Option<u64>,
     pub finding: Finding,
 }
 
 impl Terms {
     // The terms of a stream by W, k and its reserved time.
-    pub fn of(worst: u32, k: u32, reserved: u32) -> Terms
-        ensures { result ≡ terms_of worst k reserved }
+    pub fn of(numbers: Numbers, reserved: u32) -> Terms
+        ensures { result ≡ terms_of numbers.worst numbers.padding reserved }
     {
-        let padding = Padding::of(k);
-        let granted = table::granted(worst, k, reserved);
+        let worst = numbers.worst as u64;
+        let granted = numbers.granted(reserved);
         Terms {
-            padding: padding.0,
+            padding: Padding::of(numbers.padding).0,
             granted,
-            above: granted - worst as u64,
-            requests: quotient(granted, worst as u64),
+            above: granted - worst,
+            requests: quotient(granted, worst),
         }
     }
 }
 
 impl Change {
     // By the margin of the table, W, H, k, and the reserved time and the period of the stream.
-    pub fn of(margin: Margin, worst: u32, span: u32, k: u32, e: u32, p: u32) -> Change
-        ensures { result ≡ change_of margin.0 worst span k e p }
+    pub fn of(margin: Margin, numbers: Numbers, stream: Reservation) -> Change
+        ensures { result ≡ change_of margin.0 numbers.worst numbers.span numbers.padding stream.reserved stream.period }
     {
-        let times = quotient(span as u64, p as u64);
+        let period = stream.period as u64;
+        let times = quotient(numbers.span as u64, period);
         let over = margin.over();
         if over == 0 {
             let by_load = quotient(margin.left(), times);
-            let by_period = less(p as u64, table::granted(worst, k, e));
-            return Change::Grow(smaller(by_load, by_period));
+            let by_period = period.saturating_sub(numbers.granted(stream.reserved));
+            return Change::Grow(by_load.min(by_period));
         }
         let by = quotient(over - 1, times) + 1;
-        if by < e as u64 {
+        if by < stream.reserved as u64 {
             Change::Shrink(by)
         } else {
             Change::NotAlone
@@ -81,27 +83,7 @@ impl Change {
 fn quotient(a: u64, b: u64) -> u64
     ensures { result ≡ a / b }
 {
-    if b == 0 {
-        return 0;
-    }
-    a / b
-}
-
-// A difference, and 0 where more is taken off than there is.
-fn less(a: u64, b: u64) -> u64
-    ensures { result ≡ a - b }
-{
-    if a < b {
-        return 0;
-    }
-    a - b
-}
-
-// The smaller of two.
-fn smaller(a: u64, b: u64) -> u64
-    ensures { result ≡ min a b }
-{
-    if a < b { a } else { b }
+    a.checked_div(b).unwrap_or(0)
 }
 
 // A part of a whole in hundredths of a percent.
@@ -117,47 +99,44 @@ pub fn hundredths(part: u64, whole: u32) -> u64
 impl Verdict {
     // What opening says of a table, with what was found.
     pub fn on(t: Table) -> Verdict
-        ensures { result ≡ verdict_of t }
+        ensures { result ≡ as_said (margin_of t) (verdict_of t) }
     {
-        let number = table::numbers_refusal(t);
-        if number != 0 {
-            let finding = numbers_finding(t, number);
+        if let Err(refusal) = table::numbers_refusal(t) {
             return Verdict {
-                number,
-                stream: 0,
-                finding,
+                refusal: Some(refusal),
+                stream: None,
+                finding: numbers_finding(t, refusal),
             };
         }
-        let stream = refused_stream(t);
-        if stream != 0 {
-            return stream_verdict(t, stream - 1);
+        match refused_stream(t) {
+            Some((i, refusal)) => Verdict {
+                refusal: Some(refusal),
+                stream: Some(i as u64 + 1),
+                finding: stream_finding(refusal, t.numbers(), t.reservation(i)),
+            },
+            None => load_verdict(t),
         }
-        load_verdict(t)
     }
 }
 
 // Which of the table's numbers 1 to 4 speak of.
-fn numbers_finding(t: Table, number: u64) -> Finding
-    ensures { result ≡ numbers_finding t number }
+fn numbers_finding(t: Table, refusal: Refusal) -> Finding
+    ensures { result ≡ numbers_finding t (refusal_number refusal) }
 {
-    if number == 1 {
-        return beyond(1, Table::STREAMS_MAX as u64, t.count as u64);
-    }
-    if number == 2 {
-        return beyond(
+    match refusal {
+        Refusal::Streams => beyond(1, Table::STREAMS_MAX as u64, t.count as u64),
+        Refusal::Worst => beyond(
             Table::WORST_MIN as u64,
             Table::WORST_MAX as u64,
             t.worst as u64,
-        );
-    }
-    if number == 3 {
-        return beyond(
+        ),
+        Refusal::Span => beyond(
             Table::SPAN_MIN as u64,
             Table::SPAN_MAX as u64,
             t.span as u64,
-        );
+        ),
+        _ => beyond(0, Padding::MAX as u64, t.padding as u64),
     }
-    beyond(0, Padding::MAX as u64, t.padding as u64)
 }
 
 // A number outside its range, and the end of the range that it is beyond.
@@ -170,49 +149,27 @@ fn beyond(low: u64, high: u64, n: u64) -> Finding
     }
 }
 
-// The first stream that has a refusal of its own, counted from 1; 0 where none has.
-fn refused_stream(t: Table) -> usize
-    requires { t.count ≤ streams_max }
-    ensures { result ≡ refused_stream t }
+// The first stream that has a refusal of its own, counted from 0, with that refusal.
+fn refused_stream(t: Table) -> Option<(usize, Refusal)>
+    ensures { MatchOption result (refused_stream t ≡ 0) (λ found. (refused_stream t ≡ found.0 + 1) × (refusal_number found.1 ≡ stream_refusal_at t found.0)) }
 {
-    let reserved = t.reserved;
-    let period = t.period;
-    let mut i: usize = 0;
-    while i < t.count {
-        let refusal = table::stream_refusal(t.worst, t.span, t.padding, reserved[i], period[i]);
-        if refusal != 0 {
-            return i + 1;
+    let numbers = t.numbers();
+    for i in 0..t.count {
+        if let Err(refusal) = numbers.stream_refusal(t.reservation(i)) {
+            return Some((i, refusal));
         }
-        i += 1;
     }
-    0
+    None
 }
 
-// What refuses a stream, counted from 0, and what was found of it.
-fn stream_verdict(t: Table, i: usize) -> Verdict
-    requires { i < streams_max }
-    ensures { result ≡ stream_verdict t i }
+// What was found of a stream that is refused.
+fn stream_finding(refusal: Refusal, numbers: Numbers, stream: Reservation) -> Finding
+    ensures { result ≡ stream_finding (refusal_number refusal) numbers.worst numbers.span numbers.padding stream.reserved stream.period }
 {
-    let reserved = t.reserved;
-    let period = t.period;
-    let e = reserved[i];
-    let p = period[i];
-    let number = table::stream_refusal(t.worst, t.span, t.padding, e, p);
-    let finding = stream_finding(number, t.worst, t.span, t.padding, e, p);
-    Verdict {
-        number,
-        stream: i as u64 + 1,
-        finding,
+    match refusal {
+        Refusal::Period => period_finding(numbers.span, stream.period),
+        _ => budget_finding(numbers, stream),
     }
-}
-
-fn stream_finding(number: u64, worst: u32, span: u32, k: u32, e: u32, p: u32) -> Finding
-    ensures { result ≡ stream_finding number worst span k e p }
-{
-    if number == 5 {
-        return period_finding(span, p);
-    }
-    budget_finding(worst, k, e, p)
 }
 
 // The period, or what it leaves of the span.
@@ -229,31 +186,29 @@ fn period_finding(span: u32, p: u32) -> Finding
 }
 
 // The reserved time, or the granted budget beside the period.
-fn budget_finding(worst: u32, k: u32, e: u32, p: u32) -> Finding
-    ensures { result ≡ budget_finding worst k e p }
+fn budget_finding(numbers: Numbers, stream: Reservation) -> Finding
+    ensures { result ≡ budget_finding numbers.worst numbers.padding stream.reserved stream.period }
 {
-    if e == 0 {
+    if stream.reserved == 0 {
         return Finding { value: 0, limit: 1 };
     }
     Finding {
-        value: table::granted(worst, k, e),
-        limit: p as u64,
+        value: numbers.granted(stream.reserved),
+        limit: stream.period as u64,
     }
 }
 
 // The load beside the span.
 fn load_verdict(t: Table) -> Verdict
     requires { (numbers_refusal t ≡ 0) × (streams_refusal t ≡ 0) }
-    ensures { result ≡ load_verdict t }
+    ensures { result ≡ as_said (margin_of t) (load_verdict t) }
 {
-    let load = t.load();
-    let span = t.span as u64;
     Verdict {
-        number: if span < load { 7 } else { 0 },
-        stream: 0,
+        refusal: t.admission().err(),
+        stream: None,
         finding: Finding {
-            value: load,
-            limit: span,
+            value: t.load(),
+            limit: t.span as u64,
         },
     }
 }

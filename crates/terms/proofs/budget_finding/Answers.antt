@@ -4,10 +4,10 @@ use Rattle.table.specs.Fold.{if}
 use borrow.Author.Tests.{eq-eqb, ne_eqb}
 use Rattle.terms.proofs.budget_finding.Goals as goal
 
-pub returns-then-e-eq0 : goal.returns-then-e-eq0
+pub returns-then-stream-eq0 : goal.returns-then-stream-eq0
 unfolding budget_finding if
-returns-then-e-eq0 c = rw (eq-eqb _ 0 c.if-e-eq0.true, c.if-e-eq0.true)
+returns-then-stream-eq0 c = rw (eq-eqb _ 0 c.if-stream-eq0.true, c.if-stream-eq0.true)
 
 pub returns : goal.returns
 unfolding budget_finding if
-returns c = rw (ne_eqb _ 0 c.if-e-eq0.false, c.granted.ensures)
+returns c = rw (ne_eqb _ 0 c.if-stream-eq0.false, c.granted.ensures)

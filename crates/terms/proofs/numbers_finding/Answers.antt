@@ -1,23 +1,38 @@
--- `numbers_finding` goes by the number of the refusal.
-use Rattle.terms.specs.Terms.{numbers_finding}
+-- `numbers_finding` goes by the refusal.
+use mathlib.Core.Path.{◌≡◌, refl, ◌∙◌}
 use Rattle.table.specs.Fold.{if}
-use borrow.Author.Tests.{eq-eqb, ne_eqb}
+use Rattle.table.specs.Ranges.{padding_max}
+use Rattle.table.specs.Refusal.{refusal_number}
+use Rattle.table.specs.declared.Table.{Table}
+use Rattle.table.specs.declared.refusal.Refusal.{Refusal}
+use Rattle.table.specs.declared.refusal.Refusal.TheVariants.{Streams, Worst, Span, Padding, Period, Budget, Load}
+use Rattle.terms.specs.Terms.{beyond, numbers_finding}
 use Rattle.terms.proofs.numbers_finding.Goals as goal
 
-pub returns-then-number-eq1 : goal.returns-then-number-eq1
+pub returns-in-Streams : goal.returns-in-Streams
 unfolding numbers_finding if
-returns-then-number-eq1 c = rw (eq-eqb _ 1 c.if-number-eq1.true) c.beyond.ensures
+returns-in-Streams c = rw c.in-Streams.is c.beyond.ensures
 
-pub returns-then-number-eq2 : goal.returns-then-number-eq2
+pub returns-in-Worst : goal.returns-in-Worst
 unfolding numbers_finding if
-returns-then-number-eq2 c = rw (ne_eqb _ 1 c.if-number-eq1.false, eq-eqb _ 2 c.if-number-eq2.true) c.beyond-then-number-eq2.ensures
+returns-in-Worst c = rw c.in-Worst.is c.beyond-in-Worst.ensures
 
-pub returns-then-number-eq3 : goal.returns-then-number-eq3
+pub returns-in-Span : goal.returns-in-Span
 unfolding numbers_finding if
-returns-then-number-eq3 c =
-    rw (ne_eqb _ 1 c.if-number-eq1.false, ne_eqb _ 2 c.if-number-eq2.false, eq-eqb _ 3 c.if-number-eq3.true) c.beyond-then-number-eq3.ensures
+returns-in-Span c = rw c.in-Span.is c.beyond-in-Span.ensures
 
-pub returns : goal.returns
+-- any other speaks of the padding
+others : (t : Table) (r : Refusal) → (r ≡ Streams → ⊥) → (r ≡ Worst → ⊥) → (r ≡ Span → ⊥) → beyond 0 padding_max t.padding ≡ numbers_finding t (refusal_number r)
 unfolding numbers_finding if
-returns c =
-    rw (ne_eqb _ 1 c.if-number-eq1.false, ne_eqb _ 2 c.if-number-eq2.false, ne_eqb _ 3 c.if-number-eq3.false) c.beyond-2.ensures
+others t Streams a b d = absurd (a refl)
+others t Worst a b d = absurd (b refl)
+others t Span a b d = absurd (d refl)
+others t Padding a b d = refl
+others t Period a b d = refl
+others t Budget a b d = refl
+others t (Load m) a b d = refl
+
+pub returns-in_default : goal.returns-in_default
+returns-in_default c =
+    let h = c.in_default in
+    c.beyond-in_default.ensures ∙ others c.args.t c.args.refusal h.not-Streams h.not-Worst h.not-Span

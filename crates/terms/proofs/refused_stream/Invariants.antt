@@ -3,11 +3,7 @@ use Rattle.terms.specs.Terms.{numbered}
 use Rattle.table.specs.Admission.{stream_refusal_at}
 use Rattle.table.specs.Refusal.{first_to}
 use mathlib.Core.Path.{◌≡◌}
-use Prim.Native.Nat.{◌≤◌, ◌-◌}
 use Rattle.terms.proofs.refused_stream.Given as goal
 
 abbrev pub invariant-loop-i : goal.invariant-loop-i
-invariant-loop-i l = (l.i ≤ l.t.count) × (first_to (numbered (stream_refusal_at l.t)) l.i ≡ 0)
-
-abbrev pub decreases-loop-i : goal.decreases-loop-i
-decreases-loop-i l = l.t.count - l.i
+invariant-loop-i l = first_to (numbered (stream_refusal_at l.t)) l.i ≡ 0

@@ -1,13 +1,28 @@
--- `stream_finding` goes by the number of the refusal.
-use Rattle.terms.specs.Terms.{stream_finding}
+-- `stream_finding` goes by the refusal.
+use mathlib.Core.Path.{◌≡◌, refl}
+use native.Mathlib.Omega.{arith}
+use borrow.Author.Tests.{ne_eqb}
 use Rattle.table.specs.Fold.{if}
-use borrow.Author.Tests.{eq-eqb, ne_eqb}
+use Rattle.table.specs.Refusal.{refusal_number}
+use Rattle.table.specs.declared.refusal.Refusal.{Refusal}
+use Rattle.table.specs.declared.refusal.Refusal.TheVariants.{Streams, Worst, Span, Padding, Period, Budget, Load}
+use Rattle.terms.specs.Terms.{stream_finding}
 use Rattle.terms.proofs.stream_finding.Goals as goal
 
-pub returns-then-number-eq5 : goal.returns-then-number-eq5
-unfolding stream_finding if
-returns-then-number-eq5 c = rw (eq-eqb _ 5 c.if-number-eq5.true) c.period_finding.ensures
+-- 5 is that of a period alone
+other : (r : Refusal) → (r ≡ Period → ⊥) → refusal_number r ≡ 5 → ⊥
+other Streams not e = omega arith
+other Worst not e = omega arith
+other Span not e = omega arith
+other Padding not e = omega arith
+other Period not e = not refl
+other Budget not e = omega arith
+other (Load m) not e = omega arith
 
-pub returns : goal.returns
+pub returns-in-Period : goal.returns-in-Period
 unfolding stream_finding if
-returns c = rw (ne_eqb _ 5 c.if-number-eq5.false) c.budget_finding.ensures
+returns-in-Period c = rw c.in-Period.is c.period_finding.ensures
+
+pub returns-in_default : goal.returns-in_default
+unfolding stream_finding if
+returns-in_default c = rw (ne_eqb _ 5 (other c.args.refusal c.in_default.not-Period)) c.budget_finding.ensures

@@ -16,8 +16,8 @@ returns-then-over-eq0 c =
     let fits = sym c.over-over.ensures ∙ c.if-over-eq0.true in
     rw (
       eq-eqb _ 0 fits,
-      c.smaller.ensures,
-      c.less-by_period.ensures,
+      c.min.ensures,
+      c.saturating_sub-by_period.ensures,
       c.granted.ensures,
       c.quotient-by_load.ensures,
       c.left.ensures,
@@ -32,18 +32,19 @@ exceeds : (c : After-quotient-by) → (over_of c.args.margin.0 ≡ 0 → ⊥)
 exceeds c z = c.if-over-eq0.false (c.over-over.ensures ∙ z)
 
 -- and what has to be taken off is what the definition says
-by-is : (c : After-quotient-by) → let a = c.args in c.quotient-by.result + 1 ≡ shrink_of a.margin.0 a.span a.p
+by-is : (c : After-quotient-by) → let a = c.args in
+    c.quotient-by.result + 1 ≡ shrink_of a.margin.0 a.numbers.span a.stream.period
 unfolding shrink_of
 by-is c = rw (c.quotient-by.ensures, c.over-over.ensures, c.quotient-times.ensures) refl
 
-pub returns-then-by-e : goal.returns-then-by-e
+pub returns-then-by-stream : goal.returns-then-by-stream
 unfolding change_of if
-returns-then-by-e c =
-    let less : shrink_of c.args.margin.0 _ _ < c.args.e = rw (by-is c.before) at c.if-by-e.true in
-    rw (ne_eqb _ 0 (exceeds c.before), lt-ltb _ _ less, by-is c.before)
+returns-then-by-stream c =
+    let less : shrink_of c.args.margin.0 _ _ < c.args.stream.reserved = rw (by-is c.before.before) at c.if-by-stream.true in
+    rw (ne_eqb _ 0 (exceeds c.before.before), lt-ltb _ _ less, by-is c.before.before)
 
-pub returns-else-by-e : goal.returns-else-by-e
+pub returns-else-by-stream : goal.returns-else-by-stream
 unfolding change_of if
-returns-else-by-e c =
-    let more : c.args.e ≤ shrink_of c.args.margin.0 _ _ = rw (by-is c.before) at c.if-by-e.false in
-    rw (ne_eqb _ 0 (exceeds c.before), le-ltb _ _ more)
+returns-else-by-stream c =
+    let more : c.args.stream.reserved ≤ shrink_of c.args.margin.0 _ _ = rw (by-is c.before.before) at c.if-by-stream.false in
+    rw (ne_eqb _ 0 (exceeds c.before.before), le-ltb _ _ more)

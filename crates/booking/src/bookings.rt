@@ -9,8 +9,6 @@ use crate::{Book, Booked, Booking, Closed, Desk, Finished, Receipt};
 use table::{Numbers, Records, Reservation, Table};
 
 impl Book {
-    pub const DESKS: u64 = 2;
-
     // Begins a table with W, H, k and the limits of desk 1 and desk 2: 2, 3, 4, and then the table is all zero.
     pub fn begin(numbers: Numbers, limit1: u64, limit2: u64) -> Booked
         ensures { result ≡ begun_of numbers.worst numbers.span numbers.padding limit1 limit2 }
@@ -29,13 +27,6 @@ impl Book {
             }
             Err(refusal) => refused(Self::zero(), Refusal::from(refusal)),
         }
-    }
-
-    // The same, whatever the table was before.
-    pub fn begin_anew(self, numbers: Numbers, limit1: u64, limit2: u64) -> Booked
-        ensures { result ≡ begun_of numbers.worst numbers.span numbers.padding limit1 limit2 }
-    {
-        Self::begin(numbers, limit1, limit2)
     }
 
     // A stream more of a desk: 31, 30, 1, 5, 6, 18, 7.

@@ -6,11 +6,11 @@ use crate::{Book, Booked, Finished, Receipt};
 use table::Numbers;
 
 impl Book {
+    // Whatever the table was before.
     pub fn begin_lent(&mut self, numbers: Numbers, limit1: u64, limit2: u64) -> Receipt
         ensures { (result ≡ (begun_of numbers.worst numbers.span numbers.padding limit1 limit2).receipt) × (self.new ≡ (begun_of numbers.worst numbers.span numbers.padding limit1 limit2).book) }
     {
-        let booked = (*self).begin_anew(numbers, limit1, limit2);
-        self.keep(booked)
+        self.keep(Self::begin(numbers, limit1, limit2))
     }
 
     pub fn add_lent(&mut self, desk: u64, reserved: u32, period: u32) -> Receipt

@@ -39,14 +39,13 @@ fn add_up(judged: Judged) -> Sums
 {
     let group = budgets(judged);
     let t = judged.table;
-    let period = t.period;
     let mut shares: u64 = 0;
     let mut largest: u64 = 0;
-    for j in 0..Table::STREAMS_MAX {
+    for (j, &budget) in group.iter().enumerate() {
         // Where no group stands nothing is divided.
-        if group[j] != 0 {
-            let quotient = (t.span / period[j]) as u64;
-            shares += group[j] * quotient;
+        if budget != 0 {
+            let quotient = (t.span / t.period[j]) as u64;
+            shares += budget * quotient;
             largest = largest.max(quotient);
         }
     }
@@ -60,10 +59,10 @@ fn budgets(judged: Judged) -> [u64; Table::STREAMS_MAX]
     let t = judged.table;
     let numbers = t.numbers();
     let mut budget = [0u64; Table::STREAMS_MAX];
-    for i in 0..Table::STREAMS_MAX {
+    for (i, &reserved) in t.reserved.iter().enumerate() {
         if i < t.count {
             let first = first_with(t.period, i);
-            budget[first] += numbers.granted(t.reserved[i]);
+            budget[first] += numbers.granted(reserved);
         }
     }
     budget
@@ -74,10 +73,6 @@ fn first_with(period: [u32; Table::STREAMS_MAX], i: usize) -> usize
     requires { i < streams_max }
     ensures { result ≡ first_with (λ j. get_or period j 0) i }
 {
-    for j in 0..i {
-        if period[j] == period[i] {
-            return j;
-        }
-    }
-    i
+    let own = period[i];
+    period[..i].iter().position(|&p| p == own).unwrap_or(i)
 }

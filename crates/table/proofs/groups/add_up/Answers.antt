@@ -14,7 +14,7 @@ use Rattle.table.proofs.Judged.{parts_none, numbers_of, streams_of}
 use Rattle.table.proofs.Grouped.{group_share}
 use Rattle.table.proofs.Gathered.{used_passed, Passed, passed_none, passed_group, passed_by, grouped_used, group_shares_high, smallest_has_largest_quotient}
 use Rattle.table.proofs.groups.add_up.Goals as goal
-use Rattle.table.proofs.groups.add_up.Goals.{then-group-j-ne0, else-group-j-ne0}
+use Rattle.table.proofs.groups.add_up.Goals.{then-budget-ne0, else-budget-ne0}
 
 -- at a place of the eight
 module _ (t : Table) (xs : List ℕ) (e : xs ≡ list_to (group_at t) streams_max) (j : ℕ) (l : j < 8) where
@@ -65,7 +65,7 @@ pub nonzero_div-quotient : goal.nonzero_div-quotient
 nonzero_div-quotient c =
     let t = c.args.judged.table in
     let at = c.loop-j in
-    omega (arith, streams_of t (parts_none t c.args.judged.in_order).1 at.j (used t _ c.budgets-group.ensures at.j (omega arith) c.if-group-j-ne0.true))
+    omega (arith, streams_of t (parts_none t c.args.judged.in_order).1 at.j (used t _ c.budgets-group.ensures at.j (omega arith) c.if-budget-ne0.true))
 
 pub overflow_cast-quotient : goal.overflow_cast-quotient
 overflow_cast-quotient c =
@@ -75,7 +75,7 @@ overflow_cast-quotient c =
 pub overflow_add-shares : goal.overflow_add-shares
 overflow_add-shares c =
     let at = c.loop-j in
-    omega (arith, share-fits c.args.judged.table _ c.budgets-group.ensures at.j (omega arith) at.shares at.largest c.args.judged.in_order c.if-group-j-ne0.true at.invariant)
+    omega (arith, share-fits c.args.judged.table _ c.budgets-group.ensures at.j (omega arith) at.shares at.largest c.args.judged.in_order c.if-budget-ne0.true at.invariant)
 
 pub overflow_mul-shares : goal.overflow_mul-shares
 overflow_mul-shares c = omega (arith, overflow_add-shares c)
@@ -85,9 +85,9 @@ loop-j-preserved c =
     let t = c.args.judged.table in
     let at = c.loop-j in
     let e = c.budgets-group.ensures in
-    elim c.if-group-j-ne0.branch [
-      | then-group-j-ne0 w ↦ more t _ e at.j (omega arith) at.shares at.largest c.if-group-j-ne0.shares c.if-group-j-ne0.largest w.max-largest.result w.if-group-j-ne0.true w.max-largest.ensures w.shares-is w.largest-is at.invariant
-      | else-group-j-ne0 w ↦ same t _ e at.j (omega arith) at.shares at.largest c.if-group-j-ne0.shares c.if-group-j-ne0.largest c.args.judged.in_order w.if-group-j-ne0.false w.shares-is w.largest-is at.invariant
+    elim c.if-budget-ne0.branch [
+      | then-budget-ne0 w ↦ more t _ e at.j (omega arith) at.shares at.largest c.if-budget-ne0.shares c.if-budget-ne0.largest w.max-largest.result w.if-budget-ne0.true w.max-largest.ensures w.shares-is w.largest-is at.invariant
+      | else-budget-ne0 w ↦ same t _ e at.j (omega arith) at.shares at.largest c.if-budget-ne0.shares c.if-budget-ne0.largest c.args.judged.in_order w.if-budget-ne0.false w.shares-is w.largest-is at.invariant
     ]
 
 pub returns : goal.returns

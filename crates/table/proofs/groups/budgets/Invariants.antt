@@ -4,4 +4,4 @@ use Rattle.table.proofs.Gathered.{Added}
 use Rattle.table.proofs.groups.budgets.Given as goal
 
 abbrev pub invariant-loop-i : goal.invariant-loop-i
-invariant-loop-i l = Added l.t l.budget (min l.i l.t.count)
+invariant-loop-i l = Added l.fn.judged.table l.budget (min l.i l.fn.judged.table.count)

@@ -1,21 +1,25 @@
 -- Where a line ends, and that a file's lines are those between the ends.
-use mathlib.Core.Bool.{true, false}
+use mathlib.Core.Bool.{Bool, true, false, not, cond}
 use mathlib.Core.List.{List, [], ◌∷◌, ◌++◌, append_assoc, append-nil}
 use mathlib.Core.Logic.{◌⊎◌, inl, inr}
-use mathlib.Core.Path.{◌≡◌, sym, ap, ◌∙◌}
+use mathlib.Core.Path.{◌≡◌, refl, sym, ap, ◌∙◌}
 use Prim.Native.Nat.{ℕ, suc, ◌+◌, ◌-◌, ◌≤◌, ◌<◌, min}
 use native.Mathlib.Omega.{arith}
 use lib.Dec.{eqb, ltb}
-use lib.ListN.{length, take, drop, get_or, drop_of_length-le, length-drop}
+use lib.ListN.{length, take, drop, length-drop}
 use lib.Seq.{drop-drop}
-use borrow.Author.Tests.{ltb-true, eq-eqb, ne_eqb, lt-ltb}
+use borrow.Author.Tests.{ltb-true, ltb-false, lt-ltb}
+use Rattle.std.specs.List.{position, position_or_len}
+use Rattle.std.specs.Option.{unwrap_or}
+use Rattle.std.proofs.lemmas.List.Sums.{prefix_len-le-length}
+use Rattle.std.proofs.lemmas.List.Recursion.{is_position_or_len}
 use Rattle.table.specs.Fold.{if}
+use Rattle.file.proofs.Choices.{if_is_cond}
 use Rattle.table.proofs.Tests.{by_if, same_test}
 use Rattle.notes.proofs.Grammar.{test}
 use Rattle.listing.specs.Line.{newline}
 use Rattle.ledger.specs.Ledger.{lines_after, lines_of, line_length, line_end}
 use Rattle.ledger.specs.Laws.{LinesByEnds}
-use Rattle.file.proofs.Parts.{next}
 
 -- a line goes on to the end at most
 length_least : (l : List ℕ) → line_length l ≤ length l
@@ -32,25 +36,30 @@ pub end_after : (file : List ℕ) (start : ℕ) → start ≤ length file → st
 unfolding line_end
 end_after file start l = omega arith
 
--- at a newline, before another byte, and past the last
-module _ (file : List ℕ) (i : ℕ) where
-  pub ends_here : i < length file → get_or file i 0 ≡ newline → i ≡ line_end file i
-  unfolding line_end line_length if
-  ends_here more e =
-      let none : line_length (drop i file) ≡ 0 = rw (next file i more, eq-eqb _ newline e) in
-      omega arith
+-- a line is as long as the bytes before the first newline
+more_length : (byte : ℕ) (rest : List ℕ) → line_length (byte ∷ rest) ≡ cond (eqb byte newline) 0 (1 + line_length rest)
+unfolding line_length
+more_length byte rest =
+    let one : suc (line_length rest) ≡ 1 + line_length rest = omega arith in
+    if_is_cond (eqb byte newline) 0 (suc (line_length rest)) ∙ ap (λ (n : ℕ). cond (eqb byte newline) 0 n) one
 
-  pub ends_later : i < length file → (get_or file i 0 ≡ newline → ⊥) → line_end file (i + 1) ≡ line_end file i
-  unfolding line_end line_length if
-  ends_later more e =
-      let one : line_length (drop i file) ≡ suc (line_length (drop (i + 1) file)) = rw (next file i more, ne_eqb _ newline e) in
-      omega arith
+no_length : line_length [] ≡ 0
+unfolding line_length
+no_length = refl
 
-  pub ends_last : length file ≤ i → length file ≡ line_end file i
-  unfolding line_end line_length
-  ends_last past =
-      let none : line_length (drop i file) ≡ 0 = ap line_length (drop_of_length-le file {i = i} past) in
-      omega arith
+pub length_is : (l : List ℕ) → line_length l ≡ position_or_len (λ b. eqb b newline) l
+length_is = is_position_or_len line_length (λ b. eqb b newline) no_length more_length
+
+-- where the first of some bytes is, or how long they are
+pub place_or_all : (p : ℕ → Bool) (text : List ℕ) → unwrap_or (position p text) (length text) ≡ position_or_len p text
+place_or_all p text = go (test (ltb (position_or_len p text) (length text)))
+  where
+    go : (ltb (position_or_len p text) (length text) ≡ true) ⊎ (ltb (position_or_len p text) (length text) ≡ false)
+        → unwrap_or (position p text) (length text) ≡ position_or_len p text
+    go (inl there) = rw there
+    go (inr none) =
+        let past = ltb-false (position_or_len p text) (length text) none in
+        rw none (omega (arith, past, prefix_len-le-length (λ b. not (p b)) text))
 
 -- ---- the lines of a file, by their ends
 

@@ -7,6 +7,7 @@ use Prim.Native.Nat.{ℕ, ◌^◌, ◌≤◌, ◌<◌}
 use native.Mathlib.Omega.{arith}
 use lib.ListN.{length, drop, get_or, get_or-eq_default}
 use borrow.Author.Tests.{ltb-false}
+use Rattle.std.specs.Prelude.{None, Ok}
 use Rattle.table.specs.Fold.{if, list_to}
 use Rattle.table.specs.Ranges.{streams_max, worst_min, worst_max, span_min, span_max, padding_max, period_max}
 use Rattle.table.specs.Admission.{granted_of}
@@ -86,4 +87,4 @@ finished_is_composed b buffer out ok fits =
     let few : t.count ≤ streams_max = rw (count_is b ok) (sound_of b ok).count_high in
     ap (λ (notes : List ℕ). composed_of (bytes_read (read started buffer) notes) out) (printed_is b ok)
     ∙ table_composes t buffer out words few fits
-    ∙ ap (λ (streams : ℕ). filed (written_by streams 0 (length file)) (file ++ drop (length file) out)) (count_is b ok)
+    ∙ ap (λ (streams : ℕ). filed (Ok (written_by streams None (length file))) (file ++ drop (length file) out)) (count_is b ok)

@@ -1,101 +1,85 @@
--- A file is judged byte by byte: a newline ends a line, and any other byte goes on with it.
-use mathlib.Core.Bool.{Bool, true, false, false≢true}
-use mathlib.Core.List.{List, [], ◌∷◌}
-use mathlib.Core.Logic.{⊎_elim}
-use mathlib.Core.Path.{◌≡◌, refl, sym, ap, ◌∙◌}
-use Prim.Native.Nat.{ℕ, ◌+◌, ◌≤◌, ◌<◌}
+-- A file is judged line by line: its lines are the parts between its newlines.
+use mathlib.Core.Bool.{Bool, true, false}
+use mathlib.Core.List.{List, [], ◌∷◌, ◌++◌, append-nil}
+use mathlib.Core.Logic.{◌⊎◌, inl, inr}
+use mathlib.Core.Path.{◌≡◌, sym, ap, ◌∙◌}
+use Prim.Native.Nat.{ℕ, suc, ◌+◌, ◌≤◌, ◌<◌}
 use native.Mathlib.Numerals.{add-one}
 use native.Mathlib.Omega.{arith}
-use lib.ListN.{length, drop, get_or, length-take, length-drop}
-use lib.Seq.{drop-length}
-use borrow.Author.Tests.{eq-eqb, ne_eqb}
+use lib.Dec.{eqb}
+use lib.ListN.{length, drop, get_or, drop_of_length-le}
+use lib.Seq.{drop-cons}
+use Rattle.std.specs.Prelude.{Ok, Err}
+use Rattle.std.specs.List.{slice_split, enumerate_from}
+use Rattle.std.proofs.lemmas.List.FromFn.{length-enumerate_from, get_or-enumerate_from}
 use Rattle.table.specs.Fold.{if}
-use Rattle.table.proofs.Tests.{le_or_lt}
-use Rattle.file.specs.Reading.{part}
 use Rattle.listing.specs.Line.{newline}
-use Rattle.notes.specs.Words.{unreturned, uncommented, words_after}
-use Rattle.ledger.specs.declared.Judged.TheVariants.{Right, Unbegun, Amiss}
+use Rattle.notes.proofs.Grammar.{test}
+use Rattle.ledger.specs.declared.Fault.TheVariants.{Unbegun, Amiss}
 use Rattle.ledger.specs.Entry.{entry_of}
 use Rattle.ledger.specs.Ledger.{lines_after, stands, begins, judged_from, judged_of}
-use Rattle.file.proofs.Parts.{next, part_longer, part_none}
-use Rattle.ledger.proofs.Parts.{empty_is}
+use Rattle.ledger.proofs.Splits.{behind_start, behind_none, behind_next, behind_longer}
 
--- what has come of a file by byte i, where the line that is not ended began at `start`: the lines before it may stand where they stand
-pub record Passed (file : List ℕ) (newlines : ℕ) (begun : Bool) (start i : ℕ) : Type 0 where
-  pub counted : newlines ≤ start
-  pub from : start ≤ i
-  pub within : i ≤ length file
-  pub judged : judged_of file ≡ judged_from (newlines + 1) begun (lines_after (part start i file) (drop i file))
+abbrev pub is_newline : ℕ → Bool
+is_newline byte = eqb byte newline
 
-pub passed_none : (file : List ℕ) → Passed file 0 false 0 0
-passed_none file = record { counted = omega arith; from = omega arith; within = omega arith; judged = refl }
+abbrev pub parts_of : List ℕ → List (List ℕ)
+parts_of file = slice_split is_newline file
+
+module _ (line : List ℕ) (byte : ℕ) (file : List ℕ) where
+  lines_next : is_newline byte ≡ true → lines_after line (byte ∷ file) ≡ line ∷ lines_after [] file
+  unfolding lines_after if
+  lines_next h = rw h
+
+  lines_longer : is_newline byte ≡ false → lines_after line (byte ∷ file) ≡ lines_after (line ++ (byte ∷ [])) file
+  unfolding lines_after if
+  lines_longer h = rw h
+
+lines_behind : (file line : List ℕ) → lines_after line file ≡ behind_start line (parts_of file)
+unfolding lines_after
+lines_behind [] line = ap (λ (l : List ℕ). l ∷ []) (sym (append-nil line))
+lines_behind (byte ∷ file) line = go (test (is_newline byte)) (lines_behind file)
+  where
+    go : (is_newline byte ≡ true) ⊎ (is_newline byte ≡ false) → ((start : List ℕ) → lines_after start file ≡ behind_start start (parts_of file))
+        → lines_after line (byte ∷ file) ≡ behind_start line (parts_of (byte ∷ file))
+    go (inl here) later =
+        lines_next line byte file here
+        ∙ ap (λ (l : List (List ℕ)). line ∷ l) (later [] ∙ behind_none is_newline file)
+        ∙ sym (behind_next is_newline line byte file here)
+    go (inr other) later =
+        lines_longer line byte file other
+        ∙ later (line ++ (byte ∷ []))
+        ∙ sym (behind_longer is_newline line byte file other)
+
+pub lines_are : (file : List ℕ) → judged_from 1 false (parts_of file) ≡ judged_of file
+lines_are file =
+    ap (λ (l : List (List ℕ)). judged_from 1 false l) (sym (lines_behind file [] ∙ behind_none is_newline file))
+
+-- a line and its index, as they are counted
+pub counted : (lines : List (List ℕ)) (n i : ℕ) (line : List ℕ) → n < length (enumerate_from 0 lines) → ◌≡◌ {A = ℕ × List ℕ} (i, line) (get_or (enumerate_from 0 lines) n (i, line))
+    → (n < length lines) × (i ≡ n) × (line ≡ get_or lines n line)
+counted lines n i line more is =
+    let within : n < length lines = omega (arith, length-enumerate_from 0 lines) in
+    let both : ◌≡◌ {A = ℕ × List ℕ} (i, line) (0 + n, get_or lines n line) = is ∙ get_or-enumerate_from 0 lines n (i, line) within in
+    (within, ap (λ (p : ℕ × List ℕ). p.0) both ∙ omega arith, ap (λ (p : ℕ × List ℕ). p.1) both)
 
 -- what a line comes to, where it may stand and where it may not
-module _ (number : ℕ) (begun : Bool) (line : List ℕ) (rest : List (List ℕ)) where
-  line_stands : stands begun (entry_of line) ≡ true → judged_from number begun (line ∷ rest) ≡ judged_from (number + 1) (begins begun (entry_of line)) rest
+module _ (number : ℕ) (begun : Bool) (lines : List (List ℕ)) (i : ℕ) (line : List ℕ) (more : i < length lines) (is : line ≡ get_or lines i line) where
+  line_there : drop i lines ≡ line ∷ drop (i + 1) lines
+  line_there = rw (add-one, drop-cons lines i line more) (ap (λ (l : List ℕ). l ∷ drop (suc i) lines) (sym is))
+
+  pub line_stands : stands begun (entry_of line) ≡ true
+      → judged_from (number + 1) (begins begun (entry_of line)) (drop (i + 1) lines) ≡ judged_from number begun (drop i lines)
   unfolding judged_from if
-  line_stands h = rw (h, add-one)
+  line_stands h =
+      let next : number + 1 ≡ suc number = omega arith in
+      rw (line_there, h, next)
 
-  line_amiss : stands begun (entry_of line) ≡ false → judged_from number begun (line ∷ rest) ≡ Amiss number begun
+  pub line_amiss : stands begun (entry_of line) ≡ false → Err (Amiss number begun) ≡ judged_from number begun (drop i lines)
   unfolding judged_from if
-  line_amiss h = rw h
+  line_amiss h = rw (line_there, h)
 
-module _ {file : List ℕ} {newlines : ℕ} {begun : Bool} {start i : ℕ} (p : Passed file newlines begun start i) (more : i < length file) where
-  line_ends : get_or file i 0 ≡ newline → judged_of file ≡ judged_from (newlines + 1) begun (part start i file ∷ lines_after [] (drop (i + 1) file))
-  unfolding lines_after if
-  line_ends e = p.judged ∙ rw (next file i more, eq-eqb _ newline e)
-
-  pub passed_line : get_or file i 0 ≡ newline → stands begun (entry_of (part start i file)) ≡ true
-      → Passed file (newlines + 1) (begins begun (entry_of (part start i file))) (i + 1) (i + 1)
-  passed_line e fine =
-      record {
-        counted = omega (arith, p.counted, p.from);
-        from = omega arith;
-        within = omega arith;
-        judged = line_ends e ∙ rw (part_none file (i + 1)) (line_stands (newlines + 1) begun (part start i file) (lines_after [] (drop (i + 1) file)) fine);
-      }
-
-  pub passed_amiss : get_or file i 0 ≡ newline → stands begun (entry_of (part start i file)) ≡ false → Amiss (newlines + 1) begun ≡ judged_of file
-  passed_amiss e bad = sym (line_ends e ∙ line_amiss (newlines + 1) begun (part start i file) (lines_after [] (drop (i + 1) file)) bad)
-
-  pub passed_byte : (get_or file i 0 ≡ newline → ⊥) → Passed file newlines begun start (i + 1)
-  unfolding lines_after if
-  passed_byte e =
-      record {
-        counted = p.counted;
-        from = omega (arith, p.from);
-        within = omega arith;
-        judged = p.judged ∙ rw (next file i more, ne_eqb _ newline e, part_longer file i more start p.from);
-      }
-
--- the last line
-empty_stands : (begun : Bool) → stands begun (entry_of []) ≡ true
-unfolding unreturned uncommented words_after
-empty_stands begun = refl
-
-module _ {file : List ℕ} {newlines : ℕ} {begun : Bool} {start i : ℕ} (p : Passed file newlines begun start i) (past : length file ≤ i) where
-  abbrev last : List ℕ
-  last = part start (length file) file
-
-  last_left : judged_of file ≡ judged_from (newlines + 1) begun (last ∷ [])
-  unfolding lines_after
-  last_left =
-      let whole : i ≡ length file = omega (arith, p.within) in
-      p.judged ∙ rw (whole, drop-length file)
-
-  pub last_stands : stands begun (entry_of (part start (length file) file)) ≡ true
-      → if (begins begun (entry_of (part start (length file) file))) Right Unbegun ≡ judged_of file
-  unfolding judged_from
-  last_stands fine = sym (last_left ∙ line_stands (newlines + 1) begun last [] fine)
-
-  pub last_amiss : stands begun (entry_of (part start (length file) file)) ≡ false → Amiss (newlines + 1) begun ≡ judged_of file
-  last_amiss bad = sym (last_left ∙ line_amiss (newlines + 1) begun last [] bad)
-
-  -- a line that is amiss has a byte
-  pub last_numbered : stands begun (entry_of (part start (length file) file)) ≡ false → newlines + 1 ≤ length file
-  last_numbered bad =
-      let some : length last ≡ 0 → ⊥ = λ none. false≢true (sym bad ∙ ap (λ (l : List ℕ). stands begun (entry_of l)) (empty_is last none) ∙ empty_stands begun) in
-      ⊎_elim
-      (λ (none : length file ≤ start). absurd (some (simp (length-take, length-drop) (omega arith))))
-      (λ (l : start < length file). omega (arith, p.counted))
-      (le_or_lt (length file) start)
+pub lines_end : (number : ℕ) (begun : Bool) (lines : List (List ℕ)) (i : ℕ) → length lines ≤ i
+    → if begun (Ok tt) (Err Unbegun) ≡ judged_from number begun (drop i lines)
+unfolding judged_from
+lines_end number begun lines i past = rw (drop_of_length-le lines {i = i} past)

@@ -5,3 +5,4 @@ pub mod Ends
 pub mod Finished
 pub mod Refused
 pub mod Worked
+pub mod Splits

@@ -1,33 +1,33 @@
 -- The words of a line, held one by one, make the line that all of them make.
-use mathlib.Core.Bool.{Bool, true, false, ◌&&◌}
-use mathlib.Core.List.{List, [], ◌∷◌, map}
+use mathlib.Core.Bool.{Bool, true, false}
+use mathlib.Core.List.{List, [], ◌∷◌, ◌++◌, map, append-nil}
 use mathlib.Core.Logic.{◌⊎◌, inl, inr, ⊎_elim}
 use mathlib.Core.Path.{◌≡◌, refl, sym, ap, ◌∙◌}
-use Prim.Native.Nat.{ℕ, suc, ◌+◌, ◌^◌, ◌≤◌, ◌<◌}
+use Prim.Native.Nat.{ℕ, suc, ◌+◌, ◌≤◌, ◌<◌}
 use native.Mathlib.Numerals.{add-one}
 use native.Mathlib.Omega.{arith}
-use lib.ListN.{length, drop, get_or, set, replicate, length-map}
-use lib.Seq.{sets, drop-length}
-use borrow.Author.Tests.{ltb-true, lt-ltb, le-ltb, ne_eqb}
+use lib.ListN.{length, drop, get_or, set, replicate, length-map, drop_of_length-le}
+use lib.Seq.{sets, drop-cons}
+use borrow.Author.Tests.{lt-ltb, le-ltb, ne_eqb}
+use Rattle.std.specs.Prelude.{Option, None, Some}
+use Rattle.std.specs.List.{slice_split}
 use Rattle.table.specs.Fold.{if}
-use Rattle.table.proofs.Tests.{both, le_or_lt}
-use Rattle.file.specs.Reading.{part}
+use Rattle.table.proofs.Tests.{le_or_lt}
 use Rattle.listing.specs.Laws.{spelt_after}
 use Rattle.notes.specs.Draft.{held_after, is_gap}
-use Rattle.notes.specs.Line.{in_word}
 use Rattle.notes.specs.Words.{ended_word, words_after, all_of, is_name, is_number, is_value, value_of, read_as}
 use Rattle.notes.proofs.Grammar.{test, word_ends, word_goes_on}
 use Rattle.ledger.specs.declared.Entry.{Entry}
 use Rattle.ledger.specs.declared.Entry.TheVariants.{Wrong}
 use Rattle.ledger.specs.declared.phrase.Phrase.{Phrase}
 use Rattle.ledger.specs.Entry.{numbers_entry, entry_of_words}
-use Rattle.ledger.specs.Phrase.{words_most, no_words, wrong_words, with_word, with_part, with_words, fields_entry, phrase_entry}
-use Rattle.file.proofs.Parts.{next, part_longer, part_none}
+use Rattle.ledger.specs.Phrase.{words_most, no_words, with_word, with_part, with_words, fields_entry, phrase_entry}
+use Rattle.ledger.proofs.Splits.{behind_start, behind_none, behind_next, behind_longer}
 
--- ---- words that are parted byte by byte
+-- ---- words that are parted by gaps
 
 -- what is empty is no word
-pub no_part : (p : Phrase) (part : List ℕ) → length part ≡ 0 → p ≡ with_part p part
+pub no_part : (p : Phrase) (part : List ℕ) → length part ≡ 0 → Some p ≡ with_part p part
 no_part p [] none = refl
 no_part p (byte ∷ word) none = absurd (omega arith)
 
@@ -35,118 +35,120 @@ pub some_part : (p : Phrase) (part : List ℕ) → (length part ≡ 0 → ⊥) �
 some_part p [] some = absurd (some refl)
 some_part p (byte ∷ word) some = refl
 
-part_held : (p : Phrase) (word : List ℕ) (words : List (List ℕ)) → with_words p (ended_word word words) ≡ with_words (with_part p word) words
+-- the words so far, and then other parts
+unfoldable pub with_parts : Option Phrase → List (List ℕ) → Option Phrase
+with_parts None parts = None
+with_parts (Some p) [] = Some p
+with_parts (Some p) (part ∷ rest) = with_parts (with_part p part) rest
+
+pub parts_all : (p : Phrase) (parts : List (List ℕ)) (i : ℕ) → length parts ≤ i → with_parts (Some p) (drop i parts) ≡ Some p
+unfolding with_parts
+parts_all p parts i past = rw (drop_of_length-le parts {i = i} past)
+
+-- a part more: one that may stand there, and one that may not
+module _ (p : Phrase) (parts : List (List ℕ)) (i : ℕ) (part : List ℕ) (more : i < length parts) (is : part ≡ get_or parts i part) where
+  parts_more : with_parts (Some p) (drop i parts) ≡ with_parts (with_part p part) (drop (i + 1) parts)
+  unfolding with_parts
+  parts_more =
+      rw (add-one, drop-cons parts i part more)
+      (ap (λ (l : List ℕ). with_parts (with_part p l) (drop (suc i) parts)) (sym is))
+
+  pub part_stands : (q : Phrase) → Some q ≡ with_part p part → with_parts (Some q) (drop (i + 1) parts) ≡ with_parts (Some p) (drop i parts)
+  part_stands q taken = ap (λ (o : Option Phrase). with_parts o (drop (i + 1) parts)) taken ∙ sym parts_more
+
+  pub part_amiss : None ≡ with_part p part → None ≡ with_parts (Some p) (drop i parts)
+  unfolding with_parts
+  part_amiss none = ap (λ (o : Option Phrase). with_parts o (drop (i + 1) parts)) none ∙ sym parts_more
+
+part_held : (p : Phrase) (word : List ℕ) (words : List (List ℕ)) → with_words (Some p) (ended_word word words) ≡ with_words (with_part p word) words
 unfolding with_words
 part_held p [] words = refl
 part_held p (byte ∷ word) words = refl
 
--- what has come of a text by byte i, where the word that is not ended began at `start`
-pub record Parted (text : List ℕ) (phrase : Phrase) (start i : ℕ) : Type 0 where
-  pub begun : start ≤ i
-  pub within : i ≤ length text
-  pub words : with_words no_words (words_after [] text) ≡ with_words phrase (words_after (part start i text) (drop i text))
+none_left : (p : Option Phrase) → with_parts p [] ≡ with_words p []
+unfolding with_parts with_words
+none_left None = refl
+none_left (Some p) = refl
 
-pub parted_none : (text : List ℕ) → Parted text no_words 0 0
-parted_none text = record { begun = omega arith; within = omega arith; words = refl }
+-- the parts of a text behind the start of a word are its words, but for those that are empty
+parts_behind : (text word : List ℕ) (p : Option Phrase) → with_parts p (behind_start word (slice_split is_gap text)) ≡ with_words p (words_after word text)
+unfolding with_parts with_words words_after
+parts_behind text word None = refl
+parts_behind [] word (Some p) = rw (append-nil word) (none_left (with_part p word) ∙ sym (part_held p word []))
+parts_behind (byte ∷ text) word (Some p) = go (test (is_gap byte)) (parts_behind text)
+  where
+    go : (is_gap byte ≡ true) ⊎ (is_gap byte ≡ false) → ((start : List ℕ) (o : Option Phrase) → with_parts o (behind_start start (slice_split is_gap text)) ≡ with_words o (words_after start text))
+        → with_parts (Some p) (behind_start word (slice_split is_gap (byte ∷ text))) ≡ with_words (Some p) (words_after word (byte ∷ text))
+    go (inl gap) later =
+        ap (with_parts (Some p)) (behind_next is_gap word byte text gap)
+        ∙ ap (with_parts (with_part p word)) (sym (behind_none is_gap text))
+        ∙ later [] (with_part p word)
+        ∙ sym (ap (with_words (Some p)) (word_ends byte text word gap) ∙ part_held p word (words_after [] text))
+    go (inr other) later =
+        ap (with_parts (Some p)) (behind_longer is_gap word byte text other)
+        ∙ later (word ++ (byte ∷ [])) (Some p)
+        ∙ sym (ap (with_words (Some p)) (word_goes_on byte text word other))
 
-module _ {text : List ℕ} {phrase : Phrase} {start i : ℕ} (t : Parted text phrase start i) (more : i < length text) where
-  pub parted_gap : is_gap (get_or text i 0) ≡ true → Parted text (with_part phrase (part start i text)) (i + 1) (i + 1)
-  parted_gap gap =
-      record {
-        begun = omega arith;
-        within = omega arith;
-        words =
-            t.words
-            ∙ rw (next text i more, word_ends (get_or text i 0) (drop (i + 1) text) (part start i text) gap, part_none text (i + 1)) (part_held phrase (part start i text) (words_after [] (drop (i + 1) text)));
-      }
-
-  pub parted_byte : is_gap (get_or text i 0) ≡ false → Parted text phrase start (i + 1)
-  parted_byte other =
-      record {
-        begun = omega (arith, t.begun);
-        within = omega arith;
-        words = t.words ∙ rw (next text i more, word_goes_on (get_or text i 0) (drop (i + 1) text) (part start i text) other, part_longer text i more start t.begun);
-      }
-
-pub parted_all : (text : List ℕ) (phrase : Phrase) (start i : ℕ) → Parted text phrase start i → length text ≤ i
-    → with_part phrase (part start (length text) text) ≡ with_words no_words (words_after [] text)
-unfolding words_after with_words
-parted_all text phrase start i t past =
-    let whole : i ≡ length text = omega (arith, t.within) in
-    let end : drop (length text) text ≡ [] = drop-length text in
-    sym (t.words ∙ rw (whole, end) (part_held phrase (part start (length text) text) []))
-
--- ---- numbers of 32 bits
-
-pub two_fit : (named : Bool) (a b : ℕ) → (named && in_word a && in_word b) ≡ true → (a < 2 ^ 32) × (b < 2 ^ 32)
-two_fit named a b h =
-    let front = both (named && in_word a) (in_word b) h in
-    (ltb-true a (2 ^ 32) (both named (in_word a) front.0).1, ltb-true b (2 ^ 32) front.1)
-
-pub three_fit : (named : Bool) (a b c : ℕ) → (named && in_word a && in_word b && in_word c) ≡ true → (a < 2 ^ 32) × (b < 2 ^ 32) × (c < 2 ^ 32)
-three_fit named a b c h =
-    let front = both (named && in_word a && in_word b) (in_word c) h in
-    let two = two_fit named a b front.0 in
-    (two.0, two.1, ltb-true c (2 ^ 32) front.1)
+pub parts_are : (text : List ℕ) → with_parts (Some no_words) (slice_split is_gap text) ≡ with_words (Some no_words) (words_after [] text)
+parts_are text = ap (with_parts (Some no_words)) (sym (behind_none is_gap text)) ∙ parts_behind text [] (Some no_words)
 
 -- ---- the line that they make
 
 -- a phrase that is right so far
 abbrev holding : ℕ → List ℕ → Phrase
-holding words held = record { right = true; words = words; held = held }
+holding words held = record { words = words; held = held }
 
-wrong_stays : (words : List (List ℕ)) → with_words wrong_words words ≡ wrong_words
-unfolding with_words with_word if
-wrong_stays [] = refl
-wrong_stays (word ∷ rest) = wrong_stays rest
+wrong_stays : (words : List (List ℕ)) → with_words None words ≡ None
+unfolding with_words
+wrong_stays words = refl
 
 abbrev spelt : List (List ℕ) → List ℕ
 spelt values = map (spelt_after 0) values
 
 -- a number more behind a name, where there is room for it
 module _ (k : ℕ) (held : List ℕ) (w : List ℕ) where
-  number_held : suc k < words_most → is_number w ≡ true → with_word (holding (suc k) held) w ≡ holding (suc (suc k)) (set held (suc k) (spelt_after 0 w))
+  number_held : suc k < words_most → is_number w ≡ true → with_word (holding (suc k) held) w ≡ Some (holding (suc (suc k)) (set held (suc k) (spelt_after 0 w)))
   unfolding with_word read_as is_value value_of if
   number_held few is = rw (lt-ltb (suc k) words_most few, ne_eqb (suc k) 0 (λ e. omega arith), is, add-one)
 
-  no_number : is_number w ≡ false → with_word (holding (suc k) held) w ≡ wrong_words
+  no_number : is_number w ≡ false → with_word (holding (suc k) held) w ≡ None
   unfolding with_word read_as is_value value_of if
   no_number is = ⊎_elim (λ full. rw (le-ltb (suc k) words_most full)) (λ few. rw (lt-ltb (suc k) words_most few, ne_eqb (suc k) 0 (λ e. omega arith), is)) (le_or_lt words_most (suc k))
 
-  too_many : words_most ≤ suc k → with_word (holding (suc k) held) w ≡ wrong_words
+  too_many : words_most ≤ suc k → with_word (holding (suc k) held) w ≡ None
   unfolding with_word if
   too_many full = rw (le-ltb (suc k) words_most full)
 
 -- so many numbers as there is room for are held, if each is one
-abbrev numbers_behind : List (List ℕ) → ℕ → List ℕ → Phrase
-numbers_behind values k held = if (all_of is_number values) (holding (suc k + length values) (sets held (suc k) (spelt values))) wrong_words
+abbrev numbers_behind : List (List ℕ) → ℕ → List ℕ → Option Phrase
+numbers_behind values k held = if (all_of is_number values) (Some (holding (suc k + length values) (sets held (suc k) (spelt values)))) None
 
 numbers_held : (values : List (List ℕ)) (k : ℕ) (held : List ℕ) → suc k + length values ≤ words_most
-    → with_words (holding (suc k) held) values ≡ numbers_behind values k held
+    → with_words (Some (holding (suc k) held)) values ≡ numbers_behind values k held
 unfolding with_words all_of if
 numbers_held [] k held few = let same : suc k + 0 ≡ suc k = omega arith in rw same
 numbers_held (w ∷ rest) k held few = go (numbers_held rest (suc k) (set held (suc k) (spelt_after 0 w)) (omega arith)) (test (is_number w))
   where
-    go : with_words (holding (suc (suc k)) (set held (suc k) (spelt_after 0 w))) rest ≡ numbers_behind rest (suc k) (set held (suc k) (spelt_after 0 w))
-        → (is_number w ≡ true) ⊎ (is_number w ≡ false) → with_words (holding (suc k) held) (w ∷ rest) ≡ numbers_behind (w ∷ rest) k held
+    go : with_words (Some (holding (suc (suc k)) (set held (suc k) (spelt_after 0 w)))) rest ≡ numbers_behind rest (suc k) (set held (suc k) (spelt_after 0 w))
+        → (is_number w ≡ true) ⊎ (is_number w ≡ false) → with_words (Some (holding (suc k) held)) (w ∷ rest) ≡ numbers_behind (w ∷ rest) k held
     go later (inl is) =
         let same : suc (suc k) + length rest ≡ suc k + suc (length rest) = omega arith in
-        ap (λ (p : Phrase). with_words p rest) (number_held k held w (omega arith) is) ∙ later ∙ rw (same, is)
-    go later (inr is) = ap (λ (p : Phrase). with_words p rest) (no_number k held w is) ∙ wrong_stays rest ∙ rw is
+        ap (λ (p : Option Phrase). with_words p rest) (number_held k held w (omega arith) is) ∙ later ∙ rw (same, is)
+    go later (inr is) = ap (λ (p : Option Phrase). with_words p rest) (no_number k held w is) ∙ wrong_stays rest ∙ rw is
 
 -- and more are wrong
-more_wrong : (values : List (List ℕ)) (k : ℕ) (held : List ℕ) → words_most < suc k + length values → suc k ≤ words_most → with_words (holding (suc k) held) values ≡ wrong_words
+more_wrong : (values : List (List ℕ)) (k : ℕ) (held : List ℕ) → words_most < suc k + length values → suc k ≤ words_most → with_words (Some (holding (suc k) held)) values ≡ None
 unfolding with_words
 more_wrong [] k held many low = absurd (omega arith)
 more_wrong (w ∷ rest) k held many low =
     ⊎_elim
-    (λ full. ap (λ (p : Phrase). with_words p rest) (too_many k held w full) ∙ wrong_stays rest)
+    (λ full. ap (λ (p : Option Phrase). with_words p rest) (too_many k held w full) ∙ wrong_stays rest)
     (λ few.
     ⊎_elim
     (λ is.
-    ap (λ (p : Phrase). with_words p rest) (number_held k held w few is)
+    ap (λ (p : Option Phrase). with_words p rest) (number_held k held w few is)
     ∙ more_wrong rest (suc k) (set held (suc k) (spelt_after 0 w)) (omega arith) (omega arith))
-    (λ is. ap (λ (p : Phrase). with_words p rest) (no_number k held w is) ∙ wrong_stays rest)
+    (λ is. ap (λ (p : Option Phrase). with_words p rest) (no_number k held w is) ∙ wrong_stays rest)
     (test (is_number w)))
     (le_or_lt words_most (suc k))
 
@@ -156,8 +158,8 @@ named h = set (replicate words_most 0) 0 h
 
 -- of up to five
 few_make : (h : ℕ) (numbers : List ℕ) → length numbers < words_most
-    → phrase_entry (holding (1 + length numbers) (sets (named h) 1 numbers)) ≡ numbers_entry h numbers
-unfolding phrase_entry fields_entry if
+    → fields_entry (holding (1 + length numbers) (sets (named h) 1 numbers)) ≡ numbers_entry h numbers
+unfolding fields_entry if
 few_make h [] few = refl
 few_make h (a ∷ []) few = refl
 few_make h (a ∷ b ∷ []) few = refl
@@ -177,8 +179,8 @@ many_make h (a ∷ b ∷ c ∷ d ∷ e ∷ []) many = absurd (omega arith)
 many_make h (a ∷ b ∷ c ∷ d ∷ e ∷ f ∷ more) many = refl
 
 -- so the words make what they are held to make
-held_or_wrong : (b : Bool) (p : Phrase) → phrase_entry (if b p wrong_words) ≡ if b (phrase_entry p) Wrong
-unfolding phrase_entry if
+held_or_wrong : (b : Bool) (p : Phrase) → phrase_entry (if b (Some p) None) ≡ if b (fields_entry p) Wrong
+unfolding if
 held_or_wrong true p = refl
 held_or_wrong false p = refl
 
@@ -194,35 +196,35 @@ module _ (name : List ℕ) (values : List (List ℕ)) where
   long : length (spelt values) ≡ length values
   long = length-map values (spelt_after 0)
 
-  behind_name : phrase_entry (with_words (holding 1 (named h)) values) ≡ if (all_of is_number values) (numbers_entry h (spelt values)) Wrong
-  unfolding phrase_entry if
+  behind_name : phrase_entry (with_words (Some (holding 1 (named h))) values) ≡ if (all_of is_number values) (numbers_entry h (spelt values)) Wrong
+  unfolding if
   behind_name = ⊎_elim few many (le_or_lt (1 + length values) words_most)
     where
-      few : 1 + length values ≤ words_most → phrase_entry (with_words (holding 1 (named h)) values) ≡ if (all_of is_number values) (numbers_entry h (spelt values)) Wrong
+      few : 1 + length values ≤ words_most → phrase_entry (with_words (Some (holding 1 (named h))) values) ≡ if (all_of is_number values) (numbers_entry h (spelt values)) Wrong
       few l =
-          let make = ap (λ (n : ℕ). phrase_entry (holding (1 + n) (sets (named h) 1 (spelt values)))) (sym long) ∙ few_make h (spelt values) (omega (arith, long)) in
+          let make = ap (λ (n : ℕ). fields_entry (holding (1 + n) (sets (named h) 1 (spelt values)))) (sym long) ∙ few_make h (spelt values) (omega (arith, long)) in
           ap phrase_entry (numbers_held values 0 (named h) l)
           ∙ held_or_wrong (all_of is_number values) (holding (1 + length values) (sets (named h) 1 (spelt values)))
           ∙ ap (λ (e : Entry). if (all_of is_number values) e Wrong) make
 
-      many : words_most < 1 + length values → phrase_entry (with_words (holding 1 (named h)) values) ≡ if (all_of is_number values) (numbers_entry h (spelt values)) Wrong
+      many : words_most < 1 + length values → phrase_entry (with_words (Some (holding 1 (named h))) values) ≡ if (all_of is_number values) (numbers_entry h (spelt values)) Wrong
       many l =
           ap phrase_entry (more_wrong values 0 (named h) l (omega arith))
           ∙ sym (ap (λ (e : Entry). if (all_of is_number values) e Wrong) (many_make h (spelt values) (omega (arith, long))) ∙ either_wrong (all_of is_number values))
 
-  name_held : is_name name ≡ true → with_word no_words name ≡ holding 1 (named h)
+  name_held : is_name name ≡ true → with_word no_words name ≡ Some (holding 1 (named h))
   unfolding with_word read_as is_value value_of if
   name_held is = rw is
 
-  no_name : is_name name ≡ false → with_word no_words name ≡ wrong_words
+  no_name : is_name name ≡ false → with_word no_words name ≡ None
   unfolding with_word read_as is_value value_of if
   no_name is = rw is
 
-pub phrase_makes : (words : List (List ℕ)) → phrase_entry (with_words no_words words) ≡ entry_of_words words
-unfolding with_words phrase_entry fields_entry if
+pub phrase_makes : (words : List (List ℕ)) → phrase_entry (with_words (Some no_words) words) ≡ entry_of_words words
+unfolding with_words fields_entry if
 phrase_makes [] = refl
 phrase_makes (name ∷ values) = go (test (is_name name))
   where
-    go : (is_name name ≡ true) ⊎ (is_name name ≡ false) → phrase_entry (with_words no_words (name ∷ values)) ≡ entry_of_words (name ∷ values)
-    go (inl is) = ap (λ (p : Phrase). phrase_entry (with_words p values)) (name_held name values is) ∙ behind_name name values ∙ rw is
-    go (inr is) = ap (λ (p : Phrase). phrase_entry (with_words p values)) (no_name name values is) ∙ ap phrase_entry (wrong_stays values) ∙ rw is
+    go : (is_name name ≡ true) ⊎ (is_name name ≡ false) → phrase_entry (with_words (Some no_words) (name ∷ values)) ≡ entry_of_words (name ∷ values)
+    go (inl is) = ap (λ (p : Option Phrase). phrase_entry (with_words p values)) (name_held name values is) ∙ behind_name name values ∙ rw is
+    go (inr is) = ap (λ (p : Option Phrase). phrase_entry (with_words p values)) (no_name name values is) ∙ ap phrase_entry (wrong_stays values) ∙ rw is

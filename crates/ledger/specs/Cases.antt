@@ -1,11 +1,11 @@
 -- Worked cases: some lines and what they say, and some files with what is said or printed of them. The statement that covers the lists is `CasesHold`.
-use Rattle.std.specs.Prelude.{true, false, List, [], ◌∷◌}
+use Rattle.std.specs.Prelude.{true, false, List, [], ◌∷◌, Result, Ok, Err}
 use Prim.Native.String.{String}
 use Rattle.booking.specs.declared.Booking.TheVariants.{Add, Withdraw}
 use Rattle.ledger.specs.declared.Entry.{Entry}
 use Rattle.ledger.specs.declared.Entry.TheVariants.{Blank, Begin, Call, Wrong}
-use Rattle.ledger.specs.declared.Judged.{Judged}
-use Rattle.ledger.specs.declared.Judged.TheVariants.{Right, Unbegun, Amiss}
+use Rattle.ledger.specs.declared.Fault.{Fault}
+use Rattle.ledger.specs.declared.Fault.TheVariants.{Unbegun, Amiss}
 
 pub record LineCase : Type 0 where
   pub line : String
@@ -49,22 +49,22 @@ line_cases =
 
 pub record FileCase : Type 0 where
   pub file : String
-  pub judged : Judged
+  pub judged : Result (Unit {0}) Fault
 
-abbrev pub is : String → Judged → FileCase
+abbrev pub is : String → Result (Unit {0}) Fault → FileCase
 is file judged = record { file = file; judged = judged }
 
 unfoldable pub file_cases : List FileCase
 file_cases =
-    is "" Unbegun
-    ∷ is "# nothing\n\n" Unbegun
-    ∷ is "\nbegin 1 2 3 4 5" Right
-    ∷ is "begin 1 2 3 4 5\nadd 1 2 3\n\nwithdraw 1 1\n" Right
-    ∷ is "add 1 2 3\nbegin 1 2 3 4 5\n" (Amiss 1 false)
-    ∷ is "# first\n\nbegin 1 2 3 4\n" (Amiss 3 false)
-    ∷ is "begin 1 2 3 4 5\n\nbegin 1 2 3 4 5\n" (Amiss 3 true)
-    ∷ is "begin 1 2 3 4 5\nadd 1 2\nwithdraw\n" (Amiss 2 true)
-    ∷ is "begin 1 2 3 4 5\nwithdraw 1" (Amiss 2 true)
+    is "" (Err Unbegun)
+    ∷ is "# nothing\n\n" (Err Unbegun)
+    ∷ is "\nbegin 1 2 3 4 5" (Ok tt)
+    ∷ is "begin 1 2 3 4 5\nadd 1 2 3\n\nwithdraw 1 1\n" (Ok tt)
+    ∷ is "add 1 2 3\nbegin 1 2 3 4 5\n" (Err (Amiss 1 false))
+    ∷ is "# first\n\nbegin 1 2 3 4\n" (Err (Amiss 3 false))
+    ∷ is "begin 1 2 3 4 5\n\nbegin 1 2 3 4 5\n" (Err (Amiss 3 true))
+    ∷ is "begin 1 2 3 4 5\nadd 1 2\nwithdraw\n" (Err (Amiss 2 true))
+    ∷ is "begin 1 2 3 4 5\nwithdraw 1" (Err (Amiss 2 true))
     ∷ []
 
 pub record PrintCase : Type 0 where

@@ -1,5 +1,5 @@
 -- What is proved of files of bookings.
-use Rattle.std.specs.Prelude.{true, List, [], ◌∷◌, ◌++◌, map, ◌≡◌, ℕ, suc, ◌≤◌, ltb, length, drop}
+use Rattle.std.specs.Prelude.{true, List, [], ◌∷◌, ◌++◌, map, ◌≡◌, ℕ, suc, ◌≤◌, ltb, length, drop, None, Ok}
 use Rattle.table.specs.Fold.{if}
 use Rattle.table.specs.Admission.{ranges_refusal}
 use Rattle.order.specs.declared.Order.TheVariants.{Nearest}
@@ -32,7 +32,7 @@ FinishedIsComposed =
     → let file = file_of Two Nearest (finished_table b) [] in
     length file ≤ length out
     → composed_of (bytes_read (read started buffer) (finished_notes b)) out
-    ≡ filed (written_by (count_in b) 0 (length file)) (file ++ drop (length file) out)
+    ≡ filed (Ok (written_by (count_in b) None (length file))) (file ++ drop (length file) out)
 
 -- what is printed of some lines where every booking is refused by 31
 unfoldable pub all_refused : List (List ℕ) → List ℕ

@@ -1,5 +1,5 @@
 -- A file of bookings, line by line: whether each line may stand where it stands, and what is printed.
-use Rattle.std.specs.Prelude.{Bool, true, false, not, List, [], ◌∷◌, ◌++◌, ℕ, suc, ◌+◌, min, eqb, length, drop}
+use Rattle.std.specs.Prelude.{Bool, true, false, not, List, [], ◌∷◌, ◌++◌, ℕ, suc, ◌+◌, min, eqb, length, drop, Result, Ok, Err}
 use Rattle.table.specs.Fold.{if}
 use Rattle.order.specs.declared.Order.TheVariants.{Nearest}
 use Rattle.file.specs.declared.form.Form.TheVariants.{Two}
@@ -12,8 +12,8 @@ use Rattle.booking.specs.declared.Receipt.{Receipt}
 use Rattle.ledger.specs.Entry.{entry_of}
 use Rattle.ledger.specs.declared.Entry.{Entry}
 use Rattle.ledger.specs.declared.Entry.TheVariants.{Blank, Begin, Call, Wrong}
-use Rattle.ledger.specs.declared.Judged.{Judged}
-use Rattle.ledger.specs.declared.Judged.TheVariants.{Right, Unbegun, Amiss}
+use Rattle.ledger.specs.declared.Fault.{Fault}
+use Rattle.ledger.specs.declared.Fault.TheVariants.{Unbegun, Amiss}
 
 -- the lines of a file, each without its newline; what follows the last newline is one, too
 unfoldable pub lines_after : List ℕ → List ℕ → List (List ℕ)
@@ -45,12 +45,12 @@ begins begun (Call booking) = begun
 begins begun Wrong = begun
 
 -- the first line that may not stand where it stands, by its number, and whether a table was begun before it; or that none was begun at all
-unfoldable pub judged_from : ℕ → Bool → List (List ℕ) → Judged
-judged_from number begun [] = if begun Right Unbegun
+unfoldable pub judged_from : ℕ → Bool → List (List ℕ) → Result (Unit {0}) Fault
+judged_from number begun [] = if begun (Ok tt) (Err Unbegun)
 judged_from number begun (line ∷ rest) =
-    if (stands begun (entry_of line)) (judged_from (suc number) (begins begun (entry_of line)) rest) (Amiss number begun)
+    if (stands begun (entry_of line)) (judged_from (suc number) (begins begun (entry_of line)) rest) (Err (Amiss number begun))
 
-abbrev pub judged_of : List ℕ → Judged
+abbrev pub judged_of : List ℕ → Result (Unit {0}) Fault
 judged_of file = judged_from 1 false (lines_of file)
 
 -- what a line comes to: the table afterwards, and its reply; of a blank or wrong line nothing

@@ -26,10 +26,9 @@ pub enum Entry {
     Wrong,
 }
 
-// Of a file: every line may stand where it stands; no table is begun; or the number of the first line that may not, and whether a table was begun before it.
-#[derive(Clone, Copy)]
-pub enum Judged {
-    Right,
+// Why a file is not taken: no table is begun; or a line may not stand where it stands, the first of them by its number, and whether a table was begun before it.
+#[derive(Clone, Copy, Debug, PartialEq, Eq)]
+pub enum Fault {
     Unbegun,
     Amiss { line: u64, begun: bool },
 }

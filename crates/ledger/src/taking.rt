@@ -5,6 +5,7 @@ ghost use Rattle.ledger.specs.Ledger.{taken_by};
 
 use crate::Entry;
 use booking::{Book, Booked, Receipt};
+use table::Numbers;
 
 // The table after a line, and the reply to it; a line that is blank or wrong changes nothing.
 pub fn taken(book: Book, entry: Entry) -> Booked
@@ -18,7 +19,14 @@ pub fn taken(book: Book, entry: Entry) -> Booked
             padding,
             limit1,
             limit2,
-        } => Book::begin(worst, span, padding, limit1, limit2),
+        } => {
+            let numbers = Numbers {
+                worst,
+                span,
+                padding,
+            };
+            Book::begin(numbers, limit1, limit2)
+        }
         Entry::Call(booking) => book.book(booking),
         Entry::Wrong => passed_over(book),
     }

@@ -1,51 +1,60 @@
-use Rattle.ledger.specs.Ledger.{stands}
-use Rattle.ledger.proofs.Judging.{passed_none, passed_line, passed_amiss, passed_byte, last_stands, last_amiss, last_numbered}
 use native.Mathlib.Omega.{arith}
 use mathlib.Core.Path.{sym, ap, ◌∙◌}
+use Prim.Native.Nat.{◌+◌, ◌≤◌}
+use lib.Dec.{eqb}
+use lib.ListN.{length}
+use Rattle.std.proofs.Common.{tests}
+use Rattle.std.proofs.lemmas.List.{length_push}
+use Rattle.std.proofs.lemmas.List.FromFn.{length-enumerate_from}
+use Rattle.std.proofs.lemmas.Iterator.Splits.{YieldsList-from_slice_split}
+use Rattle.std.proofs.lemmas.Iterator.Consumers.{YieldsList-from_enumerate, YieldsList-at, YieldsList-turn, YieldsList-end}
+use Rattle.std.proofs.lemmas.Grind.{common_steps}
+use Rattle.table.specs.Fold.{if}
+use Rattle.ledger.specs.Ledger.{stands}
+use Rattle.ledger.proofs.Judging.{parts_of, counted, lines_are, line_stands, line_amiss, lines_end}
 use Rattle.ledger.proofs.lines.judge.Goals as goal
 
 pub loop-i-init : goal.loop-i-init
-loop-i-init c = passed_none _
-
-pub slice_bounds-entry_of-count : goal.slice_bounds-entry_of-count
-slice_bounds-entry_of-count c = c.loop-i.invariant.from
-
-pub overflow_add-result : goal.overflow_add-result
-overflow_add-result c = let p = c.loop-i.invariant in omega (arith, p.counted, p.from)
+loop-i-init c = lines_are c.args.file.now
 
 pub returns-then-not-stands : goal.returns-then-not-stands
 returns-then-not-stands c =
-    let said = ap (stands _) (sym c.entry_of-entry.ensures) in
-    passed_amiss c.loop-i.invariant (omega arith) c.if-file-i-eq10.true
-    (said ∙ sym c.stands.ensures ∙ c.if-not-stands.true)
-
-pub overflow_add-newlines : goal.overflow_add-newlines
-overflow_add-newlines c = let p = c.loop-i.invariant in omega (arith, p.counted, p.from)
-
-pub loop-i-preserved-else-not-stands : goal.loop-i-preserved-else-not-stands
-loop-i-preserved-else-not-stands c =
-    let entry = c.entry_of-entry.ensures in
-    let fine = ap (stands _) (sym entry) ∙ sym c.stands.ensures ∙ c.if-not-stands.false in
-    rw (c.begins-begun.ensures, entry) (passed_line c.loop-i.invariant (omega arith) c.if-file-i-eq10.true fine)
+    let loop = c.loop-i in
+    let lines = parts_of c.args.file.now in
+    let road = YieldsList-from_enumerate (YieldsList-at {t = c.split.result} (cc) (YieldsList-from_slice_split _ (λ b. eqb b 10) c.args.file.now (cc) (cc) (cc) (λ x b q k. grind (arith, common_steps, tests, k.called)))) (cc) in
+    let t = YieldsList-turn road loop.yielded _ loop.yielded_by _ _ (c.in-Some.i, c.in-Some.line) c.in-Some.is c.next.ensures.steps in
+    let n = counted lines (length loop.yielded) c.in-Some.i c.in-Some.line.now t.0 t.1 in
+    let bad = ap (stands loop.begun) (sym c.entry_of-entry.ensures) ∙ sym c.stands.ensures ∙ c.if-not-stands.true in
+    rw n.1 (line_amiss (length loop.yielded + 1) loop.begun lines (length loop.yielded) c.in-Some.line.now n.0 n.2 bad ∙ loop.invariant)
 
 pub loop-i-preserved : goal.loop-i-preserved
-loop-i-preserved c = passed_byte c.loop-i.invariant (omega arith) c.if-file-i-eq10.false
+loop-i-preserved c =
+    let loop = c.loop-i in
+    let lines = parts_of c.args.file.now in
+    let road = YieldsList-from_enumerate (YieldsList-at {t = c.split.result} (cc) (YieldsList-from_slice_split _ (λ b. eqb b 10) c.args.file.now (cc) (cc) (cc) (λ x b q k. grind (arith, common_steps, tests, k.called)))) (cc) in
+    let t = YieldsList-turn road loop.yielded _ loop.yielded_by _ _ (c.in-Some.i, c.in-Some.line) c.in-Some.is c.next.ensures.steps in
+    let n = counted lines (length loop.yielded) c.in-Some.i c.in-Some.line.now t.0 t.1 in
+    let entry = c.entry_of-entry.ensures in
+    let fine = ap (stands loop.begun) (sym entry) ∙ sym c.stands.ensures ∙ c.if-not-stands.false in
+    rw (length_push loop.yielded (c.in-Some.i, c.in-Some.line), c.begins-begun.ensures, entry)
+    (line_stands (length loop.yielded + 1) loop.begun lines (length loop.yielded) c.in-Some.line.now n.0 n.2 fine ∙ loop.invariant)
 
-pub slice_bounds-entry_of-count-2 : goal.slice_bounds-entry_of-count-2
-slice_bounds-entry_of-count-2 c = let p = c.loop-i.invariant in omega (arith, p.from, p.within)
+pub returns-then-begun : goal.returns-then-begun
+unfolding if
+returns-then-begun c =
+    let loop = c.loop-i in
+    let lines = parts_of c.args.file.now in
+    let road = YieldsList-from_enumerate (YieldsList-at {t = c.split.result} (cc) (YieldsList-from_slice_split _ (λ b. eqb b 10) c.args.file.now (cc) (cc) (cc) (λ x b q k. grind (arith, common_steps, tests, k.called)))) (cc) in
+    let t = YieldsList-end road loop.yielded _ loop.yielded_by _ _ c.in-None.is c.next.ensures.steps in
+    let past : length lines ≤ length loop.yielded = omega (arith, t.1, length-enumerate_from 0 lines) in
+    rw c.if-begun.true at (lines_end (length loop.yielded + 1) loop.begun lines (length loop.yielded) past ∙ loop.invariant)
 
-pub returns-then-stands : goal.returns-then-stands
-returns-then-stands c =
-    let entry = c.entry_of-last.ensures in
-    let fine = ap (stands _) (sym entry) ∙ sym c.stands-2.ensures ∙ c.if-stands.true in
-    c.ended.ensures ∙ rw (c.begins.ensures, entry) (last_stands c.loop-i.invariant (omega arith) fine)
-
-pub overflow_add-result-2 : goal.overflow_add-result-2
-overflow_add-result-2 c =
-    let bad = ap (stands _) (sym c.entry_of-last.ensures) ∙ sym c.stands-2.ensures ∙ c.if-stands.false in
-    omega (arith, last_numbered c.loop-i.invariant (omega arith) bad)
-
-pub returns : goal.returns
-returns c =
-    let bad = ap (stands _) (sym c.entry_of-last.ensures) ∙ sym c.stands-2.ensures ∙ c.if-stands.false in
-    last_amiss c.loop-i.invariant (omega arith) bad
+pub returns-else-begun : goal.returns-else-begun
+unfolding if
+returns-else-begun c =
+    let loop = c.loop-i in
+    let lines = parts_of c.args.file.now in
+    let road = YieldsList-from_enumerate (YieldsList-at {t = c.split.result} (cc) (YieldsList-from_slice_split _ (λ b. eqb b 10) c.args.file.now (cc) (cc) (cc) (λ x b q k. grind (arith, common_steps, tests, k.called)))) (cc) in
+    let t = YieldsList-end road loop.yielded _ loop.yielded_by _ _ c.in-None.is c.next.ensures.steps in
+    let past : length lines ≤ length loop.yielded = omega (arith, t.1, length-enumerate_from 0 lines) in
+    rw c.if-begun.false at (lines_end (length loop.yielded + 1) loop.begun lines (length loop.yielded) past ∙ loop.invariant)

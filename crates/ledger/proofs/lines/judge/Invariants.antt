@@ -1,11 +1,10 @@
--- `judge` takes a file byte by byte (`Passed`): a newline ends a line, which is judged.
-use lib.ListN.{length}
-use Rattle.ledger.proofs.Judging.{Passed}
-use Prim.Native.Nat.{◌-◌}
+-- `judge` takes line after line: those that are left are judged so.
+use mathlib.Core.Path.{◌≡◌}
+use Prim.Native.Nat.{◌+◌}
+use lib.ListN.{length, drop}
+use Rattle.ledger.specs.Ledger.{judged_from, judged_of}
+use Rattle.ledger.proofs.Judging.{parts_of}
 use Rattle.ledger.proofs.lines.judge.Given as goal
 
 abbrev pub invariant-loop-i : goal.invariant-loop-i
-invariant-loop-i l = Passed l.file l.newlines l.begun l.start l.i
-
-abbrev pub decreases-loop-i : goal.decreases-loop-i
-decreases-loop-i l = length l.file - l.i
+invariant-loop-i l = judged_from (length l.yielded + 1) l.begun (drop (length l.yielded) (parts_of l.file)) ≡ judged_of l.file

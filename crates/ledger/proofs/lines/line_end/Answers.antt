@@ -1,20 +1,23 @@
-use Rattle.ledger.proofs.Ends.{end_within, end_after, ends_here, ends_later, ends_last}
+-- `line_end` looks for the first newline from the start on.
 use native.Mathlib.Omega.{arith}
-use mathlib.Core.Path.{◌∙◌}
+use mathlib.Core.Path.{◌≡◌, sym, ap, ◌∙◌}
+use Prim.Native.Nat.{ℕ}
+use lib.Dec.{eqb}
+use lib.ListN.{length, drop}
+use Rattle.std.specs.List.{position_or_len}
+use Rattle.std.proofs.lemmas.List.{drop_min}
+use Rattle.std.proofs.lemmas.Slice.{between_to_end}
+use Rattle.ledger.specs.Ledger.{line_length, line_end}
+use Rattle.ledger.proofs.Ends.{length_is}
 use Rattle.ledger.proofs.lines.line_end.Goals as goal
 
-pub returns-then-file-i-eq10 : goal.returns-then-file-i-eq10
-returns-then-file-i-eq10 c =
-    let loop = c.loop-i in
+pub returns-clause-value : goal.returns-clause-value
+unfolding line_end
+returns-clause-value c =
     let file = c.args.file.now in
-    let end = ends_here file loop.i (omega arith) c.if-file-i-eq10.true ∙ loop.invariant in
-    record { value = end; upper_bound = (rw end (end_within file _), λ l. rw end (end_after file _ l)) }
-
-pub loop-i-preserved : goal.loop-i-preserved
-loop-i-preserved c = let loop = c.loop-i in ends_later _ loop.i (omega arith) c.if-file-i-eq10.false ∙ loop.invariant
-
-pub returns : goal.returns
-returns c =
-    let file = c.args.file.now in
-    let end = ends_last file c.loop-i.i (omega arith) ∙ c.loop-i.invariant in
-    record { value = end; upper_bound = (omega arith, λ l. l) }
+    let start = c.min-start.result in
+    let from = c.min-start.ensures in
+    let rest = between_to_end file start (length file) (omega arith) in
+    let first : c.first_of.result ≡ line_length (drop start file) = c.first_of.ensures.value ∙ ap (position_or_len (λ b. eqb b 10)) rest ∙ sym (length_is (drop start file)) in
+    let line : c.first_of.result ≡ line_length (drop c.args.start file) = first ∙ ap line_length (ap (λ (n : ℕ). drop n file) from ∙ drop_min c.args.start file) in
+    omega (arith, from, line)

@@ -14,7 +14,7 @@ ghost use Rattle.repair.specs.Pieces.{taken_of};
 
 pub use change::Change;
 pub use events::keep;
-use events::{kept_in, put_changes};
+use events::kept_in;
 use file::{Event, Form, Refusal};
 pub use pieces::{Listed, Rest};
 
@@ -92,12 +92,16 @@ fn put_list(stay: bool, trace: &[u8], start: u64, changes: &mut [[u64; 2]])
     requires trace_in_bounds { length (list_from stay start trace.now) ≤ length changes.old }
     ensures { changes.new ≡ put_on (list_from stay start trace.now) changes.old }
 {
+    let rest = Rest {
+        at: start,
+        room: Event::MOST,
+    };
     if stay {
-        put_changes(trace, start, Event::MOST, changes);
+        rest.put_changes(trace, changes);
     } else {
         let contents = Change::contents();
         changes[0] = contents.into();
-        put_changes(trace, start, Event::MOST, &mut changes[1..]);
+        rest.put_changes(trace, &mut changes[1..]);
     }
 }
 

@@ -2,7 +2,7 @@
 ghost use Rattle.std.specs.Prelude.{◌≡◌, length};
 ghost use Rattle.repair.specs.Pieces.{list_of, list_on};
 
-use crate::events::{kept_in, put_changes};
+use crate::events::kept_in;
 use crate::listed_in;
 use file::Refusal;
 
@@ -38,7 +38,7 @@ impl Rest {
         if Rest::END_MAX - at < piece.len() as u64 {
             return Err(Refusal::Room);
         }
-        put_changes(piece, at, room, changes);
+        self.put_changes(piece, changes);
         let rest = Rest {
             at: at + piece.len() as u64,
             room: room - kept,

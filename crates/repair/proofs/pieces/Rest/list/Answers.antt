@@ -32,9 +32,6 @@ returns-then-at-changes c =
 low : (c : Else-at-changes) → let a = c.args in (a.self.at ≤ 9_223_372_036_854_775_807) × (c.listed_in-listed.result ≤ length a.changes.now)
 low c = let q = neither _ _ c.if-at-changes.false in (ltb-false _ _ q.0, ltb-false _ _ q.1)
 
-pub overflow_sub-at : goal.overflow_sub-at
-overflow_sub-at c = (low (goal.at.overflow_sub-at c).Else-at-changes).0
-
 pub returns-then-at-piece : goal.returns-then-at-piece
 returns-then-at-piece c =
     let a = c.args in
@@ -52,9 +49,6 @@ room c =
 
 pub put_changes-requires : goal.put_changes-requires
 put_changes-requires c = let r = room (goal.at.put_changes-requires c).Else-at-piece in record { trace_bound = omega (arith, r.0); trace_in_bounds = r.1 }
-
-pub overflow_add-rest : goal.overflow_add-rest
-overflow_add-rest c = omega (arith, (room (goal.at.overflow_add-rest c).Else-at-piece).0)
 
 pub overflow_sub-rest : goal.overflow_sub-rest
 overflow_sub-rest c =

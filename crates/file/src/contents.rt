@@ -39,6 +39,7 @@ fn is_third_entry(file: &[u8], form: Form, offset: usize) -> bool
 }
 
 // Whether the entry at an index has this kind, offset and length.
+// The three numbers of an entry stay arguments, here and where it is stored: a struct of them makes this file half again as long.
 #[tactic(auto, unfolding(crate::specs::Reading::is_entry))]
 fn is_entry(file: &[u8], at: usize, kind: u64, offset: usize, len: usize) -> bool
     requires { at ≤ table_start_max }

@@ -1,12 +1,12 @@
 -- A desk's cells and its streams: the cells of a sound desk are its streams and then 0, and stay so as a stream is added or withdrawn.
-use mathlib.Core.Bool.{Bool, true, ◌||◌}
+use mathlib.Core.Bool.{true, ◌||◌}
 use mathlib.Core.List.{List, [], ◌∷◌, ◌++◌, append_assoc}
 use mathlib.Core.Path.{◌≡◌, sym, ◌∙◌, ap, ap₂}
-use mathlib.Core.Logic.{◌↔◌, ⊎_elim}
+use mathlib.Core.Logic.{⊎_elim}
 use Prim.Native.Nat.{ℕ, suc, ◌+◌, ◌-◌, ◌≤◌, ◌<◌}
 use native.Mathlib.Omega.{arith}
 use native.Mathlib.Decide.{ℕ_discrete}
-use lib.ListN.{length, take, drop, set, get_or, length-append, length-set, length-drop, get_or-eq_default, get_or-append}
+use lib.ListN.{length, take, drop, set, length-append, length-set, length-drop, get_or-eq_default, get_or-append}
 use lib.Dec.{ltb}
 use lib.Seq.{length-take-le, get_or-take, get_or-set_same, get_or-set_other, get_or-append_seam, ext_get_or, get_or-append-add, get_or-drop}
 use borrow.Rule.Slice.PartMut.{put_mid}
@@ -15,7 +15,7 @@ use Rattle.table.specs.Fold.{list_to, leaving, closed_up}
 use Rattle.table.specs.Ranges.{streams_max}
 use Rattle.table.specs.Reservations.{no_record, record_at, records_of}
 use Rattle.table.specs.declared.reservations.Reservation.{Reservation}
-use Rattle.table.proofs.Tests.{both, used_or_zero, same_test, le_or_lt}
+use Rattle.table.proofs.Tests.{both, used_or_zero, le_or_lt}
 use Rattle.table.proofs.Folds.{all_at, all_of}
 use Rattle.table.proofs.Lists.{length_list_to, get_d_list_to, get_d_padded, length_closed_up, closed_up_leaving, leaving_below, leaving_from, length_leaving}
 use Rattle.booking.specs.Book.{streams_of, empty_cell, sound_cells}
@@ -146,37 +146,6 @@ cells_of d h =
     (λ (used : i < d.count). sym (get_or-take d.count d.streams i no_record used))
     (le_or_lt d.count i) in
     record { eight = eight; count_high = high; long = long; are = listed_is d.streams (streams_of d) eight (omega arith) reads }
-
--- the cells past a desk's streams are unused exactly where its cells are sound
-pub sound_by : (d : Desk) (b : Bool) → length d.streams ≡ streams_max → d.count ≤ streams_max
-    → (b ≡ true) ↔ ((k : ℕ) → k < length (drop d.count d.streams) → get_or (drop d.count d.streams) k no_record ≡ no_record)
-    → b ≡ sound_cells d
-unfolding sound_cells empty_cell
-sound_by d b eight high told = same_test b (sound_cells d) (λ e. there (told.0 e)) (λ h. told.1 (back h))
-  where
-    there : ((k : ℕ) → k < length (drop d.count d.streams) → get_or (drop d.count d.streams) k no_record ≡ no_record) → sound_cells d ≡ true
-    there none =
-        rw (eq-eqb (length d.streams) streams_max eight, le-leb d.count streams_max high)
-        (all_of (λ i. ltb i d.count || empty_cell (record_at d.streams i)) streams_max
-        (λ i l.
-        ⊎_elim
-        (λ (past : d.count ≤ i).
-        let place : d.count + (i - d.count) ≡ i = omega arith in
-        let e : record_at d.streams i ≡ no_record =
-        ap (λ (n : ℕ). record_at d.streams n) (sym place)
-        ∙ sym (get_or-drop d.count d.streams (i - d.count) no_record)
-        ∙ none (i - d.count) (omega (arith, length-drop d.count d.streams, eight)) in
-        rw (le-ltb i d.count past, e))
-        (λ (used : i < d.count). rw (lt-ltb i d.count used))
-        (le_or_lt d.count i)))
-
-    back : sound_cells d ≡ true → (k : ℕ) → k < length (drop d.count d.streams) → get_or (drop d.count d.streams) k no_record ≡ no_record
-    back h k l =
-        let c = cells_of d h in
-        get_or-drop d.count d.streams k no_record
-        ∙ ap (λ (cells : List Reservation). record_at cells (d.count + k)) c.are
-        ∙ listed_at (streams_of d) (omega (arith, c.long, high)) (d.count + k)
-        ∙ get_or-eq_default (streams_of d) no_record (omega (arith, c.long))
 
 -- one desk's cells with another's streams behind its own hold the streams of both
 pub both_listed : (first second : Desk) → Cells first → Cells second → first.count + second.count ≤ streams_max

@@ -1,6 +1,5 @@
 // Which booking tables are sound: what breaks none of 2 to 7, no limit and no unused cell.
-ghost use Rattle.std.specs.Prelude.{◌≡◌, true, ℕ, ◌<◌, ◌≤◌, ◌↔◌, length, slice_index_or, IsTrue};
-ghost use Rattle.table.specs.Reservations.{no_record};
+ghost use Rattle.std.specs.Prelude.{◌≡◌, true, ◌≤◌};
 ghost use Rattle.table.specs.Ranges.{streams_max};
 ghost use Rattle.table.specs.Refusal.{refused_by};
 ghost use Rattle.booking.specs.Book.{count_in, sound_cells, table_refusal, is_sound};
@@ -50,13 +49,11 @@ impl Desk {
         if Table::STREAMS_MAX < self.count {
             return false;
         }
-        are_empty(&self.streams[self.count..])
+        // All eight places, since the compiler writes out a loop of a fixed length; one that stops at the first takes more instructions.
+        let mut empty = true;
+        for (i, &cell) in self.streams.iter().enumerate() {
+            empty &= (i < self.count) | (cell == Reservation::default());
+        }
+        empty
     }
-}
-
-// Whether cells are unused.
-fn are_empty(cells: &[Reservation]) -> bool
-    ensures { IsTrue result ↔ ((k : ℕ) → k < length cells.now → slice_index_or cells.now k no_record ≡ no_record) }
-{
-    cells.iter().all(|cell| *cell == Reservation::default())
 }

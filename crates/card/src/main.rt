@@ -1,12 +1,31 @@
 // Reads a session file from standard input, and prints what a card may say of its table, or what refuses it. The trace is not run.
 #![tactic(auto)]
 
-ghost use Rattle.std.specs.Prelude.{◌≤◌};
-
 use file::Reading;
-use std::io;
+use std::fmt::{InlineText, Write};
+use std::{fmt, io};
 use table::{Margin, Table};
 use terms::{Change, Finding, Terms, Verdict};
+
+// A number as a card shows it: its digits in groups of three.
+#[derive(Clone, Copy)]
+struct Grouped(u64);
+
+// A number of 64 bits has 20 digits at most, and then six commas.
+impl fmt::Display for Grouped {
+    fn fmt<W: fmt::Write>(&self, f: &mut fmt::Formatter<W>) -> fmt::Result {
+        let number = InlineText::<20>::of(self.0);
+        let digits = number.as_str().as_bytes();
+        let mut text = InlineText::<26>::new();
+        for (i, digit) in digits.iter().enumerate() {
+            if i != 0 && (digits.len() - i) % 3 == 0 {
+                text.write_char(',')?;
+            }
+            text.write_char(*digit as char)?;
+        }
+        f.pad(text.as_str())
+    }
+}
 
 // Of an input that cannot be read it says so, and prints nothing.
 fn main(rt: HostRuntime) -> io::Result<()> {
@@ -37,7 +56,7 @@ fn print_card(rt: &impl Print, table: Table) -> io::Result<()> {
     if judged {
         print_margin(rt, margin)?;
     }
-    say(rt, b"\n")?;
+    rt.print("\n")?;
     if judged | (4 < number) {
         print_streams(rt, table, margin, judged)?;
     }
@@ -48,254 +67,165 @@ fn print_card(rt: &impl Print, table: Table) -> io::Result<()> {
 }
 
 fn print_load(rt: &impl Print, found: Finding) -> io::Result<()> {
-    say(rt, b"admitted: the load is ")?;
-    print_number(rt, found.value, 0)?;
-    say(rt, b" of the span ")?;
-    print_number(rt, found.limit, 0)
+    let load = Grouped(found.value);
+    let span = Grouped(found.limit);
+    print!(rt; "admitted: the load is {load} of the span {span}")
 }
 
 // What is left of the span, or the amount over it with a sign.
 fn print_margin(rt: &impl Print, margin: Margin) -> io::Result<()> {
-    say(rt, b", and the margin is ")?;
+    let left = Grouped(margin.left());
     let over = margin.over();
     if over == 0 {
-        print_number(rt, margin.left(), 0)
-    } else {
-        say(rt, b"-")?;
-        print_number(rt, over, 0)
+        return print!(rt; ", and the margin is {left}");
     }
+    let over = Grouped(over);
+    print!(rt; ", and the margin is -{over}")
 }
 
 fn print_refusal(rt: &impl Print, table: Table, verdict: Verdict) -> io::Result<()> {
-    say(rt, b"refused ")?;
-    print_number(rt, verdict.number, 0)?;
-    say(rt, b": ")?;
+    let number = verdict.number;
+    print!(rt; "refused {number}: ")?;
     if verdict.stream != 0 {
-        say(rt, b"stream ")?;
-        print_number(rt, verdict.stream, 0)?;
-        say(rt, b": ")?;
+        let stream = verdict.stream;
+        print!(rt; "stream {stream}: ")?;
     }
     let found = verdict.finding;
-    if (verdict.number == 5) & (found.limit == 0) {
-        say(rt, b"the period does not divide the span ")?;
-        print_number(rt, table.span as u64, 0)?;
-        say(rt, b", of which ")?;
-        print_number(rt, found.value, 0)?;
-        return say(rt, b" are left over");
+    let value = Grouped(found.value);
+    if (number == 5) & (found.limit == 0) {
+        let span = Grouped(table.span as u64);
+        return print!(rt;
+            "the period does not divide the span {span}, of which {value} are left over"
+        );
     }
-    say_what(rt, verdict.number, found)?;
-    print_number(rt, found.value, 0)?;
-    say(rt, b", ")?;
-    print_difference(rt, found)?;
-    say_limit(rt, verdict.number, found)?;
-    print_number(rt, found.limit, 0)
+    rt.print(what(number, found))?;
+    let apart = Grouped(found.value.abs_diff(found.limit));
+    let side = beyond(number, found);
+    let limit = Grouped(found.limit);
+    print!(rt; " is {value}, {apart} {side}, {limit}")
 }
 
 // What is beyond a limit.
-fn say_what(rt: &impl Print, number: u64, found: Finding) -> io::Result<()> {
+fn what(number: u64, found: Finding) -> &'static str {
     match number {
-        1 => say(rt, b"the number of streams is "),
-        2 => say(rt, b"the worst-case request time W is "),
-        3 => say(rt, b"the span H is "),
-        4 => say(rt, b"the padding k is "),
-        5 => say(rt, b"the period is "),
-        6 => {
-            if found.value < found.limit {
-                say(rt, b"the reserved time is ")
-            } else {
-                say(rt, b"the granted budget is ")
-            }
-        }
-        _ => say(rt, b"the load is "),
+        1 => "the number of streams",
+        2 => "the worst-case request time W",
+        3 => "the span H",
+        4 => "the padding k",
+        5 => "the period",
+        6 if found.value < found.limit => "the reserved time",
+        6 => "the granted budget",
+        _ => "the load",
     }
 }
 
 // Beyond which limit it is.
-fn say_limit(rt: &impl Print, number: u64, found: Finding) -> io::Result<()> {
+fn beyond(number: u64, found: Finding) -> &'static str {
     if found.value < found.limit {
-        return say(rt, b" below the least, ");
+        return "below the least";
     }
     match number {
-        6 => say(rt, b" above the period, "),
-        7 => say(rt, b" above the span, "),
-        _ => say(rt, b" above the most, "),
-    }
-}
-
-// How far apart a number and its limit are.
-fn print_difference(rt: &impl Print, found: Finding) -> io::Result<()> {
-    let value = found.value;
-    let limit = found.limit;
-    if value < limit {
-        print_number(rt, limit - value, 0)
-    } else {
-        print_number(rt, value - limit, 0)
+        6 => "above the period",
+        7 => "above the span",
+        _ => "above the most",
     }
 }
 
 // A row for each stream; the last column is there where the load is judged.
 fn print_streams(rt: &impl Print, table: Table, margin: Margin, judged: bool) -> io::Result<()> {
-    say(rt, b"\nworst-case request time W ")?;
-    print_number(rt, table.worst as u64, 0)?;
-    say(rt, b"; all times in microseconds\n\n")?;
-    say(
-        rt,
-        b"stream       reserved         period  padding        granted  of the disk",
-    )?;
+    let worst = Grouped(table.worst as u64);
+    print!(rt; "\nworst-case request time W {worst}; all times in microseconds\n\n")?;
+    rt.print("stream       reserved         period  padding        granted  of the disk")?;
     if judged {
-        say_change(rt, margin)?;
+        rt.print(change_of(margin))?;
     }
-    say(rt, b"\n")?;
-    let reserved = table.reserved;
-    let period = table.period;
-    let mut i: usize = 0;
-    while i < Table::STREAMS_MAX {
-        if i < table.count {
-            let e = reserved[i];
-            let p = period[i];
-            print_number(rt, i as u64 + 1, 6)?;
-            print_row(rt, Terms::of(table.worst, table.padding, e), e, p)?;
-            if judged {
-                print_change(
-                    rt,
-                    Change::of(margin, table.worst, table.span, table.padding, e, p),
-                )?;
-            }
-            say(rt, b"\n")?;
+    rt.print("\n")?;
+    for i in 0..table.count.min(Table::STREAMS_MAX) {
+        let e = table.reserved[i];
+        let p = table.period[i];
+        let stream = i + 1;
+        print!(rt; "{stream:>6}")?;
+        print_row(rt, Terms::of(table.worst, table.padding, e), e, p)?;
+        if judged {
+            print_change(
+                rt,
+                Change::of(margin, table.worst, table.span, table.padding, e, p),
+            )?;
         }
-        i += 1;
+        rt.print("\n")?;
     }
     if judged {
-        explain_change(rt, margin)?;
+        rt.print(change_meant(margin))?;
     }
     Ok(())
 }
 
 // What the last column tells of each stream.
-fn say_change(rt: &impl Print, margin: Margin) -> io::Result<()> {
+fn change_of(margin: Margin) -> &'static str {
     if margin.over() == 0 {
-        say(rt, b"     may grow by")
+        "     may grow by"
     } else {
-        say(rt, b"  must shrink by")
+        "  must shrink by"
     }
 }
 
-fn explain_change(rt: &impl Print, margin: Margin) -> io::Result<()> {
+fn change_meant(margin: Margin) -> &'static str {
     if margin.over() == 0 {
-        say(
-            rt,
-            b"\none stream may grow by that much reserved time, while the others stay as they are\n",
-        )
+        "\none stream may grow by that much reserved time, while the others stay as they are\n"
     } else {
-        say(
-            rt,
-            b"\nit is enough that one stream shrinks by that much reserved time, while the others stay as they are;\n",
-        )?;
-        say(rt, b"not alone: nothing would be left of it\n")
+        "\nit is enough that one stream shrinks by that much reserved time, while the others stay as they are;\nnot alone: nothing would be left of it\n"
     }
 }
 
 fn print_change(rt: &impl Print, change: Change) -> io::Result<()> {
     match change {
-        Change::Grow(most) => print_number(rt, most, 16),
-        Change::Shrink(least) => print_number(rt, least, 16),
-        Change::NotAlone => say(rt, b"       not alone"),
+        Change::Grow(by) | Change::Shrink(by) => {
+            let by = Grouped(by);
+            print!(rt; "{by:>16}")
+        }
+        Change::NotAlone => rt.print("       not alone"),
     }
 }
 
 fn print_row(rt: &impl Print, terms: Terms, reserved: u32, period: u32) -> io::Result<()> {
-    print_number(rt, reserved as u64, 15)?;
-    print_number(rt, period as u64, 15)?;
-    print_number(rt, terms.padding as u64, 9)?;
-    print_number(rt, terms.granted, 15)?;
+    let reserved = Grouped(reserved as u64);
+    let every = Grouped(period as u64);
+    let padding = Grouped(terms.padding as u64);
+    let granted = Grouped(terms.granted);
+    print!(rt; "{reserved:>15}{every:>15}{padding:>9}{granted:>15}")?;
     if (period as u64) < terms.granted {
-        return say(rt, b"  above 100 %");
+        return rt.print("  above 100 %");
     }
     let share = terms::hundredths(terms.granted, period);
-    print_number(rt, share / 100, 8)?;
-    say(rt, b".")?;
-    print_number(rt, share / 10 % 10, 0)?;
-    print_number(rt, share % 10, 0)?;
-    say(rt, b" %")
+    let percent = share / 100;
+    let hundredths = share % 100;
+    print!(rt; "{percent:>8}.{hundredths:02} %")
 }
 
 fn print_promises(rt: &impl Print, table: Table) -> io::Result<()> {
-    say(
-        rt,
-        b"\nthe card may say, of a channel that always has a request waiting:\n\n",
-    )?;
-    let reserved = table.reserved;
-    let period = table.period;
-    let mut i: usize = 0;
-    while i < Table::STREAMS_MAX {
-        if i < table.count {
-            let terms = Terms::of(table.worst, table.padding, reserved[i]);
-            print_number(rt, i as u64 + 1, 6)?;
-            print_promise(rt, terms, period[i])?;
-        }
-        i += 1;
+    rt.print("\nthe card may say, of a channel that always has a request waiting:\n\n")?;
+    for i in 0..table.count.min(Table::STREAMS_MAX) {
+        let terms = Terms::of(table.worst, table.padding, table.reserved[i]);
+        let stream = i + 1;
+        print!(rt; "{stream:>6}")?;
+        print_promise(rt, terms, table.period[i])?;
     }
-    say(rt, b"\nas long as no request takes longer than ")?;
-    print_number(rt, table.worst as u64, 0)?;
-    say(
-        rt,
-        b" and no clock report comes after the latest safe moment\n",
+    let worst = Grouped(table.worst as u64);
+    print!(rt;
+        "\nas long as no request takes longer than {worst} and no clock report comes after the latest safe moment\n"
     )
 }
 
 fn print_promise(rt: &impl Print, terms: Terms, period: u32) -> io::Result<()> {
-    say(rt, b": in every period of ")?;
-    print_number(rt, period as u64, 0)?;
-    say(rt, b" more than ")?;
-    print_number(rt, terms.above, 0)?;
-    say(rt, b" of disk time, and at least ")?;
-    print_number(rt, terms.requests, 0)?;
+    let period = Grouped(period as u64);
+    let above = Grouped(terms.above);
+    let requests = Grouped(terms.requests);
+    print!(rt;
+        ": in every period of {period} more than {above} of disk time, and at least {requests}"
+    )?;
     if terms.requests == 1 {
-        say(rt, b" request\n")
+        rt.print(" request\n")
     } else {
-        say(rt, b" requests\n")
+        rt.print(" requests\n")
     }
-}
-
-// Prints a number, its digits in groups of three, at the right end of a column. A number of 64 bits has 20 digits at most.
-fn print_number(rt: &impl Print, n: u64, width: usize) -> io::Result<()> {
-    let mut text = [b','; 32];
-    let mut at: usize = 31;
-    text[31] = b'0' + (n % 10) as u8;
-    let mut rest = n / 10;
-    let mut digits: usize = 1;
-    while digits < 20 {
-        if rest == 0 {
-            break;
-        }
-        at = 31 - digits - digits / 3;
-        text[at] = b'0' + (rest % 10) as u8;
-        rest = rest / 10;
-        digits += 1;
-    }
-    print_spaces(rt, 32 - at, width)?;
-    print_from(rt, text, at)
-}
-
-fn print_from(rt: &impl Print, text: [u8; 32], at: usize) -> io::Result<()>
-    requires { at ≤ 32 }
-{
-    rt.write_all(&text[at..])
-}
-
-// What a column has in front of a text.
-fn print_spaces(rt: &impl Print, used: usize, width: usize) -> io::Result<()> {
-    let spaces = [b' '; 32];
-    if width <= used {
-        return Ok(());
-    }
-    let n = width - used;
-    if n <= 32 {
-        print_from(rt, spaces, 32 - n)?;
-    }
-    Ok(())
-}
-
-fn say(rt: &impl Print, words: &[u8]) -> io::Result<()> {
-    rt.write_all(words)
 }

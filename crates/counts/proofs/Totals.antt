@@ -2,16 +2,25 @@
 use mathlib.Core.List.{List, [], ◌∷◌}
 use mathlib.Core.Path.{◌≡◌, refl, sym, ◌∙◌, ap, subst}
 use Prim.Native.Nat.{ℕ}
-use lib.Dec.{eqb}
 use mathlib.Core.Bool.{Bool, true, false}
 use Rattle.table.specs.Fold.{if, all_to, list_to}
 use Rattle.table.specs.Ranges.{streams_max}
 use Rattle.table.specs.Admission.{admission_of}
+use Rattle.table.specs.Margin.{number_in as told, answer_of}
+use Rattle.table.specs.Refusal.{refusal_number as refused_number}
+use Rattle.table.specs.declared.Table.{Table}
+use Rattle.table.specs.declared.margin.Margin.{Margin}
+use Rattle.table.specs.declared.refusal.Refusal.{Refusal as Unadmitted}
+use Rattle.table.proofs.Margins.{answer_carries_margin, refused_only}
+use Rattle.std.specs.Prelude.{Result, Ok, Err}
+use Rattle.session.specs.Opening.{opening_of}
+use Rattle.trace.specs.declared.refusal.Refusal.{Refusal}
+use borrow.Author.Tests.{ne_eqb}
 use Rattle.table.proofs.Tests.{by_if}
 use Rattle.table.proofs.Lists.{get_d_list_to}
-use Rattle.file.specs.Reading.{is_laid_out, table_in}
+use Rattle.file.specs.Reading.{is_laid_out, table_in, order_in}
 use Rattle.counts.specs.Tally.{nothing, together}
-use Rattle.counts.specs.Counts.{fits, counts, none, both, filed_of, opened_file, totals_of}
+use Rattle.counts.specs.Counts.{fits, counts, none, both, admitted_by, filed_of, opened_file, number_in, over_in, counts_in, totals_of}
 use Rattle.counts.specs.Laws.{NoneAddsNothing, TotalsJoin, OneFile, RefusedAddsNothing, CallsAgree, SumsEnd, OneFileMore}
 use Rattle.listing.specs.Line.{rendered, refused_fields}
 use Rattle.trace.specs.Trace.{called, applied, run_of, listing_of}
@@ -38,40 +47,48 @@ none_both f =
 none_none : both none none ≡ none
 none_none = subst (λ (c : Counts). both none c ≡ c) none_is (none_both (λ i. nothing))
 
-none_file : (file : List ℕ) → both none (filed_of file).counts ≡ (filed_of file).counts
+none_file : (file : List ℕ) → both none (counts_in (filed_of file)) ≡ counts_in (filed_of file)
 unfolding filed_of opened_file
 none_file file =
-    let Alone : Filed → Type 0 = λ filed. both none filed.counts ≡ filed.counts in
-    by_if Alone (is_laid_out file) _ _
-    (λ yes. by_if Alone (eqb (admission_of (table_in file)) 0) _ _ (λ admitted. none_both _) (λ refused. none_none))
-    (λ unread. none_none)
+    let Alone : Result Filed Refusal → Type 0 = λ filed. both none (counts_in filed) ≡ counts_in filed in
+    by_if Alone (is_laid_out file) _ _ (λ yes. opened (opening_of (table_in file) (order_in file)).admission _ _) (λ unread. none_none)
+  where
+    opened : (a : Result Margin Unadmitted) (f : ℕ → Tally) (count : ℕ)
+        → both none (counts_in (admitted_by a (record { count = count; counts = counts f }))) ≡ counts_in (admitted_by a (record { count = count; counts = counts f }))
+    opened (Ok m) f count = none_both f
+    opened (Err r) f count = none_none
 
 pub none_adds_nothing : NoneAddsNothing
 unfolding totals_of
 none_adds_nothing [] = none_none
 none_adds_nothing (file ∷ rest) =
-    sym (both_associates none (filed_of file).counts (totals_of rest)) ∙ ap (λ (c : Counts). both c (totals_of rest)) (none_file file)
+    sym (both_associates none (counts_in (filed_of file)) (totals_of rest)) ∙ ap (λ (c : Counts). both c (totals_of rest)) (none_file file)
 
 pub totals_join : TotalsJoin
 unfolding totals_of
 totals_join [] two = sym (none_adds_nothing two)
 totals_join (file ∷ one) two =
-    ap (both (filed_of file).counts) (totals_join one two) ∙ sym (both_associates (filed_of file).counts (totals_of one) (totals_of two))
+    ap (both (counts_in (filed_of file))) (totals_join one two) ∙ sym (both_associates (counts_in (filed_of file)) (totals_of one) (totals_of two))
 
 pub one_file : OneFile
 unfolding totals_of
-one_file file = both_commutes (filed_of file).counts none ∙ none_file file
+one_file file = both_commutes (counts_in (filed_of file)) none ∙ none_file file
 
 -- a refused file adds nothing, and is told as `replay` tells it
 pub refused_adds_nothing : RefusedAddsNothing
-unfolding filed_of opened_file listing_of run_of if
-refused_adds_nothing file some = go (is_laid_out file) (eqb (admission_of (table_in file)) 0) refl refl
+unfolding filed_of opened_file listing_of run_of opening_of if
+refused_adds_nothing file some = go (is_laid_out file) (answer_of t) refl refl
   where
-    go : (laid admitted : Bool) → is_laid_out file ≡ laid → eqb (admission_of (table_in file)) 0 ≡ admitted
-        → ((filed_of file).counts ≡ none) × (listing_of file ≡ rendered (refused_fields (filed_of file).refusal (filed_of file).over))
-    go false admitted e f = (rw e, rw e)
-    go true false e f = (rw (e, f), rw (e, f))
-    go true true e f = absurd (some (rw (e, f)))
+    t : Table
+    t = table_in file
+
+    go : (laid : Bool) (a : Result Margin Unadmitted) → is_laid_out file ≡ laid → answer_of t ≡ a
+        → (counts_in (filed_of file) ≡ none) × (listing_of file ≡ rendered (refused_fields (number_in (filed_of file)) (over_in (filed_of file))))
+    go false a e f = (rw e, rw e)
+    go true (Ok m) e f = absurd (some (rw (e, f)))
+    go true (Err r) e f =
+        let number : admission_of t ≡ refused_number r = sym (answer_carries_margin t).0 ∙ ap told f in
+        (rw (e, f), rw (e, ne_eqb _ 0 (refused_only t r f), f, number))
 
 pub calls_agree : CallsAgree
 unfolding applied called after
@@ -90,4 +107,4 @@ pub one_file_more : OneFileMore
 unfolding totals_of
 one_file_more files file =
     totals_join files (file ∷ [])
-    ∙ ap (both (totals_of files)) (both_commutes (filed_of file).counts none ∙ none_file file)
+    ∙ ap (both (totals_of files)) (both_commutes (counts_in (filed_of file)) none ∙ none_file file)

@@ -1,9 +1,9 @@
 -- The counts of a session file, and of a list of them: a tally for each of the eight stream numbers. The quotes are document 02's Req 01.
-use Rattle.std.specs.Prelude.{Option, None, Some, Bool, true, false, ◌&&◌, ◌||◌, List, [], ◌∷◌, ◌++◌, ℕ, zero, suc, ◌^◌, ltb, eqb, get_or}
+use Rattle.std.specs.Prelude.{Option, None, Some, Result, Ok, Err, Bool, true, false, ◌&&◌, ◌||◌, List, [], ◌∷◌, ◌++◌, ℕ, zero, suc, ◌^◌, ltb, get_or}
 use Rattle.table.specs.Fold.{if, all_to, list_to}
 use Rattle.table.specs.Ranges.{streams_max}
-use Rattle.table.specs.Admission.{admission_of}
-use Rattle.table.specs.Margin.{over_in}
+use Rattle.table.specs.declared.margin.Margin.{Margin}
+use Rattle.table.specs.declared.refusal.Refusal.{Refusal as Unadmitted}
 use Rattle.table.specs.declared.Table.{Table}
 use Rattle.calls.specs.declared.Call.{Call}
 use Rattle.order.specs.declared.Order.{Order}
@@ -11,6 +11,9 @@ use Rattle.session.specs.Opening.{opening_of}
 use Rattle.session.specs.History.{Moment, history_of}
 use Rattle.file.specs.Reading.{event_at, events_in, table_in, order_in, trace_in, is_laid_out}
 use Rattle.file.specs.declared.event.Event.{Event}
+use Rattle.file.specs.declared.refusal.Refusal.TheVariants.{Layout as NotLaidOut}
+use Rattle.trace.specs.Refusal.{refusal_number, refusal_over}
+use Rattle.trace.specs.declared.refusal.Refusal.{Refusal}
 use Rattle.counts.specs.Tally.{nothing, together, tally_of}
 use Rattle.counts.specs.declared.Tally.{Tally}
 use Rattle.counts.specs.declared.Counts.{Counts}
@@ -78,21 +81,34 @@ calls_to trace (suc n) = calls_to trace n ++ calls_of (event_at trace n)
 abbrev pub counts_of : List Moment → Counts
 counts_of past = counts (λ i. tally_of i past)
 
--- "A refused file gets its number and adds nothing." Where its load is over the span, the amount over stands beside the number.
-abbrev pub refused_file : ℕ → ℕ → Filed
-refused_file number over = record { refusal = number; over = over; count = 0; counts = none }
+-- an answer of a table that is admitted, or what refuses it
+abbrev pub admitted_by : {A : Type 0} → Result Margin Unadmitted → A → Result A Refusal
+admitted_by (Ok m) x = Ok x
+admitted_by (Err r) x = Err (Refusal.Table r)
 
-unfoldable pub opened_file : Table → Order → List ℕ → Filed
+unfoldable pub opened_file : Table → Order → List ℕ → Result Filed Refusal
 opened_file t order trace =
     let opened = opening_of t order in
-    if (eqb (admission_of t) 0)
-    (record { refusal = 0; over = 0; count = t.count; counts = counts_of (history_of opened.session (calls_to trace (events_in trace))) })
-    (refused_file (admission_of t) (over_in opened.admission))
+    admitted_by opened.admission
+    (record { count = t.count; counts = counts_of (history_of opened.session (calls_to trace (events_in trace))) })
 
-unfoldable pub filed_of : List ℕ → Filed
-filed_of file = if (is_laid_out file) (opened_file (table_in file) (order_in file) (trace_in file)) (refused_file 16 0)
+unfoldable pub filed_of : List ℕ → Result Filed Refusal
+filed_of file = if (is_laid_out file) (opened_file (table_in file) (order_in file) (trace_in file)) (Err (Refusal.File NotLaidOut))
+
+-- "A refused file gets its number and adds nothing." Where its load is over the span, the amount over stands beside the number. No file that is counted has a number, which is then 0.
+abbrev pub number_in : Result Filed Refusal → ℕ
+number_in (Ok filed) = 0
+number_in (Err r) = refusal_number r
+
+abbrev pub over_in : Result Filed Refusal → ℕ
+over_in (Ok filed) = 0
+over_in (Err r) = refusal_over r
+
+abbrev pub counts_in : Result Filed Refusal → Counts
+counts_in (Ok filed) = filed.counts
+counts_in (Err r) = none
 
 -- "Then the same per stream number over all files"
 unfoldable pub totals_of : List (List ℕ) → Counts
 totals_of [] = none
-totals_of (file ∷ rest) = both (filed_of file).counts (totals_of rest)
+totals_of (file ∷ rest) = both (counts_in (filed_of file)) (totals_of rest)

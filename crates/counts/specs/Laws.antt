@@ -14,7 +14,7 @@ use Rattle.file.specs.declared.event.Event.{Event}
 use Rattle.listing.specs.Line.{rendered, refused_fields}
 use Rattle.trace.specs.Trace.{applied, listing_of}
 use Rattle.counts.specs.Tally.{tally, tally_of}
-use Rattle.counts.specs.Counts.{known, passed, none, both, calls_of, filed_of, totals_of}
+use Rattle.counts.specs.Counts.{known, passed, none, both, calls_of, filed_of, number_in, over_in, counts_in, totals_of}
 use Rattle.counts.specs.declared.Counts.{Counts}
 
 -- Which of two comes first, and how three are put together, makes no difference; and nothing is added by no files.
@@ -33,18 +33,18 @@ TotalsJoin = (one two : List (List ℕ)) → totals_of (one ++ two) ≡ both (to
 
 -- The totals of one file are its own counts.
 abbrev pub OneFile : Type 0
-OneFile = (file : List ℕ) → totals_of (file ∷ []) ≡ (filed_of file).counts
+OneFile = (file : List ℕ) → totals_of (file ∷ []) ≡ counts_in (filed_of file)
 
 -- So the totals may be kept while files are read, one after the other.
 abbrev pub OneFileMore : Type 0
 OneFileMore =
-    (files : List (List ℕ)) (file : List ℕ) → totals_of (files ++ (file ∷ [])) ≡ both (totals_of files) (filed_of file).counts
+    (files : List (List ℕ)) (file : List ℕ) → totals_of (files ++ (file ∷ [])) ≡ both (totals_of files) (counts_in (filed_of file))
 
 -- "A refused file gets its number and adds nothing", and the number, with the amount over the span, is in the line that `replay` prints of it.
 abbrev pub RefusedAddsNothing : Type 0
 RefusedAddsNothing =
-    (file : List ℕ) → ((filed_of file).refusal ≡ 0 → ⊥)
-    → ((filed_of file).counts ≡ none) × (listing_of file ≡ rendered (refused_fields (filed_of file).refusal (filed_of file).over))
+    (file : List ℕ) → (number_in (filed_of file) ≡ 0 → ⊥)
+    → (counts_in (filed_of file) ≡ none) × (listing_of file ≡ rendered (refused_fields (number_in (filed_of file)) (over_in (filed_of file))))
 
 -- The call of an event is the one that `replay` makes of it.
 abbrev pub CallsAgree : Type 0

@@ -5,13 +5,13 @@ mod run;
 
 ghost use Rattle.std.specs.Prelude.{◌≡◌};
 ghost use Rattle.counts.specs.Tally.{nothing};
-ghost use Rattle.counts.specs.Counts.{sum_of, none, both, refused_file, opened_file, filed_of};
+ghost use Rattle.counts.specs.Counts.{sum_of, none, both, opened_file, filed_of};
 ghost use Rattle.file.specs.Reading.{events_in};
 
-use file::Reading;
 use order::Order;
 use session::Session;
 use table::Table;
+use trace::Refusal;
 
 // What is counted of one stream.
 #[derive(Clone, Copy, Debug, PartialEq, Eq)]
@@ -29,11 +29,9 @@ pub struct Counts {
     pub rows: Option<[Tally; Table::STREAMS_MAX]>,
 }
 
-// What is counted of a file: the refusal is 0, or its number beside counts of nothing, with the amount over the span where the load is.
-#[derive(Clone, Copy)]
+// What is counted of a file: how many streams its table has, and their counts.
+#[derive(Clone, Copy, Debug, PartialEq, Eq)]
 pub struct Filed {
-    pub refusal: u64,
-    pub over: u64,
     pub count: usize,
     pub counts: Counts,
 }
@@ -96,52 +94,26 @@ impl Counts {
     }
 }
 
-// What is counted of a session file: it is read, opened and run.
-pub fn of_file(file: &[u8]) -> Filed
+// What is counted of a session file, which is read, opened and run; or what refuses it.
+pub fn of_file(file: &[u8]) -> Result<Filed, Refusal>
     ensures { result ≡ filed_of file.now }
 {
-    let reading = file::read(file);
-    let Reading::LaidOut {
-        order,
-        start,
-        end,
-        events,
-        ..
-    } = reading
-    else {
-        return refused(16, 0);
-    };
-    of_opened(file::table_of(file), order, &file[start..end], events)
+    let layout = file::read(file)?;
+    let table = file::table_of(file);
+    let trace = &file[layout.start..layout.end];
+    of_opened(table, layout.order, trace, layout.events)
 }
 
 // What is counted of a table, an order and a trace of so many events.
-fn of_opened(table: Table, order: Order, trace: &[u8], events: usize) -> Filed
+fn of_opened(table: Table, order: Order, trace: &[u8], events: usize) -> Result<Filed, Refusal>
     requires { events ≡ events_in trace.now }
     ensures { result ≡ opened_file table order trace.now }
 {
     let opened = Session::open(table, order);
-    let admission = opened.admission;
-    let number = admission.number();
-    if number != 0 {
-        return refused(number, admission.over());
-    }
+    opened.admission?;
     let counts = run::run(opened.session, trace, events);
-    Filed {
-        refusal: 0,
-        over: 0,
+    Ok(Filed {
         count: table.count,
         counts,
-    }
-}
-
-// A file that was refused adds nothing.
-fn refused(number: u64, over: u64) -> Filed
-    ensures { result ≡ refused_file number over }
-{
-    Filed {
-        refusal: number,
-        over: over,
-        count: 0,
-        counts: Counts::none(),
-    }
+    })
 }

@@ -101,14 +101,15 @@ impl Told {
     }
 
     // What is added to the tally of a stream, counted from 0, whose deadline this is.
+    // An answer is told by its number, as the definitions tell it: a match on replies would leave out a refusal of that number, of which the clause speaks as of any reply.
     fn of(self, deadline: Clock, i: usize) -> Tally
         requires { i < streams_max }
         ensures { result ≡ added_by self deadline.0 i }
     {
         let horizon = self.horizon;
         let clock = self.clock;
-        let closing = (self.number == 23) & deadline.is(horizon);
-        let late = closing & clock.is_after(deadline);
+        let closing = (self.number == 23) & (deadline == horizon);
+        let late = closing & (deadline < clock);
         let concerned = self.stream == i as u64 + 1;
         let completed = (self.number == 25) | (self.number == 26);
         let lasted = only_if(completed & concerned, self.duration);

@@ -1,5 +1,5 @@
 -- What is accepted is what follows, and our own listing is accepted.
-use mathlib.Core.Bool.{Bool, true, false}
+use mathlib.Core.Bool.{Bool, true, false, false≢true}
 use mathlib.Core.List.{List, [], ◌∷◌, ◌++◌, map, append-nil}
 use mathlib.Core.Logic.Iff
 use mathlib.Core.Logic.{◌↔◌}
@@ -8,17 +8,27 @@ use Prim.Native.Nat.{ℕ, zero, suc, ◌+◌}
 use native.Mathlib.Omega.{arith}
 use lib.Dec.{eqb}
 use Rattle.table.specs.Fold.{if}
+use Rattle.std.specs.Prelude.{Result, Ok, Err}
+use borrow.Author.Tests.{eq-eqb}
 use Rattle.table.specs.Admission.{admission_of}
+use Rattle.table.specs.Margin.{number_in, answer_of}
+use Rattle.table.specs.Refusal.{refusal_number as refused_number}
+use Rattle.table.specs.declared.Table.{Table}
+use Rattle.table.specs.declared.margin.Margin.{Margin}
+use Rattle.table.specs.declared.refusal.Refusal.{Refusal as Unadmitted}
+use Rattle.table.proofs.Margins.{answer_carries_margin}
+use Rattle.order.specs.declared.Order.{Order}
+use Rattle.session.specs.Opening.{opening_of}
 use Rattle.table.proofs.Tests.{both, by_if}
 use Rattle.session.specs.declared.Session.{Session}
-use Rattle.file.specs.Reading.{event_at, events_in, table_in, trace_in, is_laid_out}
+use Rattle.file.specs.Reading.{event_at, events_in, table_in, order_in, trace_in, is_laid_out}
 use Rattle.file.specs.declared.event.Event.{Event}
 use Rattle.listing.specs.Line.{rendered, header_fields}
 use Rattle.trace.specs.Trace.{Outcome, applied, fields_of, printed_from, run_of, listing_of}
 use Rattle.logs.specs.Choices.{may_be}
 use Rattle.logs.specs.Follow.{Among, FollowsFrom, opens, session_in, Follows}
 use Rattle.logs.specs.Lines.{lines_of, left_of}
-use Rattle.logs.specs.Following.{opened_at, begun, trace_of, Next, first_fields, next_by, nexts_at, nexts, with_lines, accepted, is_whole, checked_by, checked_of, rejected, lines_of_nexts}
+use Rattle.logs.specs.Following.{number_of, unadmitted, opened_at, begun, trace_of, Next, first_fields, next_by, nexts_at, nexts, with_lines, accepted, is_whole, checked_by, checked_of, rejected, lines_of_nexts}
 use Rattle.logs.specs.Laws.{OursIsAccepted, AcceptedFollows}
 use Rattle.logs.specs.declared.Follower.{Follower}
 use Rattle.logs.proofs.Choosing.{itself_may_be}
@@ -50,7 +60,7 @@ module _ (n : ℕ) (f : Follower) (trace text : List ℕ) (due : f.due ≡ 1) wh
   )
 
 -- from event i on, by the events as by the follower
-events_follow : (n i : ℕ) (f : Follower) (trace text : List ℕ) → eqb f.refusal 0 ≡ true → f.due ≡ i + 2 → i + n ≡ events_in trace
+events_follow : (n i : ℕ) (f : Follower) (trace text : List ℕ) → eqb (number_of f.refusal) 0 ≡ true → f.due ≡ i + 2 → i + n ≡ events_in trace
     → FollowsBy n f trace text ↔ FollowsFrom f.session trace i n text
 unfolding FollowsBy FollowsFrom
 events_follow zero i f trace text opened due rest = (λ e. e, λ e. e)
@@ -82,14 +92,23 @@ pub begun_going : (file : List ℕ) → (begun file).failed ≡ false
 unfolding begun opened_at
 begun_going file = by_if (λ (f : Follower). f.failed ≡ false) (is_laid_out file) _ _ (λ e. refl) (λ e. refl)
 
+-- the number that refuses it
+opened_number : (t : Table) (order : Order) → number_of (unadmitted (opening_of t order).admission) ≡ admission_of t
+unfolding opening_of
+opened_number t order = go (answer_of t) ∙ (answer_carries_margin t).0
+  where
+    go : (a : Result Margin Unadmitted) → number_of (unadmitted a) ≡ number_in a
+    go (Ok m) = refl
+    go (Err r) = refl
+
 -- one that is opened
 module _ (file : List ℕ) (h : opens file ≡ true) where
   tests : (is_laid_out file ≡ true) × (eqb (admission_of (table_in file)) 0 ≡ true)
   tests = both (is_laid_out file) (eqb (admission_of (table_in file)) 0) h
 
-  opened_none : eqb (begun file).refusal 0 ≡ true
+  opened_none : eqb (number_of (begun file).refusal) 0 ≡ true
   unfolding begun opened_at if
-  opened_none = rw tests.0 tests.1
+  opened_none = rw tests.0 (rw (opened_number (table_in file) (order_in file)) tests.1)
 
   opened_session : (begun file).session ≡ session_in file
   unfolding begun opened_at if
@@ -104,13 +123,24 @@ module _ (file : List ℕ) (h : opens file ≡ true) where
   opened_prints = rw (tests.0, tests.1)
 
 -- one that reading or opening refuses
-refused_file : (file : List ℕ) → opens file ≡ false → (eqb (begun file).refusal 0 ≡ false) × (listing_of file ≡ rendered (first_fields (begun file)))
-unfolding begun opened_at first_fields listing_of run_of if
-refused_file file = go (is_laid_out file) refl
+refused_file : (file : List ℕ) → opens file ≡ false → (eqb (number_of (begun file).refusal) 0 ≡ false) × (listing_of file ≡ rendered (first_fields (begun file)))
+unfolding begun opened_at opening_of first_fields listing_of run_of if
+refused_file file = go (is_laid_out file) (answer_of t) refl refl
   where
-    go : (b : Bool) → is_laid_out file ≡ b → opens file ≡ false → (eqb (begun file).refusal 0 ≡ false) × (listing_of file ≡ rendered (first_fields (begun file)))
-    go true e h = let no-opening : eqb (admission_of (table_in file)) 0 ≡ false = rw e at h in (rw e no-opening, rw (e, no-opening))
-    go false e h = (rw e, rw e)
+    t : Table
+    t = table_in file
+
+    go : (b : Bool) (a : Result Margin Unadmitted) → is_laid_out file ≡ b → answer_of t ≡ a → opens file ≡ false
+        → (eqb (number_of (begun file).refusal) 0 ≡ false) × (listing_of file ≡ rendered (first_fields (begun file)))
+    go true (Ok m) e f h =
+        let never : eqb (admission_of t) 0 ≡ false = rw e at h in
+        absurd (false≢true (sym never ∙ eq-eqb _ 0 (sym (answer_carries_margin t).0 ∙ ap number_in f)))
+    go true (Err r) e f h =
+        let number : admission_of t ≡ refused_number r = sym (answer_carries_margin t).0 ∙ ap number_in f in
+        let some : eqb (admission_of t) 0 ≡ false = rw e at h in
+        let told : eqb (refused_number r) 0 ≡ false = rw number at some in
+        (rw (e, f) told, rw (e, some, f, told, number))
+    go false a e f h = (rw e, rw e)
 
 -- ---- a whole listing
 
@@ -118,11 +148,11 @@ refused_file file = go (is_laid_out file) refl
 abbrev Listed : Session → List ℕ → List ℕ → Type 0
 Listed s trace text = (later : List ℕ) × (text ≡ rendered header_fields ++ later) × FollowsFrom s trace 0 (events_in trace) later
 
-opened_lacks : (f : Follower) (trace : List ℕ) → f.due ≡ 1 → eqb f.refusal 0 ≡ true → lacking f trace ≡ suc (events_in trace)
+opened_lacks : (f : Follower) (trace : List ℕ) → f.due ≡ 1 → eqb (number_of f.refusal) 0 ≡ true → lacking f trace ≡ suc (events_in trace)
 unfolding lacking all_lines if
 opened_lacks f trace due opened = rw opened (omega arith)
 
-refused_lacks : (f : Follower) (trace : List ℕ) → f.due ≡ 1 → eqb f.refusal 0 ≡ false → lacking f trace ≡ 1
+refused_lacks : (f : Follower) (trace : List ℕ) → f.due ≡ 1 → eqb (number_of f.refusal) 0 ≡ false → lacking f trace ≡ 1
 unfolding lacking all_lines if
 refused_lacks f trace due refused = rw refused (omega arith)
 
@@ -130,7 +160,7 @@ module _ (f : Follower) (trace text : List ℕ) (going : f.failed ≡ false) (du
   followed : (n : ℕ) → lacking f trace ≡ n → Whole f trace text ↔ FollowsBy n f trace text
   followed n e = (whole_follows n f trace text going e, follows_whole n f trace text going e)
 
-  opened_follows : eqb f.refusal 0 ≡ true → Whole f trace text ↔ Listed f.session trace text
+  opened_follows : eqb (number_of f.refusal) 0 ≡ true → Whole f trace text ↔ Listed f.session trace text
   unfolding first_fields if
   opened_follows opened =
       let by = Iff.trans (followed (suc (events_in trace)) (opened_lacks f trace due opened)) (first_follows (events_in trace) f trace text due) in
@@ -141,7 +171,7 @@ module _ (f : Follower) (trace text : List ℕ) (going : f.failed ≡ false) (du
         λ (later, is, q). by.1 (later, is ∙ ap (λ (fields : List (List ℕ)). rendered fields ++ later) (sym header), (on later).1 q),
       )
 
-  refused_follows : eqb f.refusal 0 ≡ false → Whole f trace text ↔ (text ≡ rendered (first_fields f))
+  refused_follows : eqb (number_of f.refusal) 0 ≡ false → Whole f trace text ↔ (text ≡ rendered (first_fields f))
   unfolding FollowsBy
   refused_follows refused =
       let by = Iff.trans (followed 1 (refused_lacks f trace due refused)) (first_follows 0 f trace text due) in (

@@ -15,10 +15,14 @@ use Rattle.table.proofs.Folds.{all_at}
 use Rattle.stream.specs.declared.Stream.{Stream}
 use Rattle.session.specs.declared.Session.{Session}
 use Rattle.file.specs.Reading.{events_in}
+use Rattle.table.specs.declared.refusal.Refusal.TheVariants.{Streams, Worst, Span, Padding, Period, Budget, Load}
+use Rattle.file.specs.declared.refusal.Refusal.TheVariants.{Layout as NotLaidOut, Room as NoRoom}
+use Rattle.trace.specs.Refusal.{refusal_number}
+use Rattle.trace.specs.declared.refusal.Refusal.{Refusal}
 use Rattle.listing.specs.Line.{rendered, accepted_fields, place_fields}
 use Rattle.logs.specs.Choices.{alike, is_first, is_choice, stream_of_cell, index_of_cell, cells_max, own_turn_of, choices_from}
 use Rattle.logs.specs.Lines.{same_bytes}
-use Rattle.logs.specs.Following.{awaited, Next, next_by, nexts_at, nexts, lines_of_nexts, first_that_is, followed, with_line, is_nothing, is_whole, checked_by, report_of}
+use Rattle.logs.specs.Following.{number_of, awaited, Next, next_by, nexts_at, nexts, lines_of_nexts, first_that_is, followed, with_line, is_nothing, is_whole, checked_by, report_of}
 use Rattle.logs.specs.Inner.{only_at}
 use Rattle.file.specs.declared.event.Event.{Event}
 use Rattle.logs.specs.declared.Follower.{Follower}
@@ -33,6 +37,25 @@ nothing_is (Some (EventAt i)) true e = absurd (false≢true (sym e))
 nothing_is (Some (EventAt i)) false e = refl
 nothing_is None true e = refl
 nothing_is None false e = absurd (false≢true e)
+
+-- a refusal has a number
+pub some_number : (r : Refusal) → eqb (refusal_number r) 0 ≡ false
+some_number (Refusal.File NotLaidOut) = refl
+some_number (Refusal.File NoRoom) = refl
+some_number (Refusal.Table Streams) = refl
+some_number (Refusal.Table Worst) = refl
+some_number (Refusal.Table Span) = refl
+some_number (Refusal.Table Padding) = refl
+some_number (Refusal.Table Period) = refl
+some_number (Refusal.Table Budget) = refl
+some_number (Refusal.Table (Load m)) = refl
+
+-- so it is 0 where there is none
+pub none_refused : (r : Option Refusal) (b : Bool) → is_some r ≡ not b → b ≡ eqb (number_of r) 0
+none_refused None true e = refl
+none_refused None false e = absurd (false≢true e)
+none_refused (Some r) true e = absurd (false≢true (sym e))
+none_refused (Some r) false e = sym (some_number r)
 
 -- what the first of some finds is found, and else it is looked for among the others
 module _ (line : List ℕ) (x : Next) (rest : List Next) where
@@ -121,10 +144,10 @@ due_event f trace i h =
     by_if (λ (a : Option Awaited). a ≡ Some (EventAt i) → i + 1 ≤ events_in trace) (leb f.due 1) _ _
     (λ low e. absurd (let never : ◌≡◌ {A = ℕ} 0 1 = cc in omega arith))
     (λ high. by_if (λ (a : Option Awaited). a ≡ Some (EventAt i) → i + 1 ≤ events_in trace)
-    (eqb f.refusal 0 && leb (f.due - 1) (events_in trace)) _ _
+    (eqb (number_of f.refusal) 0 && leb (f.due - 1) (events_in trace)) _ _
     (λ there e.
     let is : f.due - 2 ≡ i = cc in
-    omega (arith, leb-false f.due 1 high, leb-true (f.due - 1) (events_in trace) (both (eqb f.refusal 0) (leb (f.due - 1) (events_in trace)) there).1))
+    omega (arith, leb-false f.due 1 high, leb-true (f.due - 1) (events_in trace) (both (eqb (number_of f.refusal) 0) (leb (f.due - 1) (events_in trace)) there).1))
     (λ none e. absurd (let never : ◌≡◌ {A = ℕ} 0 1 = cc in omega arith)))
     h
 
@@ -136,8 +159,8 @@ found_due f trace line s h =
     (leb f.due 1) _ _
     (λ low g. omega (arith, leb-true f.due 1 low))
     (λ high. by_if (λ (a : Option Awaited). first_that_is line (nexts_at f trace a) ≡ Some s → f.due - 1 ≤ events_in trace)
-    (eqb f.refusal 0 && leb (f.due - 1) (events_in trace)) _ _
-    (λ there g. leb-true (f.due - 1) (events_in trace) (both (eqb f.refusal 0) (leb (f.due - 1) (events_in trace)) there).1)
+    (eqb (number_of f.refusal) 0 && leb (f.due - 1) (events_in trace)) _ _
+    (λ there g. leb-true (f.due - 1) (events_in trace) (both (eqb (number_of f.refusal) 0) (leb (f.due - 1) (events_in trace)) there).1)
     (λ none g. let never : None ≡ Some s = g in cc))
     h
 

@@ -18,7 +18,7 @@ use Rattle.listing.proofs.Lines.{decimal_fields, prints_fields, newline_ends, On
 use Rattle.trace.specs.Trace.{applied, fields_of}
 use Rattle.logs.specs.Choices.{may_be}
 use Rattle.logs.specs.Follow.{Among, line_by}
-use Rattle.logs.specs.Following.{awaited, Next, first_fields, next_by, nexts_at, nexts, lines_of_nexts, is_nothing}
+use Rattle.logs.specs.Following.{number_of, over_of, awaited, Next, first_fields, next_by, nexts_at, nexts, lines_of_nexts, is_nothing}
 use Rattle.logs.specs.Laws.{Once}
 use Rattle.logs.specs.declared.Follower.{Follower}
 use Rattle.std.specs.Prelude.{Option, None, Some}
@@ -35,11 +35,11 @@ all_lines opened trace = if opened (suc (events_in trace)) 1
 
 -- and from the one on that is due
 unfoldable pub lacking : Follower → List ℕ → ℕ
-lacking f trace = suc (all_lines (eqb f.refusal 0) trace) - f.due
+lacking f trace = suc (all_lines (eqb (number_of f.refusal) 0) trace) - f.due
 
 pub none_due : (f : Follower) (trace : List ℕ) → lacking f trace ≡ 0 → awaited f trace ≡ None
 unfolding awaited lacking all_lines if
-none_due f trace h = go (eqb f.refusal 0) h
+none_due f trace h = go (eqb (number_of f.refusal) 0) h
   where
     go : (b : Bool) → suc (if b (suc (events_in trace)) 1) - f.due ≡ 0
         → if (leb f.due 1) (Some First) (if (b && leb (f.due - 1) (events_in trace)) (Some (EventAt (f.due - 2))) None) ≡ None
@@ -48,7 +48,7 @@ none_due f trace h = go (eqb f.refusal 0) h
 
 pub some_due : (f : Follower) (trace : List ℕ) (n : ℕ) → lacking f trace ≡ suc n → is_nothing (awaited f trace) ≡ false
 unfolding awaited lacking all_lines if
-some_due f trace n h = go (eqb f.refusal 0) h
+some_due f trace n h = go (eqb (number_of f.refusal) 0) h
   where
     go : (b : Bool) → suc (if b (suc (events_in trace)) 1) - f.due ≡ suc n
         → is_nothing (if (leb f.due 1) (Some First) (if (b && leb (f.due - 1) (events_in trace)) (Some (EventAt (f.due - 2))) None)) ≡ false
@@ -64,7 +64,7 @@ pub first_due : (f : Follower) (trace : List ℕ) → f.due ≡ 1 → awaited f 
 unfolding awaited if
 first_due f trace e = rw (le-leb f.due 1 (omega arith))
 
-pub event_due : (f : Follower) (trace : List ℕ) (i : ℕ) → eqb f.refusal 0 ≡ true → f.due ≡ i + 2 → i < events_in trace → awaited f trace ≡ Some (EventAt i)
+pub event_due : (f : Follower) (trace : List ℕ) (i : ℕ) → eqb (number_of f.refusal) 0 ≡ true → f.due ≡ i + 2 → i < events_in trace → awaited f trace ≡ Some (EventAt i)
 unfolding awaited if
 event_due f trace i opened e l =
     let same : f.due - 2 ≡ i = omega arith in
@@ -80,7 +80,7 @@ refused_fields_lem number (suc n) = (prints_fields.4 (number ∷ suc n ∷ [])).
 first_fields_lem : (f : Follower) → Each Field (first_fields f)
 unfolding first_fields
 first_fields_lem f =
-    by_if (Each Field) (eqb f.refusal 0) _ _ (λ opened. prints_fields.0) (λ refused. refused_fields_lem f.refusal f.over)
+    by_if (Each Field) (eqb (number_of f.refusal) 0) _ _ (λ opened. prints_fields.0) (λ refused. refused_fields_lem (number_of f.refusal) (over_of f.refusal))
 
 event_fields_lem : (s : Session) (n : ℕ) (event : Event) → Each Field (fields_of (applied s n event).line)
 unfolding event_fields

@@ -116,7 +116,7 @@ lines_within past n s (k ∷ ks) before each =
 
 -- no event of a file that opens is malformed
 opens_formed : (file : List ℕ) → is_laid_out file ≡ true → (i : ℕ) → i < events_in (trace_in file) → formed (event_at (trace_in file) i) ≡ true
-opens_formed file laid_out = (accepted_is_within file _ _ _ _ _ _ (read_accepted file laid_out)).all_formed
+opens_formed file laid_out = (accepted_is_within file _ (read_accepted file laid_out)).all_formed
 
 -- and its session is newly opened
 opens_new : (file : List ℕ) → eqb (admission_of (table_in file)) 0 ≡ true → NewlyOpened (table_in file) (session_in file)

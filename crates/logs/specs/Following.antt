@@ -1,14 +1,17 @@
 -- How a listing is followed, line by line, and what is said of it. The quotes are document 02, Req 09.
-use Rattle.std.specs.Prelude.{Option, None, Some, Bool, true, false, not, ◌&&◌, List, [], ◌∷◌, map, ℕ, ◌+◌, ◌-◌, length, leb, eqb}
+use Rattle.std.specs.Prelude.{Option, None, Some, Result, Ok, Err, Bool, true, false, not, ◌&&◌, List, [], ◌∷◌, map, ℕ, ◌+◌, ◌-◌, length, leb, eqb}
 use Rattle.table.specs.Fold.{if}
-use Rattle.table.specs.Admission.{admission_of}
-use Rattle.table.specs.Margin.{over_in}
+use Rattle.table.specs.declared.margin.Margin.{Margin}
+use Rattle.table.specs.declared.refusal.Refusal.{Refusal as Unadmitted}
 use Rattle.table.specs.declared.Table.{Table}
 use Rattle.order.specs.declared.Order.{Order}
 use Rattle.session.specs.Opening.{zero_session, opening_of}
 use Rattle.session.specs.declared.Session.{Session}
 use Rattle.file.specs.Reading.{event_at, events_in, table_in, order_in, trace_in, is_laid_out}
 use Rattle.file.specs.declared.event.Event.{Event}
+use Rattle.file.specs.declared.refusal.Refusal.TheVariants.{Layout as NotLaidOut}
+use Rattle.trace.specs.Refusal.{refusal_number, refusal_over}
+use Rattle.trace.specs.declared.refusal.Refusal.{Refusal}
 use Rattle.listing.specs.Line.{rendered, header_fields, refused_fields, accepted_fields, place_fields}
 use Rattle.trace.specs.Trace.{applied, fields_of}
 use Rattle.logs.specs.Choices.{may_be}
@@ -21,22 +24,33 @@ use Rattle.logs.specs.declared.Awaited.TheVariants.{First, Event as EventAt}
 -- ---- how far a listing was followed
 
 -- a follower that has seen no line yet, of a file that is refused, and of a table that is opened
-abbrev pub refused_at : ℕ → Follower
-refused_at number = record { session = zero_session; refusal = number; over = 0; due = 1; failed = false }
+abbrev pub starting : Session → Option Refusal → Follower
+starting s refusal = record { session = s; refusal = refusal; due = 1; failed = false }
+
+abbrev pub refused_at : Refusal → Follower
+refused_at refusal = starting zero_session (Some refusal)
+
+-- what refuses a table, of what opening answers
+abbrev pub unadmitted : Result Margin Unadmitted → Option Refusal
+unadmitted (Ok m) = None
+unadmitted (Err r) = Some (Refusal.Table r)
 
 unfoldable pub opened_at : Table → Order → Follower
 opened_at t order =
     let opened = opening_of t order in
-    record {
-      session = opened.session;
-      refusal = admission_of t;
-      over = over_in opened.admission;
-      due = 1;
-      failed = false;
-    }
+    starting opened.session (unadmitted opened.admission)
+
+-- its number, or 0, and the amount over the span
+abbrev pub number_of : Option Refusal → ℕ
+number_of None = 0
+number_of (Some r) = refusal_number r
+
+abbrev pub over_of : Option Refusal → ℕ
+over_of None = 0
+over_of (Some r) = refusal_over r
 
 unfoldable pub begun : List ℕ → Follower
-begun file = if (is_laid_out file) (opened_at (table_in file) (order_in file)) (refused_at 16)
+begun file = if (is_laid_out file) (opened_at (table_in file) (order_in file)) (refused_at (Refusal.File NotLaidOut))
 
 -- the events of a file that is read
 unfoldable pub trace_of : List ℕ → List ℕ
@@ -46,7 +60,7 @@ trace_of file = if (is_laid_out file) (trace_in file) []
 unfoldable pub awaited : Follower → List ℕ → Option Awaited
 awaited f trace =
     if (leb f.due 1) (Some First)
-    (if (eqb f.refusal 0 && leb (f.due - 1) (events_in trace)) (Some (EventAt (f.due - 2))) None)
+    (if (eqb (number_of f.refusal) 0 && leb (f.due - 1) (events_in trace)) (Some (EventAt (f.due - 2))) None)
 
 -- ---- what may stand there
 
@@ -56,7 +70,7 @@ pub record Next : Type 0 where
   pub session : Session
 
 unfoldable pub first_fields : Follower → List (List ℕ)
-first_fields f = if (eqb f.refusal 0) header_fields (refused_fields f.refusal f.over)
+first_fields f = if (eqb (number_of f.refusal) 0) header_fields (refused_fields (number_of f.refusal) (over_of f.refusal))
 
 abbrev pub next_by : Session → ℕ → Event → Next
 next_by s n event = let o = applied s n event in record { fields = fields_of o.line; session = o.session }
@@ -82,7 +96,7 @@ first_that_is line (x ∷ rest) = if (same_bytes line (rendered x.fields)) (Some
 
 -- one line more: it follows, or it does not, and then nothing more is looked at
 abbrev pub follower : Follower → Session → ℕ → Bool → Follower
-follower f s due failed = record { session = s; refusal = f.refusal; over = f.over; due = due; failed = failed }
+follower f s due failed = record { session = s; refusal = f.refusal; due = due; failed = failed }
 
 abbrev pub followed : Follower → Option Session → Follower
 followed f (Some s) = follower f s (f.due + 1) false

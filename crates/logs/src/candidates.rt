@@ -46,9 +46,9 @@ impl Follower {
     fn first_line(self) -> Text
         ensures { result ≡ text_of (first_fields self) }
     {
-        if self.refusal == 0 {
-            return listing::header();
+        match self.refusal {
+            None => listing::header(),
+            Some(refusal) => listing::refused(refusal.number(), refusal.over()),
         }
-        listing::refused(self.refusal, self.over)
     }
 }

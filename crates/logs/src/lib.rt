@@ -5,20 +5,20 @@ mod candidates;
 mod choices;
 
 ghost use Rattle.std.specs.Prelude.{◌≡◌, [], ◌≤◌, length, get_or};
-ghost use Rattle.logs.specs.Following.{refused_at, opened_at, begun, trace_of, awaited, with_line, fed_by, is_whole, checked_by, report_of};
+ghost use Rattle.logs.specs.Following.{starting, opened_at, begun, trace_of, awaited, with_line, fed_by, is_whole, checked_by, report_of};
 
-use file::{Event, Reading};
+use file::Event;
 use listing::Text;
 use order::Order;
 use session::Session;
 use table::Table;
+use trace::Refusal;
 
-// How far a listing was followed: the session after the lines so far; the number that refuses the file, or 0, and the amount over the span; the number of the line that is due; and whether a line did not follow.
+// How far a listing was followed: the session after the lines so far; what refuses the file; the number of the line that is due, which stands where one did not follow too; and whether one did not.
 #[derive(Clone, Copy)]
 pub struct Follower {
     session: Session,
-    refusal: u64,
-    over: u64,
+    refusal: Option<Refusal>,
     due: usize,
     failed: bool,
 }
@@ -42,23 +42,9 @@ impl Follower {
     pub fn begin(file: &[u8]) -> Follower
         ensures { result ≡ begun file.now }
     {
-        let reading = file::read(file);
-        let Reading::LaidOut { order, .. } = reading else {
-            return Follower::refused(16);
-        };
-        Follower::opened(file::table_of(file), order)
-    }
-
-    fn refused(number: u64) -> Follower
-        ensures { result ≡ refused_at number }
-    {
-        let session = Session::zero();
-        Follower {
-            session,
-            refusal: number,
-            over: 0,
-            due: 1,
-            failed: false,
+        match file::read(file) {
+            Ok(layout) => Follower::opened(file::table_of(file), layout.order),
+            Err(refusal) => Follower::starting(Session::zero(), Some(Refusal::File(refusal))),
         }
     }
 
@@ -66,12 +52,19 @@ impl Follower {
         ensures { result ≡ opened_at table order }
     {
         let opened = Session::open(table, order);
-        let session = opened.session;
-        let admission = opened.admission;
+        match opened.admission {
+            Ok(_) => Follower::starting(opened.session, None),
+            Err(refusal) => Follower::starting(opened.session, Some(Refusal::Table(refusal))),
+        }
+    }
+
+    // Before the first line, of a session and of what refuses the file.
+    fn starting(session: Session, refusal: Option<Refusal>) -> Follower
+        ensures { result ≡ starting session refusal }
+    {
         Follower {
             session,
-            refusal: admission.number(),
-            over: admission.over(),
+            refusal,
             due: 1,
             failed: false,
         }
@@ -124,7 +117,7 @@ impl Follower {
         if self.due <= 1 {
             return Some(Awaited::First);
         }
-        if (self.refusal == 0) & (self.due - 1 <= trace.len() / Event::SIZE) {
+        if self.refusal.is_none() & (self.due - 1 <= trace.len() / Event::SIZE) {
             return Some(Awaited::Event(self.due - 2));
         }
         None
@@ -163,9 +156,8 @@ impl Follower {
 fn trace_of(file: &[u8]) -> &[u8]
     ensures { result.now ≡ trace_of file.now }
 {
-    let reading = file::read(file);
-    let Reading::LaidOut { start, end, .. } = reading else {
-        return &file[..0];
-    };
-    &file[start..end]
+    match file::read(file) {
+        Ok(layout) => &file[layout.start..layout.end],
+        Err(_) => &file[..0],
+    }
 }

@@ -1,12 +1,15 @@
 // A trace run through a session: each event is a call, and its answer a printed line.
 #![tactic(auto)]
 
+mod refusal;
+
 ghost use Rattle.std.specs.Prelude.{◌≡◌};
 ghost use Rattle.trace.specs.Trace.{call_of, called, applied, handed};
 
 use calls::Call;
 use file::Event;
 use listing::Text;
+pub use refusal::Refusal;
 use session::Session;
 
 // The session after an event, and the line that is printed for it.

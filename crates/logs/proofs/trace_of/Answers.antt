@@ -5,21 +5,20 @@ use Rattle.file.proofs.Round.{accepted_is_within}
 use Rattle.logs.proofs.Files.{no_trace, trace_read}
 use Rattle.logs.proofs.trace_of.Goals as goal
 
-pub returns-in_default : goal.returns-in_default
-returns-in_default c = sym (no_trace _ _ (sym c.read-reading.ensures ∙ c.in_default.is))
-
 pub slice_bounds-result-count : goal.slice_bounds-result-count
 slice_bounds-result-count c =
-    omega (arith, (accepted_is_within _ _ _ _ _ _ _ (sym c.read-reading.ensures ∙ c.in-LaidOut.is)).whole_events)
+    omega (arith, (accepted_is_within c.args.file.now c.in-Ok.layout (sym c.in-Ok.ensures)).whole_events)
 
 pub slice_bounds-result-start : goal.slice_bounds-result-start
 slice_bounds-result-start c =
-    omega (arith, (accepted_is_within _ _ _ _ _ _ _ (sym c.read-reading.ensures ∙ c.in-LaidOut.is)).whole_events)
+    omega (arith, (accepted_is_within c.args.file.now c.in-Ok.layout (sym c.in-Ok.ensures)).whole_events)
 
-pub slice_bounds-result-end-2 : goal.slice_bounds-result-end-2
-slice_bounds-result-end-2 c =
-    omega (arith, (accepted_is_within _ _ _ _ _ _ _ (sym c.read-reading.ensures ∙ c.in-LaidOut.is)).in_file)
+pub slice_bounds-result-end : goal.slice_bounds-result-end
+slice_bounds-result-end c =
+    omega (arith, (accepted_is_within c.args.file.now c.in-Ok.layout (sym c.in-Ok.ensures)).in_file)
 
-pub returns : goal.returns
-returns c =
-    sym (trace_read _ _ _ _ _ _ _ (sym c.read-reading.ensures ∙ c.in-LaidOut.is))
+pub returns-in-Ok : goal.returns-in-Ok
+returns-in-Ok c = sym (trace_read c.args.file.now c.in-Ok.layout (sym c.in-Ok.ensures))
+
+pub returns-in-Err : goal.returns-in-Err
+returns-in-Err c = sym (no_trace c.args.file.now _ (sym c.in-Err.ensures))

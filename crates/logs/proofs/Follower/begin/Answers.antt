@@ -3,11 +3,10 @@ use mathlib.Core.Path.{sym, ◌∙◌}
 use Rattle.logs.proofs.Files.{begun_refused, begun_opened}
 use Rattle.logs.proofs.Follower.begin.Goals as goal
 
-pub returns-in_default : goal.returns-in_default
-returns-in_default c =
-    c.refused.ensures ∙ sym (begun_refused _ _ (sym c.read-reading.ensures ∙ c.in_default.is))
+pub returns-in-Ok : goal.returns-in-Ok
+returns-in-Ok c =
+    (rw c.table_of.ensures at c.opened.ensures) ∙ sym (begun_opened c.args.file.now c.in-Ok.layout (sym c.in-Ok.ensures))
 
-pub returns : goal.returns
-returns c =
-    (rw c.table_of.ensures at c.opened.ensures)
-    ∙ sym (begun_opened _ _ _ _ _ _ _ (sym c.read-reading.ensures ∙ c.in-LaidOut.is))
+pub returns-in-Err : goal.returns-in-Err
+returns-in-Err c =
+    rw (c.starting.ensures, c.zero.ensures) (sym (begun_refused c.args.file.now c.in-Err.refusal (sym c.in-Err.ensures)))

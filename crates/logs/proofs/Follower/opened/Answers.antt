@@ -1,11 +1,19 @@
--- `opened` has the session of the opening, its number and the amount over.
-use Rattle.session.specs.Opening.{opening_of}
-use Rattle.table.proofs.Margins.{answer_carries_margin}
-use Rattle.logs.specs.Following.{opened_at}
+-- `opened` has the session of the opening, and what refuses the table.
+use mathlib.Core.Path.{◌≡◌, sym, ap, ◌∙◌}
+use Rattle.session.specs.declared.Opened.{Opened}
+use Rattle.logs.specs.Following.{starting, unadmitted, opened_at}
 use Rattle.logs.proofs.Follower.opened.Goals as goal
 
-pub returns : goal.returns
-unfolding opened_at opening_of
-returns c =
-    rw (c.over.ensures, c.number.ensures, c.open-opened.ensures)
-    (rw (answer_carries_margin _).0)
+pub returns-in-Ok : goal.returns-in-Ok
+unfolding opened_at
+returns-in-Ok c =
+    c.starting.ensures
+    ∙ ap (starting c.open-opened.result.session) (sym (ap unadmitted c.in-Ok.is))
+    ∙ ap (λ (o : Opened). starting o.session (unadmitted o.admission)) c.open-opened.ensures
+
+pub returns-in-Err : goal.returns-in-Err
+unfolding opened_at
+returns-in-Err c =
+    c.starting-in-Err.ensures
+    ∙ ap (starting c.open-opened.result.session) (sym (ap unadmitted c.in-Err.is))
+    ∙ ap (λ (o : Opened). starting o.session (unadmitted o.admission)) c.open-opened.ensures

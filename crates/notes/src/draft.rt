@@ -185,6 +185,7 @@ pub fn is_gap(byte: u8) -> bool
 }
 
 // Whether names stand behind a word, and not numbers.
+#[tactic(auto, unfolding(crate::specs::Draft::takes_name, crate::specs::Draft::held_after, listing::specs::Line::ascii))]
 pub(crate) fn takes_name(word: u64) -> bool
     ensures { result ≡ takes_name word }
 {

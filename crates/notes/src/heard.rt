@@ -65,6 +65,7 @@ impl Field {
     }
 
     // Whether the field begins with a byte order mark.
+    #[tactic(auto, using(crate::proofs::Faults::mark_test), unfolding(crate::specs::Heard::is_marked))]
     pub(crate) fn is_marked(self) -> bool
         ensures { result ≡ is_marked self }
     {
@@ -150,6 +151,7 @@ fn is_end(byte: u8) -> bool
 }
 
 // Whether a field that is kept begins with the next byte that ends none.
+#[tactic(auto, using(crate::proofs::Faults::between_test))]
 fn opens(draft: Draft) -> bool
     ensures { result ≡ opens_at draft.place draft }
 {

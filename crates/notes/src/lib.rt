@@ -387,6 +387,7 @@ impl Notes {
     }
 }
 
+#[tactic(auto, using(crate::proofs::Choices::saturated))]
 fn next_line(line: u64) -> u64
     ensures { result ≡ next_line line }
 {

@@ -1,10 +1,9 @@
 // Reads a session file from standard input, and prints what a card may say of its table, or what refuses it. The trace is not run.
 #![tactic(auto)]
 
-use file::Reading;
 use std::fmt::{InlineText, Write};
 use std::{fmt, io};
-use table::{Margin, Table};
+use table::{Margin, Numbers, Refusal, Reservation, Table};
 use terms::{Change, Finding, Terms, Verdict};
 
 // A number as a card shows it: its digits in groups of three.
@@ -34,36 +33,37 @@ fn main(rt: HostRuntime) -> io::Result<()> {
         return rt.eprint("card: cannot read standard input\n");
     };
     let file = &buffer[..len];
-    let reading = file::read(file);
-    let Reading::LaidOut { .. } = reading else {
-        return rt.print("refused 16: this is not laid out as a session file\n");
-    };
-    print_card(&rt, file::table_of(file))
+    match file::read(file) {
+        Ok(_) => print_card(&rt, file::table_of(file)),
+        Err(_) => rt.print("refused 16: this is not laid out as a session file\n"),
+    }
 }
 
 // The verdict, with the margin where the load is judged; then what was reserved and is granted, where the table's own numbers are in order; and the promise, where the table is admitted.
 fn print_card(rt: &impl Print, table: Table) -> io::Result<()> {
     let verdict = Verdict::on(table);
-    let number = verdict.number;
-    if number == 0 {
-        print_load(rt, verdict.finding)?;
-    } else {
-        print_refusal(rt, table, verdict)?;
+    match table.admission() {
+        Ok(margin) => {
+            print_load(rt, verdict.finding)?;
+            print_margin(rt, margin)?;
+            print_streams(rt, table, Some(margin))?;
+            print_promises(rt, table)
+        }
+        Err(refusal) => {
+            print_refusal(rt, table, verdict, refusal)?;
+            match refusal {
+                Refusal::Load(margin) => {
+                    print_margin(rt, margin)?;
+                    print_streams(rt, table, Some(margin))
+                }
+                Refusal::Period | Refusal::Budget => {
+                    rt.print("\n")?;
+                    print_streams(rt, table, None)
+                }
+                _ => rt.print("\n"),
+            }
+        }
     }
-    let admission = table.admission();
-    let margin = admission.margin();
-    let judged = (number == 0) | (number == 7);
-    if judged {
-        print_margin(rt, margin)?;
-    }
-    rt.print("\n")?;
-    if judged | (4 < number) {
-        print_streams(rt, table, margin, judged)?;
-    }
-    if number == 0 {
-        print_promises(rt, table)?;
-    }
-    Ok(())
 }
 
 fn print_load(rt: &impl Print, found: Finding) -> io::Result<()> {
@@ -75,89 +75,98 @@ fn print_load(rt: &impl Print, found: Finding) -> io::Result<()> {
 // What is left of the span, or the amount over it with a sign.
 fn print_margin(rt: &impl Print, margin: Margin) -> io::Result<()> {
     let left = Grouped(margin.left());
-    let over = margin.over();
-    if over == 0 {
-        return print!(rt; ", and the margin is {left}");
+    let over = Grouped(margin.over());
+    if margin.over() == 0 {
+        print!(rt; ", and the margin is {left}\n")
+    } else {
+        print!(rt; ", and the margin is -{over}\n")
     }
-    let over = Grouped(over);
-    print!(rt; ", and the margin is -{over}")
 }
 
-fn print_refusal(rt: &impl Print, table: Table, verdict: Verdict) -> io::Result<()> {
-    let number = verdict.number;
+fn print_refusal(
+    rt: &impl Print,
+    table: Table,
+    verdict: Verdict,
+    refusal: Refusal,
+) -> io::Result<()> {
+    let number = refusal.number();
     print!(rt; "refused {number}: ")?;
-    if verdict.stream != 0 {
-        let stream = verdict.stream;
+    if let Some(stream) = verdict.stream {
         print!(rt; "stream {stream}: ")?;
     }
     let found = verdict.finding;
     let value = Grouped(found.value);
-    if (number == 5) & (found.limit == 0) {
+    if (refusal == Refusal::Period) & (found.limit == 0) {
         let span = Grouped(table.span as u64);
         return print!(rt;
             "the period does not divide the span {span}, of which {value} are left over"
         );
     }
-    rt.print(what(number, found))?;
+    let what = what(refusal, found);
     let apart = Grouped(found.value.abs_diff(found.limit));
-    let side = beyond(number, found);
+    let side = side(refusal, found);
     let limit = Grouped(found.limit);
-    print!(rt; " is {value}, {apart} {side}, {limit}")
+    print!(rt; "{what} is {value}, {apart} {side}, {limit}")
 }
 
 // What is beyond a limit.
-fn what(number: u64, found: Finding) -> &'static str {
-    match number {
-        1 => "the number of streams",
-        2 => "the worst-case request time W",
-        3 => "the span H",
-        4 => "the padding k",
-        5 => "the period",
-        6 if found.value < found.limit => "the reserved time",
-        6 => "the granted budget",
-        _ => "the load",
+fn what(refusal: Refusal, found: Finding) -> &'static str {
+    match refusal {
+        Refusal::Streams => "the number of streams",
+        Refusal::Worst => "the worst-case request time W",
+        Refusal::Span => "the span H",
+        Refusal::Padding => "the padding k",
+        Refusal::Period => "the period",
+        Refusal::Budget if found.value < found.limit => "the reserved time",
+        Refusal::Budget => "the granted budget",
+        Refusal::Load(_) => "the load",
     }
 }
 
 // Beyond which limit it is.
-fn beyond(number: u64, found: Finding) -> &'static str {
+fn side(refusal: Refusal, found: Finding) -> &'static str {
     if found.value < found.limit {
         return "below the least";
     }
-    match number {
-        6 => "above the period",
-        7 => "above the span",
+    match refusal {
+        Refusal::Budget => "above the period",
+        Refusal::Load(_) => "above the span",
         _ => "above the most",
     }
 }
 
-// A row for each stream; the last column is there where the load is judged.
-fn print_streams(rt: &impl Print, table: Table, margin: Margin, judged: bool) -> io::Result<()> {
+// A row for each stream; the last column is there where the load is judged, and there is a margin.
+fn print_streams(rt: &impl Print, table: Table, margin: Option<Margin>) -> io::Result<()> {
     let worst = Grouped(table.worst as u64);
     print!(rt; "\nworst-case request time W {worst}; all times in microseconds\n\n")?;
     rt.print("stream       reserved         period  padding        granted  of the disk")?;
-    if judged {
+    if let Some(margin) = margin {
         rt.print(change_of(margin))?;
     }
     rt.print("\n")?;
     for i in 0..table.count.min(Table::STREAMS_MAX) {
-        let e = table.reserved[i];
-        let p = table.period[i];
-        let stream = i + 1;
-        print!(rt; "{stream:>6}")?;
-        print_row(rt, Terms::of(table.worst, table.padding, e), e, p)?;
-        if judged {
-            print_change(
-                rt,
-                Change::of(margin, table.worst, table.span, table.padding, e, p),
-            )?;
-        }
-        rt.print("\n")?;
+        print_stream(rt, i + 1, table.numbers(), table.reservation(i), margin)?;
     }
-    if judged {
+    if let Some(margin) = margin {
         rt.print(change_meant(margin))?;
     }
     Ok(())
+}
+
+// The row of a stream.
+fn print_stream(
+    rt: &impl Print,
+    number: usize,
+    numbers: Numbers,
+    stream: Reservation,
+    margin: Option<Margin>,
+) -> io::Result<()> {
+    print!(rt; "{number:>6}")?;
+    print_terms(rt, Terms::of(numbers, stream.reserved), stream)?;
+    if let Some(margin) = margin {
+        print_change(rt, Change::of(margin, numbers, stream))?;
+    }
+    rt.print("\n")
 }
 
 // What the last column tells of each stream.
@@ -187,16 +196,16 @@ fn print_change(rt: &impl Print, change: Change) -> io::Result<()> {
     }
 }
 
-fn print_row(rt: &impl Print, terms: Terms, reserved: u32, period: u32) -> io::Result<()> {
-    let reserved = Grouped(reserved as u64);
-    let every = Grouped(period as u64);
+fn print_terms(rt: &impl Print, terms: Terms, stream: Reservation) -> io::Result<()> {
+    let reserved = Grouped(stream.reserved as u64);
+    let period = Grouped(stream.period as u64);
     let padding = Grouped(terms.padding as u64);
     let granted = Grouped(terms.granted);
-    print!(rt; "{reserved:>15}{every:>15}{padding:>9}{granted:>15}")?;
-    if (period as u64) < terms.granted {
+    print!(rt; "{reserved:>15}{period:>15}{padding:>9}{granted:>15}")?;
+    if (stream.period as u64) < terms.granted {
         return rt.print("  above 100 %");
     }
-    let share = terms::hundredths(terms.granted, period);
+    let share = terms::hundredths(terms.granted, stream.period);
     let percent = share / 100;
     let hundredths = share % 100;
     print!(rt; "{percent:>8}.{hundredths:02} %")
@@ -205,10 +214,11 @@ fn print_row(rt: &impl Print, terms: Terms, reserved: u32, period: u32) -> io::R
 fn print_promises(rt: &impl Print, table: Table) -> io::Result<()> {
     rt.print("\nthe card may say, of a channel that always has a request waiting:\n\n")?;
     for i in 0..table.count.min(Table::STREAMS_MAX) {
-        let terms = Terms::of(table.worst, table.padding, table.reserved[i]);
-        let stream = i + 1;
-        print!(rt; "{stream:>6}")?;
-        print_promise(rt, terms, table.period[i])?;
+        let stream = table.reservation(i);
+        let terms = Terms::of(table.numbers(), stream.reserved);
+        let number = i + 1;
+        print!(rt; "{number:>6}")?;
+        print_promise(rt, terms, stream.period)?;
     }
     let worst = Grouped(table.worst as u64);
     print!(rt;

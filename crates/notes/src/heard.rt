@@ -5,7 +5,7 @@ ghost use Rattle.notes.specs.Heard.{kept, no_field, field_with, is_marked, heard
 use crate::draft::{Draft, Place, is_gap};
 use crate::numbers::fits;
 
-// A field: its first bytes, how many there are, and whether each is a digit. One that is longer than what is kept counts as one byte longer.
+// A field: its first bytes, how many there are, and whether each is a digit. One that is longer than what is kept counts as one byte longer. That bound is in `field_with` and no ghost field, whose proof each record of specs/Heard would have to carry.
 #[derive(Clone, Copy)]
 pub struct Field {
     bytes: [u8; Field::KEPT],

@@ -215,6 +215,7 @@ pub fn head_lines(form: Form) -> usize
 }
 
 // The line at i of the notes of a file, counted from 0: the three numbers of its table, its order if it has a third entry, its streams, and the events.
+// Of its two callers one has these four from a layout and the other makes three of them up, so no struct holds them.
 #[tactic(auto, using(file::proofs::Choices::choices), unfolding(crate::specs::Line::line_at))]
 pub fn line_at(form: Form, order: Order, table: Table, trace: &[u8], i: usize) -> Line
     ensures { result ≡ line_at form order table trace.now i }

@@ -1,13 +1,15 @@
 -- Cells and the numbers in them: one law each over the width.
 use mathlib.Core.Path.{◌≡◌, refl, sym, ap, ◌∙◌}
 use mathlib.Core.List.{List, [], ◌∷◌, ◌++◌}
-use Prim.Native.Nat.{ℕ, zero, suc, ◌+◌, ◌-◌, ◌/◌, ◌%◌, ◌^◌, min, ◌≤◌, ◌<◌}
+use Prim.Native.Nat.{ℕ, zero, suc, ◌+◌, ◌-◌, ◌*◌, ◌/◌, ◌%◌, ◌^◌, min, ◌≤◌, ◌<◌}
 use native.Mathlib.Omega.{arith}
-use native.Mathlib.Nat.{pow-suc, div-lt_iff_lt-mul, zero-lt-suc, add-zero, mod-lt}
+use native.Mathlib.Numerals.{add-one}
+use native.Mathlib.Nat.{pow-suc, pow-le-pow_right, div-lt_iff_lt-mul, zero-lt-suc, lt_of_lt_of_le, add-zero, mod-lt}
 use lib.Arith.{digits_lt, digits_div, digits_mod}
-use lib.ListN.{length, get_or, take, drop, get_or-eq_default, get_or-append, length-drop, replicate}
-use lib.Seq.{drop-cons, get_or-drop, get_or-take, get_or-append-add, length-take-le}
-use Rattle.std.specs.Int.{w64, from_le_bytes}
+use lib.ListN.{length, get_or, take, drop, get_or-eq_default, get_or-append, length-append}
+use lib.Seq.{drop-cons, get_or-drop, get_or-take, get_or-append-add, get_or_at, take_at, take-take}
+use Rattle.std.proofs.Common.{inl, inr}
+use Rattle.std.proofs.lemmas.Bool.{cases_lt}
 use Rattle.cells.specs.Cells.{cell, number_at, Bytes}
 use Rattle.cells.specs.Laws.{CellReadsBack, NumberWritesBack, NumberFits, CellIsBytes}
 
@@ -108,42 +110,39 @@ cell_is_bytes w n = (length_cell w n, bytes_cell w n)
 
 -- ---- as the code reads
 
--- Of numbers whose bytes are the same, one after the other, it is the same.
-same_bytes : (w : ℕ) (a b : List ℕ) (i j : ℕ) → ((k : ℕ) → k < w → get_or a (i + k) 0 ≡ get_or b (j + k) 0) → number_at w a i ≡ number_at w b j
+-- What is left of a run, from its start on, ends with one byte less; and the number of what was read has that byte in front.
+pub read_more : (bytes rest rest2 : List ℕ) (from run b n : ℕ) → rest ≡ rest2 ++ (b ∷ []) → rest ≡ take (length rest) (drop from bytes)
+    → length rest ≤ run → n ≡ number_at (run - length rest) bytes (from + length rest)
+    → (rest2 ≡ take (length rest2) (drop from bytes))
+    × (n * 256 + b ≡ number_at (run - length rest2) bytes (from + length rest2))
+    × (b ≡ get_or bytes (from + length rest2) 0)
 unfolding number_at
-same_bytes zero a b i j same = refl
-same_bytes (suc w) a b i j same =
-    let first : get_or a i 0 ≡ get_or b j 0 = simp add-zero at (same 0 (omega arith)) in
-    let rest : number_at w a (suc i) ≡ number_at w b (suc j)
-    = same_bytes w a b (suc i) (suc j) (λ k h. let e : suc i + k ≡ i + suc k = omega arith in let d : suc j + k ≡ j + suc k = omega arith in rw (e, d) (same (suc k) (omega arith))) in
-    rw (first, rest)
+read_more bytes rest rest2 from run b n e t low h =
+    let k = length rest2 in
+    let part = drop from bytes in
+    let long : length rest ≡ suc k = rw e (length-append rest2 (b ∷ []) ∙ add-one k) in
+    let front : rest2 ≡ take k part = sym (take_at rest2 (b ∷ []) k refl) ∙ ap (take k) (sym e ∙ t) ∙ take-take k (length rest) part (omega arith) in
+    let byte : b ≡ get_or bytes (from + k) 0
+    = sym (get_or_at rest2 b [] 0 k refl) ∙ ap (λ l. get_or l k 0) (sym e ∙ t) ∙ get_or-take (length rest) part k 0 (omega arith) ∙ get_or-drop from bytes k 0 in
+    let one : run - k ≡ suc (run - length rest) = omega arith in
+    let place : from + length rest ≡ suc (from + k) = omega arith in
+    (front, rw (one, h, place) (ap (λ x. number_at (run - length rest) bytes (suc (from + k)) * 256 + x) byte), byte)
 
--- The eight bytes of a word, by their worth.
-word_number : (word : List ℕ) → from_le_bytes w64 word ≡ number_at 8 word 0
+-- one byte more than at most seven fits 64 bits
+pub eight_fit : (w n b : ℕ) → w < 8 → n < 256 ^ w → b < 256 → n * 256 + b < 2 ^ 64
+eight_fit w n b h l m =
+    lt_of_lt_of_le (digits_lt l m) (rw (← pow-suc 256 w) (pow-le-pow_right (zero-lt-suc 255) h))
+
+-- The bytes that there are of a cell have its number.
+pub number_there : (w from run at : ℕ) (bytes : List ℕ) → from ≡ min at (length bytes) → run ≡ min (min w 8) (length bytes - from)
+    → number_at run bytes from ≡ number_at (min w 8) bytes at
 unfolding number_at
-word_number word = omega arith
-
-zeros : (n k : ℕ) → get_or (replicate {A = ℕ} n 0) k 0 ≡ 0
-zeros zero k = refl
-zeros (suc n) zero = refl
-zeros (suc n) (suc k) = zeros n k
-
--- a run with zeros behind it: its bytes, and 0 past its end
-run_get : (part after : List ℕ) (k : ℕ) → ((i : ℕ) → get_or after i 0 ≡ 0) → get_or (part ++ after) k 0 ≡ get_or part k 0
-run_get [] after k z = z k
-run_get (x ∷ part) after zero z = refl
-run_get (x ∷ part) after (suc k) z = run_get part after k z
-
--- A word at whose start the bytes that there are of a cell were put, and 0 behind them, has the number of the cell.
-pub word_of_cell : (w from run k at : ℕ) (bytes part : List ℕ) → from ≡ min at (length bytes) → run ≡ min (min w 8) (length bytes - from) → k ≡ run
-    → part ≡ take k (drop from bytes) → from_le_bytes w64 (part ++ drop run (replicate 8 0)) ≡ number_at (min w 8) bytes at
-word_of_cell w from run k at bytes part f r e p =
-    let there : part ≡ take run (drop from bytes) = rw e at p in
-    let long : length part ≡ run = rw there (length-take-le run (drop from bytes) (omega (arith, length-drop from bytes))) in
-    let eight : min 8 run ≡ run = omega arith in
-    let cut : run ≡ min (min w 8) (length bytes - at) = omega arith in
-    word_number (part ++ drop run (replicate 8 0))
-    ∙ same_bytes 8 (part ++ drop run (replicate 8 0)) part 0 0 (λ i h. run_get part _ (0 + i) (λ j. rw get_or-drop (zeros 8 (run + j))))
-    ∙ rw eight at (sym (number_cut 8 run part 0 (omega arith)))
-    ∙ same_bytes run part bytes 0 at (λ i h. let here : from ≡ at = omega arith in rw (there, get_or-take run (drop from bytes) (0 + i) 0 (omega arith), get_or-drop from bytes (0 + i) 0, here) (ap (λ j. get_or bytes j 0) (omega arith)))
-    ∙ rw cut (number_cut (min w 8) (length bytes - at) bytes at (omega arith))
+number_there w from run at bytes f r = elim (cases_lt at (length bytes)) [
+  | inl here ↦
+      let same : from ≡ at = omega arith in
+      let cut : run ≡ min (min w 8) (length bytes - at) = omega arith in
+      rw (same, cut) (number_cut (min w 8) (length bytes - at) bytes at (omega arith))
+  | inr out ↦
+      let none : run ≡ 0 = omega arith in
+      rw none (sym (number_out (min w 8) bytes at out))
+]

@@ -11,9 +11,11 @@ pub fn number_at(bytes: &[u8], at: usize, width: usize) -> u64
 {
     let from = at.min(bytes.len());
     let run = width.min(8).min(bytes.len() - from);
-    let mut cell = [0u8; 8];
-    cell[..run].copy_from_slice(&bytes[from..from + run]);
-    u64::from_le_bytes(cell)
+    let mut n: u64 = 0;
+    for byte in bytes[from..from + run].iter().rev() {
+        n = n * 256 + u64::from(*byte);
+    }
+    n
 }
 
 // Stores the `width` low bytes of a number from an index on.

@@ -95,9 +95,9 @@ fn is_storable(event: Event) -> bool
     ensures { result ≡ is_storable event }
 {
     match event {
-        Event::Arrival { stream, .. } => stream <= Event::STREAM_MAX,
-        Event::OwnTurn { stream, index: _ } => stream <= Event::STREAM_MAX,
-        Event::Turn | Event::Done { duration: _ } | Event::Clock { time: _ } => true,
+        Event::Arrival { stream, .. } | Event::OwnTurn { stream, .. } => stream
+            <= Event::STREAM_MAX,
+        Event::Turn | Event::Done { .. } | Event::Clock { .. } => true,
         Event::Malformed => false,
     }
 }

@@ -3,13 +3,11 @@ use mathlib.Core.Bool.{true, false, ◌&&◌, ◌||◌}
 use mathlib.Core.Path.{◌≡◌, refl, ap}
 use mathlib.Core.Logic.{◌⊎◌, inl, inr, ⊎_elim}
 use Prim.Native.Nat.{ℕ, suc, ◌+◌, ◌*◌, ◌≤◌, ◌<◌}
-use native.Mathlib.Nat.{mul-le-mul, mul-le-mul_right, mul_comm, mul-lt-mul_of_pos_right, le_of_lt, lt_of_lt_of_le}
+use native.Mathlib.Nat.{mul-le-mul_right, mul_comm, mul-lt-mul_of_pos_right, le_of_lt}
 use native.Mathlib.Decide.{dec_le}
 use native.Mathlib.Omega.{arith}
 use lib.Dec.{ltb, eqb}
 use borrow.Author.Tests.{lt-ltb, le-ltb, ne_eqb, eq-eqb}
-use mir.Syntax.{w64}
-use mir.Val.{Fits}
 use Rattle.time.specs.Exact.{less, same, fraction_of, Proper}
 use Rattle.time.specs.declared.Exact.{Exact}
 
@@ -100,10 +98,3 @@ module _ (a b : Exact) (pa : Proper a) (pb : Proper b) where
   pub exact_same : same (fraction_of a) (fraction_of b) ≡ (eqb a.whole b.whole && eqb rest_a rest_b)
   unfolding same
   exact_same = rw (one, other) (by_parts unit a.whole rest_a b.whole rest_b rest_a_low rest_b_low).1
-
--- a rest crosswise fits 64 bits
-pub rest_fits : (a b : Exact) → Proper a → Proper b → Fits w64 (a.rest * b.below)
-rest_fits a b pa pb =
-    record {
-      fits = lt_of_lt_of_le (mul-lt-mul_of_pos_right pa.rest_low (omega (arith, pb.rest_low))) (mul-le-mul pa.below_high pb.below_high);
-    }

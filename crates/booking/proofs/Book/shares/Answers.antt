@@ -6,9 +6,6 @@ use Rattle.table.specs.declared.reservations.Records.{Records}
 use Rattle.table.proofs.LentTables.{taken_table}
 use Rattle.booking.proofs.Book.shares.Goals as goal
 
-pub records-requires : goal.records-requires
-records-requires c = c.requires
-
 pub returns : goal.returns
 returns c =
     let b = c.args.self in

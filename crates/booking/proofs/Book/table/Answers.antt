@@ -5,9 +5,6 @@ use Rattle.table.specs.declared.reservations.Records.{Records}
 use Rattle.table.proofs.LentTables.{taken_table}
 use Rattle.booking.proofs.Book.table.Goals as goal
 
-pub records-requires : goal.records-requires
-records-requires c = c.requires
-
 pub returns : goal.returns
 returns c =
     let b = c.args.self in

@@ -14,10 +14,9 @@ impl Session {
     pub(crate) fn refuse(self, number: u64) -> Answer
         ensures { result ≡ outcome self (refuse number) }
     {
-        let reply = Reply::Refused { number: number };
         Answer {
             session: self,
-            reply: reply,
+            reply: Reply::Refused { number },
         }
     }
 
@@ -26,17 +25,14 @@ impl Session {
         requires { Due self (append n place tag) }
         ensures { result ≡ outcome self (append n place tag) }
     {
-        let x = self.streams[n];
-        let y = x.arrived(place, tag);
+        let y = self.streams[n].arrived(place, tag);
         self.streams[n] = y;
-        let number = n as u64 + 1;
-        let reply = Reply::Arrived {
-            stream: number,
-            queued: y.queued as u64,
-        };
         Answer {
             session: self,
-            reply: reply,
+            reply: Reply::Arrived {
+                stream: n as u64 + 1,
+                queued: y.queued as u64,
+            },
         }
     }
 
@@ -46,25 +42,20 @@ impl Session {
         ensures { result ≡ outcome self (send n index) }
     {
         let x = self.streams[n];
-        let places = x.places;
-        let place = places[index];
-        let tags = x.tags;
-        let tag = tags[index];
-        let y = x.without(index);
-        self.streams[n] = y;
+        let place = x.places[index];
+        let tag = x.tags[index];
+        self.streams[n] = x.without(index);
         self.head = place;
         self.served = n + 1;
         self.place = place;
         self.tag = tag;
-        let number = n as u64 + 1;
-        let reply = Reply::Sent {
-            stream: number,
-            place: place,
-            tag: tag,
-        };
         Answer {
             session: self,
-            reply: reply,
+            reply: Reply::Sent {
+                stream: n as u64 + 1,
+                place,
+                tag,
+            },
         }
     }
 
@@ -82,10 +73,9 @@ impl Session {
         let owed = self.summed(next);
         self.horizon = next;
         self.remainders = owed;
-        let reply = Reply::Moved { horizon: next };
         Answer {
             session: self,
-            reply: reply,
+            reply: Reply::Moved { horizon: next },
         }
     }
 
@@ -94,10 +84,9 @@ impl Session {
         requires { until ≡ moment (latest self) }
         ensures { result ≡ outcome self wait }
     {
-        let reply = Reply::Wait { until: until };
         Answer {
             session: self,
-            reply: reply,
+            reply: Reply::Wait { until },
         }
     }
 
@@ -106,21 +95,16 @@ impl Session {
         requires { Due self (expire n) }
         ensures { result ≡ outcome self (expire n) }
     {
-        let x = self.streams[n];
-        let y = x.lapsed(self.worst);
-        let charge = y.charge;
+        let y = self.streams[n].lapsed(self.worst);
         let lost = Charge::of(self.worst as u64);
-        let left = self.remainders.less(lost, self.span);
         self.streams[n] = y;
-        self.remainders = left;
-        let number = n as u64 + 1;
-        let reply = Reply::Expired {
-            stream: number,
-            charge: charge,
-        };
+        self.remainders = self.remainders.less(lost, self.span);
         Answer {
             session: self,
-            reply: reply,
+            reply: Reply::Expired {
+                stream: n as u64 + 1,
+                charge: y.charge,
+            },
         }
     }
 
@@ -129,35 +113,32 @@ impl Session {
         requires { Due self (finish n taken.0) }
         ensures { result ≡ outcome self (finish n taken.0) }
     {
-        let overlong = taken.is_over(self.worst);
-        let tag = self.tag;
-        let end = self.clock.after(taken);
-        let x = self.streams[n];
-        let y = x.charged(taken);
-        let charge = y.charge;
-        let sum = self.remainders.less(taken, self.span);
+        let y = self.streams[n].charged(taken);
+        let stream = n as u64 + 1;
+        let (charge, tag) = (y.charge, self.tag);
         self.streams[n] = y;
+        let sum = self.remainders.less(taken, self.span);
         self.remainders = sum;
-        self.clock = end;
+        self.clock = self.clock.after(taken);
         self.served = 0;
         self.place = 0;
         self.tag = 0;
-        let number = n as u64 + 1;
-        let mut reply = Reply::Done {
-            stream: number,
-            charge: charge,
-            tag: tag,
+        let reply = if taken.is_over(self.worst) {
+            Reply::Overlong {
+                stream,
+                charge,
+                tag,
+            }
+        } else {
+            Reply::Done {
+                stream,
+                charge,
+                tag,
+            }
         };
-        if overlong {
-            reply = Reply::Overlong {
-                stream: number,
-                charge: charge,
-                tag: tag,
-            };
-        }
         Answer {
             session: self,
-            reply: reply,
+            reply,
         }
     }
 
@@ -169,13 +150,14 @@ impl Session {
         let before = self.clock;
         let late = (until < now) & (before < now);
         self.clock = now;
-        let mut reply = Reply::Clock { time: now };
-        if late {
-            reply = Reply::Late { time: now };
-        }
+        let reply = if late {
+            Reply::Late { time: now }
+        } else {
+            Reply::Clock { time: now }
+        };
         Answer {
             session: self,
-            reply: reply,
+            reply,
         }
     }
 }

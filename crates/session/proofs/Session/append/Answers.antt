@@ -21,8 +21,8 @@ offset_bounds-self-n-2 c = offset_fits _ _ (can_append c.requires).0 refl
 pub bounds-self-n-2 : goal.bounds-self-n-2
 bounds-self-n-2 c = (can_append c.requires).0
 
-pub overflow_add-number : goal.overflow_add-number
-overflow_add-number c = next_fits _ (can_append c.requires).0
+pub overflow_add-result : goal.overflow_add-result
+overflow_add-result c = next_fits _ (can_append c.requires).0
 
 pub returns : goal.returns
 returns c = appends _ _ _ _ _ c.arrived-y.ensures

@@ -17,8 +17,8 @@ bounds-self-n c = (can_expire c.requires).0
 pub lapsed-y-requires : goal.lapsed-y-requires
 lapsed-y-requires c = let x = can_expire c.requires in (x.1, x.2)
 
-pub less-left-requires : goal.less-left-requires
-less-left-requires c =
+pub less-self-requires : goal.less-self-requires
+less-self-requires c =
     let lost-is : c.of-lost.result.0 ≡ c.args.self.worst = ap (λ (d : Charge). d.0) c.of-lost.ensures in
     can_charge c.args.self c.requires.ok _ (rw lost-is (can_expire c.requires).3)
 
@@ -28,10 +28,10 @@ offset_bounds-self-n-2 c = offset_fits _ _ (can_expire c.requires).0 refl
 pub bounds-self-n-2 : goal.bounds-self-n-2
 bounds-self-n-2 c = (can_expire c.requires).0
 
-pub overflow_add-number : goal.overflow_add-number
-overflow_add-number c = next_fits _ (can_expire c.requires).0
+pub overflow_add-result : goal.overflow_add-result
+overflow_add-result c = next_fits _ (can_expire c.requires).0
 
 pub returns : goal.returns
 returns c =
     let lost-is : c.of-lost.result.0 ≡ c.args.self.worst = ap (λ (d : Charge). d.0) c.of-lost.ensures in
-    expires _ (sound_of _ c.requires.ok) _ (grounds c.requires).exists _ _ c.lapsed-y.ensures (rw lost-is at c.less-left.ensures)
+    expires _ (sound_of _ c.requires.ok) _ (grounds c.requires).exists _ _ c.lapsed-y.ensures (rw lost-is at c.less-self.ensures)

@@ -7,8 +7,8 @@ use Rattle.session.proofs.Offsets.{offset_fits}
 use Rattle.table.proofs.Loops.{next_fits}
 use Rattle.session.proofs.Session.finish.Goals as goal
 
-pub after-end-requires : goal.after-end-requires
-after-end-requires c = let x = can_finish c.requires in (x.2, x.3)
+pub after-self-requires : goal.after-self-requires
+after-self-requires c = let x = can_finish c.requires in (x.2, x.3)
 
 pub offset_bounds-self-n : goal.offset_bounds-self-n
 offset_bounds-self-n c = offset_fits _ _ (can_finish c.requires).0 refl
@@ -29,13 +29,13 @@ offset_bounds-self-n-2 c = offset_fits _ _ (can_finish c.requires).0 refl
 pub bounds-self-n-2 : goal.bounds-self-n-2
 bounds-self-n-2 c = (can_finish c.requires).0
 
-pub overflow_add-number : goal.overflow_add-number
-overflow_add-number c = next_fits _ (can_finish c.requires).0
+pub overflow_add-stream : goal.overflow_add-stream
+overflow_add-stream c = next_fits _ (can_finish c.requires).0
 
-pub returns-then-overlong : goal.returns-then-overlong
-returns-then-overlong c =
-    finishes_overlong _ (sound_of _ c.requires.ok) _ (grounds c.requires).exists _ _ _ _ c.charged-y.ensures c.less-sum.ensures c.after-end.ensures (sym c.is_over-overlong.ensures ∙ c.if-overlong.true)
+pub returns-then-is_over : goal.returns-then-is_over
+returns-then-is_over c =
+    finishes_overlong _ (sound_of _ c.requires.ok) _ (grounds c.requires).exists _ _ _ _ c.charged-y.ensures c.less-sum.ensures c.after-self.ensures (sym c.is_over.ensures ∙ c.if-is_over.true)
 
-pub returns-else-overlong : goal.returns-else-overlong
-returns-else-overlong c =
-    finishes _ (sound_of _ c.requires.ok) _ (grounds c.requires).exists _ _ _ _ c.charged-y.ensures c.less-sum.ensures c.after-end.ensures (sym c.is_over-overlong.ensures ∙ c.if-overlong.false)
+pub returns-else-is_over : goal.returns-else-is_over
+returns-else-is_over c =
+    finishes _ (sound_of _ c.requires.ok) _ (grounds c.requires).exists _ _ _ _ c.charged-y.ensures c.less-sum.ensures c.after-self.ensures (sym c.is_over.ensures ∙ c.if-is_over.false)

@@ -12,20 +12,20 @@ offset_bounds-self-n c = offset_fits _ _ (can_send c.requires).0 refl
 pub bounds-self-n : goal.bounds-self-n
 bounds-self-n c = (can_send c.requires).0
 
-pub offset_bounds-places-index : goal.offset_bounds-places-index
-offset_bounds-places-index c = offset_fits _ _ (can_send c.requires).1 refl
+pub offset_bounds-x-index : goal.offset_bounds-x-index
+offset_bounds-x-index c = offset_fits _ _ (can_send c.requires).1 refl
 
-pub bounds-places-index : goal.bounds-places-index
-bounds-places-index c = (can_send c.requires).1
+pub bounds-x-index : goal.bounds-x-index
+bounds-x-index c = (can_send c.requires).1
 
-pub offset_bounds-tags-index : goal.offset_bounds-tags-index
-offset_bounds-tags-index c = offset_fits _ _ (can_send c.requires).1 refl
+pub offset_bounds-x-index-2 : goal.offset_bounds-x-index-2
+offset_bounds-x-index-2 c = offset_fits _ _ (can_send c.requires).1 refl
 
-pub bounds-tags-index : goal.bounds-tags-index
-bounds-tags-index c = (can_send c.requires).1
+pub bounds-x-index-2 : goal.bounds-x-index-2
+bounds-x-index-2 c = (can_send c.requires).1
 
-pub without-y-requires : goal.without-y-requires
-without-y-requires c = let x = can_send c.requires in (x.1, x.2)
+pub without-requires : goal.without-requires
+without-requires c = let x = can_send c.requires in (x.1, x.2)
 
 pub offset_bounds-self-n-2 : goal.offset_bounds-self-n-2
 offset_bounds-self-n-2 c = offset_fits _ _ (can_send c.requires).0 refl
@@ -36,8 +36,8 @@ bounds-self-n-2 c = (can_send c.requires).0
 pub overflow_add-self : goal.overflow_add-self
 overflow_add-self c = next_fits _ (can_send c.requires).0
 
-pub overflow_add-number : goal.overflow_add-number
-overflow_add-number c = next_fits _ (can_send c.requires).0
+pub overflow_add-result : goal.overflow_add-result
+overflow_add-result c = next_fits _ (can_send c.requires).0
 
 pub returns : goal.returns
-returns c = sends _ _ _ _ c.without-y.ensures
+returns c = sends _ _ _ _ c.without.ensures

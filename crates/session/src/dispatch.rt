@@ -7,6 +7,7 @@ use calls::Call;
 
 impl Session {
     // Makes the call. Each branch returns, so that its answer is not copied.
+    #[inline(always)]
     pub fn call(self, call: Call) -> Answer
         ensures { result ≡ answer_to self call }
     {

@@ -37,6 +37,7 @@ impl Session {
     }
 
     // A queued request goes to the disk: it leaves its queue, the others keep their order, the head becomes its place, and its tag is handed back.
+    #[inline(always)]
     pub(crate) fn send(mut self, n: usize, index: usize) -> Answer
         requires { Due self (send n index) }
         ensures { result ≡ outcome self (send n index) }

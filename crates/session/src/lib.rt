@@ -65,12 +65,16 @@ impl Session {
     pub fn open(table: Table, order: Order) -> Opened
         ensures { result ≡ opening_of table order }
     {
-        let admission = table.admission();
-        let session = match admission {
-            Ok(margin) => fresh(table, margin, order),
-            Err(_) => Session::zero(),
-        };
-        Opened { session, admission }
+        match table.admission() {
+            Ok(margin) => Opened {
+                session: fresh(table, margin, order),
+                admission: Ok(margin),
+            },
+            Err(refusal) => Opened {
+                session: Session::zero(),
+                admission: Err(refusal),
+            },
+        }
     }
 
     // The all-zero session, which is not sound: it stands where none was made.

@@ -1,16 +1,19 @@
 -- A stream whose cells are sound, test by test: what each test says, and that these facts make them sound.
 use mathlib.Core.Bool.{Bool, true, false, ◌&&◌, ◌||◌}
 use mathlib.Core.List.{List}
-use mathlib.Core.Path.{◌≡◌, refl}
+use mathlib.Core.Path.{◌≡◌, refl, sym, ap, ◌∙◌}
 use mathlib.Core.Logic.{⊎_elim}
-use Prim.Native.Nat.{ℕ, ◌+◌, ◌*◌, ◌/◌, ◌≤◌, ◌<◌}
+use Prim.Native.Nat.{ℕ, ◌+◌, ◌-◌, ◌*◌, ◌/◌, ◌≤◌, ◌<◌}
+use native.Mathlib.Numerals.{add-one}
 use native.Mathlib.Omega.{arith}
-use lib.ListN.{length, get_or, replicate, get_or-replicate}
+use lib.ListN.{length, get_or, take, drop, replicate, get_or-replicate}
+use Rattle.std.proofs.lemmas.List.{get_or-take, get_or-drop, length-take, length-drop}
 use lib.Dec.{leb, ltb, eqb}
 use borrow.Author.Tests.{leb-true, eqb-true, le-leb, lt-ltb, le-ltb, eq-eqb}
 use Rattle.table.specs.Ranges.{worst_max}
 use Rattle.table.specs.Admission.{granted_of, share_of, stream_refusal}
-use Rattle.table.proofs.Tests.{both, used_or_zero, le_or_lt}
+use Rattle.table.specs.Fold.{all_to}
+use Rattle.table.proofs.Tests.{both, used_or_zero, le_or_lt, same_test}
 use Rattle.table.proofs.Folds.{all_at, all_of}
 use Rattle.table.proofs.Judged.{FitsIn, stream_of as fits_of}
 use Rattle.time.specs.Time.{session_end, duration_max}
@@ -51,6 +54,41 @@ of_row queued cells q =
     (λ (past : queued ≤ j). or_right (ltb j queued) _ (eq-eqb _ _ (q.unused j past l)))
     (λ (here : j < queued). rw (lt-ltb j queued here))
     (le_or_lt queued j)))
+
+-- the first n cells of some are 0
+abbrev pub clear_to : List ℕ → ℕ → Bool
+clear_to cells n = all_to (λ j. eqb (get_or cells j 0) 0) n
+
+pub clear_more : (cells : List ℕ) (i : ℕ) (clear : Bool) → clear ≡ clear_to cells i → (clear && eqb (get_or cells i 0) 0) ≡ clear_to cells (i + 1)
+unfolding all_to
+clear_more cells i clear e = rw (e, add-one)
+
+-- a row of sixteen is sound exactly if the cells past its requests are 0
+module _ (queued : ℕ) (cells : List ℕ) (sixteen : length cells ≡ queue_max) (few : queued ≤ queue_max) where
+  abbrev pub past_queued : List ℕ
+  past_queued = take (queue_max - queued) (drop queued cells)
+
+  pub long : length past_queued ≡ queue_max - queued
+  long = omega (arith, sixteen, length-take (queue_max - queued) (drop queued cells), length-drop queued cells)
+
+  cell : (j : ℕ) → j < queue_max - queued → get_or past_queued j 0 ≡ get_or cells (queued + j) 0
+  cell j l = get_or-take (queue_max - queued) (drop queued cells) j 0 l ∙ get_or-drop queued cells j 0
+
+  pub row_is : clear_to past_queued (length past_queued) ≡ sound_row cells queued
+  row_is =
+      same_test _ _
+      (λ clear.
+      let unused : (j : ℕ) → queued ≤ j → j < queue_max → get_or cells j 0 ≡ 0 = λ j past l.
+      let behind : queued + (j - queued) ≡ j = omega arith in
+      let here : j - queued < queue_max - queued = omega arith in
+      ap (λ n. get_or cells n 0) (sym behind) ∙ sym (cell (j - queued) here) ∙ eqb-true _ _ (all_at (λ k. eqb (get_or past_queued k 0) 0) (length past_queued) clear (j - queued) (omega (arith, long))) in
+      of_row queued cells (record { queued_high = few; sixteen = sixteen; unused = unused }))
+      (λ sound.
+      let row = row_of queued cells sound in
+      all_of (λ k. eqb (get_or past_queued k 0) 0) (length past_queued)
+      (λ k l.
+      let here : k < queue_max - queued = omega (arith, l, long) in
+      eq-eqb _ _ (cell k here ∙ row.unused (queued + k) (omega arith) (omega arith))))
 
 -- both of them
 pub record Queue (queued : ℕ) (at aside : List ℕ) : Type 0 where

@@ -18,7 +18,7 @@ impl Session {
             return self.refuse(8);
         }
         let n = (stream - 1) as usize;
-        let x = self.streams[n];
+        let x = &self.streams[n];
         if x.queued == Stream::QUEUE_MAX {
             return self.refuse(9);
         }

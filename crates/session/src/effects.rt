@@ -144,6 +144,7 @@ impl Session {
     }
 
     // The clock becomes that time. It is late exactly if it is above the latest safe moment and above the clock.
+    #[inline(always)]
     pub(crate) fn set_clock(mut self, now: Clock, until: Clock) -> Answer
         requires { until ≡ moment (latest self) }
         ensures { result ≡ outcome self (set_clock now.0) }

@@ -6,7 +6,7 @@ use crate::{Answer, Session};
 use calls::Call;
 
 impl Session {
-    // Makes the call. Each branch returns, so that its answer is not copied.
+    // Makes the call. Each branch returns, and the hint has a caller that knows the call make that one alone, so that no answer is copied.
     #[inline(always)]
     pub fn call(self, call: Call) -> Answer
         ensures { result ≡ answer_to self call }

@@ -28,7 +28,7 @@ use stream::Stream;
 use table::{Margin, Numbers, Refusal, Table};
 use time::{Charge, Clock, Remainders};
 
-// The first `count` of the eight streams are used. The margin is that of the table; the horizon is the smallest deadline, and the sum of all remainders is scaled by the span. `served` is the stream whose request is at the disk, counted from 1, with its place and its tag, or zeros; the tag stands with the other numbers of 32 bits, so that no byte is left between them.
+// The first `count` of the eight streams are used. The margin is that of the table; the horizon is the smallest deadline, and the sum of all remainders is scaled by the span. `served` is the stream whose request is at the disk, counted from 1, with its place and its tag, or zeros: numbers, as the laws and the image that C gets speak of them. The tag stands with the other numbers of 32 bits, so that no byte is left between them.
 #[derive(Clone, Copy)]
 pub struct Session {
     pub order: Order,

@@ -7,6 +7,7 @@ use calls::Call;
 
 impl Session {
     // The caller's own choice from the set, a stream, counted from 1, and an index of its queue: 10, 8, 15.
+    // Without the hint it takes 5 % more instructions, since the session is copied once more.
     #[inline(always)]
     pub fn own_turn(self, stream: u64, index: u64) -> Answer
         ensures { result ≡ answer_to self (Call.OwnTurn stream index) }

@@ -8,6 +8,7 @@ use time::Clock;
 
 impl Session {
     // The time is reported: 10, 13, 14.
+    // The hint is that of `set_clock`.
     #[inline(always)]
     pub fn clock(self, time: u64) -> Answer
         ensures { result ≡ answer_to self (Call.Clock time) }

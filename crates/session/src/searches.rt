@@ -36,7 +36,7 @@ impl Session {
         best
     }
 
-    // All that is asked of the streams where no slot is filled, in one pass.
+    // All that is asked of the streams where no slot is filled, in one pass. By their indices, since the stream that expires is told by its index.
     // As a part of a turn it would make that take more than 16 KB of stack.
     #[inline(never)]
     pub(crate) fn survey(&self) -> Survey

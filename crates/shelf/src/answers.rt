@@ -32,6 +32,7 @@ fn unopened() -> Opening
 }
 
 // Makes a call of an image that is lent. One whose order stands for none is refused by 31, and is what it was.
+// With the hint each function that C calls makes its own call alone; as one function of the five, a completion takes 13 % and a report of the time 16 % more instructions.
 #[inline(always)]
 pub(crate) fn call(image: &mut Image, call: Call) -> Told
     ensures { (result ≡ (answered_as image.old call).reply) × (image.new ≡ (answered_as image.old call).session) }

@@ -26,6 +26,7 @@ pub struct Pick {
 }
 
 // The better of the best so far, if there is one, and one more stream's request; of equals the first stays.
+// W, the horizon, the order and the head are the session's own fields, from which it hands them on: a struct of four of them would be made for this call alone.
 pub fn consider(
     best: Option<Pick>,
     x: &Stream,

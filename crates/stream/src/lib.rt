@@ -31,7 +31,7 @@ pub struct Job {
     pub start: Charge,
 }
 
-// The first `queued` of the sixteen places are used, in order of arrival, and each place has its tag at the same index.
+// The first `queued` of the sixteen places are used, in order of arrival, and each place has its tag at the same index: two rows, as C has them.
 #[repr(C)]
 #[derive(Clone, Copy, Debug, PartialEq, Eq)]
 pub struct Stream {

@@ -3,7 +3,10 @@
 // Prints that number, the number of the last reply, and what was gathered from the sessions that were handed back.
 #![tactic(auto)]
 
-use file::{Event, Reading};
+ghost use Rattle.std.specs.Prelude.{◌≡◌, Ok};
+ghost use Rattle.file.specs.Reading.{read_of};
+
+use file::{Event, Layout};
 use order::Order;
 use session::{Answer, Session};
 use std::io;
@@ -29,53 +32,27 @@ fn main(rt: HostRuntime) -> io::Result<()> {
 }
 
 fn meter(rt: &impl Print, times: u64, file: &[u8]) -> io::Result<()> {
-    let reading = file::read(file);
-    let Reading::LaidOut {
-        order,
-        start,
-        end,
-        events,
-        ..
-    } = reading
-    else {
-        return print_unread(rt, reading);
-    };
-    measure(
-        rt,
-        file::table_of(file),
-        order,
-        &file[start..end],
-        events,
-        times,
-    )
-}
-
-fn print_unread(rt: &impl Print, reading: Reading) -> io::Result<()> {
-    match reading {
-        Reading::LaidOut { .. } => Ok(()),
-        Reading::Refused(number) => rt.write_all(listing::refused(number, 0).as_bytes()),
+    match file::read(file) {
+        Ok(layout) => tell(rt, times, measured(file, layout, times)),
+        Err(refusal) => {
+            let line = listing::refused(refusal.number(), 0);
+            rt.write_all(line.as_bytes())
+        }
     }
 }
 
-fn measure(
-    rt: &impl Print,
-    table: Table,
-    order: Order,
-    trace: &[u8],
-    events: usize,
-    times: u64,
-) -> io::Result<()> {
-    if events == 0 {
-        return tell(rt, times, openings(table, order, times));
+fn measured(file: &[u8], layout: Layout, times: u64) -> Tally
+    requires { read_of file.now ≡ Ok layout }
+{
+    let table = file::table_of(file);
+    if layout.events == 0 {
+        return openings(table, layout.order, times);
     }
-    let last = events - 1;
-    let opened = Session::open(table, order);
+    let trace = &file[layout.start..layout.end];
+    let last = layout.events - 1;
+    let opened = Session::open(table, layout.order);
     let prepared = run(opened.session, trace, last);
-    tell(
-        rt,
-        times,
-        repeated(prepared, file::event_at(trace, last), times),
-    )
+    repeated(prepared, file::event_at(trace, last), times)
 }
 
 // The session after the first events of a trace.
@@ -92,14 +69,22 @@ fn run(opened: Session, trace: &[u8], events: usize) -> Session {
 fn repeated(session: Session, event: Event, times: u64) -> Tally {
     match event {
         Event::Arrival { stream, place, tag } => {
-            calls(session, times, |kept| kept.arrival(stream, place, tag))
+            calls(
+                session,
+                times,
+                |kept: &Session| kept.arrival(stream, place, tag),
+            )
         }
-        Event::Turn => calls(session, times, |kept| kept.turn()),
+        Event::Turn => calls(session, times, |kept: &Session| kept.turn()),
         Event::OwnTurn { stream, index } => {
-            calls(session, times, |kept| kept.own_turn(stream, index))
+            calls(
+                session,
+                times,
+                |kept: &Session| kept.own_turn(stream, index),
+            )
         }
-        Event::Done { duration } => calls(session, times, |kept| kept.done(duration)),
-        Event::Clock { time } => calls(session, times, |kept| kept.clock(time)),
+        Event::Done { duration } => calls(session, times, |kept: &Session| kept.done(duration)),
+        Event::Clock { time } => calls(session, times, |kept: &Session| kept.clock(time)),
         Event::Malformed => Tally {
             number: 16,
             mixed: 0,
@@ -119,15 +104,17 @@ fn openings(table: Table, order: Order, times: u64) -> Tally {
     for _ in 0..times {
         kept.count ^= zero as usize;
         let opened = Session::open(kept, order);
-        let admission = opened.admission;
-        tally.number = admission.number();
+        tally.number = match opened.admission {
+            Ok(_) => 0,
+            Err(refusal) => refusal.number(),
+        };
         tally.mixed ^= opened.session.head;
     }
     tally
 }
 
 // Makes a call of the same session over and over.
-fn calls<F: Fn(Session) -> Answer>(session: Session, times: u64, call: F) -> Tally
+fn calls<F: Fn(&Session) -> Answer>(session: Session, times: u64, call: F) -> Tally
     requires { F.IsAlwaysCallable call }
 {
     let mut tally = Tally::default();
@@ -135,7 +122,7 @@ fn calls<F: Fn(Session) -> Answer>(session: Session, times: u64, call: F) -> Tal
     let zero = zero_of(times);
     for _ in 0..times {
         kept.head ^= zero;
-        let answer = call(kept);
+        let answer = call(&kept);
         let reply = answer.reply;
         let clock = answer.session.clock;
         tally.number = reply.number();

@@ -1,10 +1,9 @@
 // Reads a session file from standard input, runs its trace, and prints a line for each event.
 #![tactic(auto)]
 
-use file::Reading;
 use session::Session;
 use std::io;
-use table::Admission;
+use trace::Refusal;
 
 // The buffer holds more than the longest file, so that a longer one is refused without being read to its end.
 // Of an input that cannot be read it says so, and prints nothing.
@@ -18,31 +17,22 @@ fn main(rt: HostRuntime) -> io::Result<()> {
 
 // Prints what document 01 says of a file: its listing, or the number that refuses it.
 fn replay(rt: &impl Print, file: &[u8]) -> io::Result<()> {
-    let reading = file::read(file);
-    let Reading::LaidOut {
-        order,
-        start,
-        end,
-        events,
-        ..
-    } = reading
-    else {
-        return print_unread(rt, reading);
+    let layout = match file::read(file) {
+        Ok(layout) => layout,
+        Err(refusal) => return print_refusal(rt, Refusal::File(refusal)),
     };
-    let opened = Session::open(file::table_of(file), order);
-    let admission = opened.admission;
-    let Admission::Admitted(_) = admission else {
-        return rt.write_all(listing::refused(admission.number(), admission.over()).as_bytes());
-    };
+    let opened = Session::open(file::table_of(file), layout.order);
+    if let Err(refusal) = opened.admission {
+        return print_refusal(rt, Refusal::Table(refusal));
+    }
     rt.write_all(listing::header().as_bytes())?;
-    run(rt, opened.session, &file[start..end], events)
+    let trace = &file[layout.start..layout.end];
+    run(rt, opened.session, trace, layout.events)
 }
 
-fn print_unread(rt: &impl Print, reading: Reading) -> io::Result<()> {
-    match reading {
-        Reading::LaidOut { .. } => Ok(()),
-        Reading::Refused(number) => rt.write_all(listing::refused(number, 0).as_bytes()),
-    }
+fn print_refusal(rt: &impl Print, refusal: Refusal) -> io::Result<()> {
+    let line = listing::refused(refusal.number(), refusal.over());
+    rt.write_all(line.as_bytes())
 }
 
 // Runs the events of a trace, and prints a line for each.

@@ -19,14 +19,17 @@ pub(crate) fn tally_file<R: Files + Print>(
     rt.write_all(name)?;
     rt.print("\n")?;
     let len = read_file(rt, err, name, file)?;
-    let filed = counts::of_file(&file[..len]);
-    let counts = filed.counts;
-    if filed.refusal == 0 {
-        print_counts(rt, counts, filed.count)?;
-    } else {
-        rt.write_all(listing::refused(filed.refusal, filed.over).as_bytes())?;
+    match counts::of_file(&file[..len]) {
+        Ok(filed) => {
+            print_counts(rt, filed.counts, filed.count)?;
+            Ok(totals.and(filed.counts))
+        }
+        Err(refusal) => {
+            let line = listing::refused(refusal.number(), refusal.over());
+            rt.write_all(line.as_bytes())?;
+            Ok(totals)
+        }
     }
-    Ok(totals.and(counts))
 }
 
 // Reads a file, and answers how many bytes it has. One that cannot be read, as a folder, has none.

@@ -1,15 +1,13 @@
 -- Cells and the numbers in them: one law each over the width.
-use mathlib.Core.Path.{◌≡◌, refl, sym, ap, ◌∙◌}
+use mathlib.Core.Path.{◌≡◌, refl, ap, ◌∙◌}
 use mathlib.Core.List.{List, [], ◌∷◌, ◌++◌}
 use Prim.Native.Nat.{ℕ, zero, suc, ◌+◌, ◌-◌, ◌*◌, ◌/◌, ◌%◌, ◌^◌, min, ◌≤◌, ◌<◌}
 use native.Mathlib.Omega.{arith}
 use native.Mathlib.Numerals.{add-one}
 use native.Mathlib.Nat.{pow-suc, pow-le-pow_right, div-lt_iff_lt-mul, zero-lt-suc, lt_of_lt_of_le, add-zero, mod-lt}
 use lib.Arith.{digits_lt, digits_div, digits_mod}
-use lib.ListN.{length, get_or, take, drop, get_or-eq_default, get_or-append, length-append}
-use lib.Seq.{drop-cons, get_or-drop, get_or-take, get_or-append-add, get_or_at, take_at, take-take}
-use Rattle.std.proofs.Common.{inl, inr}
-use Rattle.std.proofs.lemmas.Bool.{cases_lt}
+use lib.ListN.{length, get_or, take, drop, get_or-eq_default, get_or-append}
+use lib.Seq.{drop-cons, get_or-drop, get_or-append-add}
 use Rattle.cells.specs.Cells.{cell, number_at, Bytes}
 use Rattle.cells.specs.Laws.{CellReadsBack, NumberWritesBack, NumberFits, CellIsBytes}
 
@@ -110,39 +108,15 @@ cell_is_bytes w n = (length_cell w n, bytes_cell w n)
 
 -- ---- as the code reads
 
--- What is left of a run, from its start on, ends with one byte less; and the number of what was read has that byte in front.
-pub read_more : (bytes rest rest2 : List ℕ) (from run b n : ℕ) → rest ≡ rest2 ++ (b ∷ []) → rest ≡ take (length rest) (drop from bytes)
-    → length rest ≤ run → n ≡ number_at (run - length rest) bytes (from + length rest)
-    → (rest2 ≡ take (length rest2) (drop from bytes))
-    × (n * 256 + b ≡ number_at (run - length rest2) bytes (from + length rest2))
-    × (b ≡ get_or bytes (from + length rest2) 0)
+-- one byte more in front
+pub number_more : (l : List ℕ) (at run i : ℕ) → i < run
+    → number_at i l (at + (run - i)) * 256 + get_or l (at + (run - (i + 1))) 0 ≡ number_at (i + 1) l (at + (run - (i + 1)))
 unfolding number_at
-read_more bytes rest rest2 from run b n e t low h =
-    let k = length rest2 in
-    let part = drop from bytes in
-    let long : length rest ≡ suc k = rw e (length-append rest2 (b ∷ []) ∙ add-one k) in
-    let front : rest2 ≡ take k part = sym (take_at rest2 (b ∷ []) k refl) ∙ ap (take k) (sym e ∙ t) ∙ take-take k (length rest) part (omega arith) in
-    let byte : b ≡ get_or bytes (from + k) 0
-    = sym (get_or_at rest2 b [] 0 k refl) ∙ ap (λ l. get_or l k 0) (sym e ∙ t) ∙ get_or-take (length rest) part k 0 (omega arith) ∙ get_or-drop from bytes k 0 in
-    let one : run - k ≡ suc (run - length rest) = omega arith in
-    let place : from + length rest ≡ suc (from + k) = omega arith in
-    (front, rw (one, h, place) (ap (λ x. number_at (run - length rest) bytes (suc (from + k)) * 256 + x) byte), byte)
+number_more l at run i h =
+    let e : at + (run - i) ≡ suc (at + (run - (i + 1))) = omega arith in
+    rw (e, add-one)
 
 -- one byte more than at most seven fits 64 bits
 pub eight_fit : (w n b : ℕ) → w < 8 → n < 256 ^ w → b < 256 → n * 256 + b < 2 ^ 64
 eight_fit w n b h l m =
     lt_of_lt_of_le (digits_lt l m) (rw (← pow-suc 256 w) (pow-le-pow_right (zero-lt-suc 255) h))
-
--- The bytes that there are of a cell have its number.
-pub number_there : (w from run at : ℕ) (bytes : List ℕ) → from ≡ min at (length bytes) → run ≡ min (min w 8) (length bytes - from)
-    → number_at run bytes from ≡ number_at (min w 8) bytes at
-unfolding number_at
-number_there w from run at bytes f r = elim (cases_lt at (length bytes)) [
-  | inl here ↦
-      let same : from ≡ at = omega arith in
-      let cut : run ≡ min (min w 8) (length bytes - at) = omega arith in
-      rw (same, cut) (number_cut (min w 8) (length bytes - at) bytes at (omega arith))
-  | inr out ↦
-      let none : run ≡ 0 = omega arith in
-      rw none (sym (number_out (min w 8) bytes at out))
-]

@@ -1,14 +1,8 @@
--- `number_at` reads the run from its end: n is the number in the bytes behind those that are left.
+-- `number_at` reads the cell from its end: n is the number in its last i bytes. It has at most eight bytes, so it fits; those past the slice's end add nothing.
 use mathlib.Core.Path.{◌≡◌}
-use Prim.Native.Nat.{◌+◌, ◌-◌, ◌≤◌}
-use lib.ListN.{length, take, drop}
+use Prim.Native.Nat.{◌+◌, ◌-◌}
 use Rattle.cells.specs.Cells.{number_at}
 use Rattle.cells.proofs.number_at.Given as goal
 
-abbrev pub invariant-loop-byte : goal.invariant-loop-byte
-invariant-loop-byte l =
-    let left = l.byte-iterator.iter.rest.now in record {
-      front : left ≡ take (length left) (drop l.from l.bytes);
-      within : length left ≤ l.run;
-      number : l.n ≡ number_at (l.run - length left) l.bytes (l.from + length left);
-    }
+abbrev pub invariant-loop-i : goal.invariant-loop-i
+invariant-loop-i l = l.n ≡ number_at l.i l.bytes (l.at + (l.run - l.i))

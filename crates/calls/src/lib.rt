@@ -1,9 +1,12 @@
 // The calls of a session and what they answer.
 #![tactic(auto)]
 
+mod refusal;
+
 ghost use Rattle.std.specs.Prelude.{◌≡◌};
 ghost use Rattle.calls.specs.Replies.{number_of, value_of, called_stream, stream_of, tag_of};
 
+pub use refusal::Refusal;
 use time::{Charge, Clock};
 
 // Streams are counted from 1, a queue's places from 0. A tag is the host's own, and comes back as it was.
@@ -16,7 +19,7 @@ pub enum Call {
     Clock { time: u64 },
 }
 
-// A refusal is told by its number, since the laws of `session` speak of a reply by it (`number_of`).
+// A refusal is told by its number: `reply_to` of `session` and `answered_as` of `shelf`, and so the laws above them, make `Refused` of any number.
 #[derive(Clone, Copy, Debug, PartialEq, Eq)]
 pub enum Reply {
     Refused {

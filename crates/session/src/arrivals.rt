@@ -3,7 +3,7 @@ ghost use Rattle.std.specs.Prelude.{◌≡◌};
 ghost use Rattle.session.specs.Calls.{answer_to};
 
 use crate::{Answer, Session};
-use calls::Call;
+use calls::{Call, Refusal};
 use stream::Stream;
 
 impl Session {
@@ -12,15 +12,15 @@ impl Session {
         ensures { result ≡ answer_to self (Call.Arrival stream place tag) }
     {
         if !self.is_sound() {
-            return self.refuse(31);
+            return self.refuse(Refusal::Unsound);
         }
         if (stream == 0) | ((self.count as u64) < stream) {
-            return self.refuse(8);
+            return self.refuse(Refusal::NoStream);
         }
         let n = (stream - 1) as usize;
         let x = &self.streams[n];
         if x.queued == Stream::QUEUE_MAX {
-            return self.refuse(9);
+            return self.refuse(Refusal::QueueFull);
         }
         self.append(n, place, tag)
     }

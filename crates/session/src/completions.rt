@@ -3,7 +3,7 @@ ghost use Rattle.std.specs.Prelude.{◌≡◌};
 ghost use Rattle.session.specs.Calls.{answer_to};
 
 use crate::{Answer, Session};
-use calls::Call;
+use calls::{Call, Refusal};
 use time::Charge;
 
 impl Session {
@@ -12,18 +12,18 @@ impl Session {
         ensures { result ≡ answer_to self (Call.Done duration) }
     {
         if !self.is_sound() {
-            return self.refuse(31);
+            return self.refuse(Refusal::Unsound);
         }
         if self.served == 0 {
-            return self.refuse(11);
+            return self.refuse(Refusal::Idle);
         }
         if (duration < 1) | (Charge::DURATION_MAX < duration) {
-            return self.refuse(12);
+            return self.refuse(Refusal::Duration);
         }
         let taken = Charge::of(duration);
         let end = self.clock.after(taken);
         if end.is_past_end() {
-            return self.refuse(14);
+            return self.refuse(Refusal::PastEnd);
         }
         self.finish(self.served - 1, taken)
     }

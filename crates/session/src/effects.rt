@@ -1,22 +1,25 @@
 // What a call comes to: each effect stores into the session what its verdict says, and replies.
 ghost use Rattle.std.specs.Prelude.{◌≡◌};
+ghost use Rattle.calls.specs.Refusals.{refusal_number};
 ghost use Rattle.session.specs.Session.{latest};
 ghost use Rattle.session.specs.Calls.{refuse, append, send, move, wait, expire, finish, set_clock, outcome};
 ghost use Rattle.session.specs.Inner.{Due};
 ghost use Rattle.time.specs.Time.{moment};
 
 use crate::{Answer, Session};
-use calls::Reply;
+use calls::{Refusal, Reply};
 use time::{Charge, Clock};
 
 impl Session {
     // The number of a refusal, and the session as it was.
-    pub(crate) fn refuse(self, number: u64) -> Answer
-        ensures { result ≡ outcome self (refuse number) }
+    pub(crate) fn refuse(self, refusal: Refusal) -> Answer
+        ensures { result ≡ outcome self (refuse (refusal_number refusal)) }
     {
         Answer {
             session: self,
-            reply: Reply::Refused { number },
+            reply: Reply::Refused {
+                number: refusal.number(),
+            },
         }
     }
 

@@ -3,7 +3,7 @@ ghost use Rattle.std.specs.Prelude.{◌≡◌};
 ghost use Rattle.session.specs.Calls.{answer_to};
 
 use crate::{Answer, Session};
-use calls::Call;
+use calls::{Call, Refusal};
 
 impl Session {
     // The caller's own choice from the set, a stream, counted from 1, and an index of its queue: 10, 8, 15.
@@ -13,19 +13,19 @@ impl Session {
         ensures { result ≡ answer_to self (Call.OwnTurn stream index) }
     {
         if !self.is_sound() {
-            return self.refuse(31);
+            return self.refuse(Refusal::Unsound);
         }
         if self.served != 0 {
-            return self.refuse(10);
+            return self.refuse(Refusal::Busy);
         }
         if (stream == 0) | ((self.count as u64) < stream) {
-            return self.refuse(8);
+            return self.refuse(Refusal::NoStream);
         }
         let n = (stream - 1) as usize;
         let x = self.streams[n];
         let filled = x.filled(self.worst, self.horizon);
         if filled as u64 <= index {
-            return self.refuse(15);
+            return self.refuse(Refusal::NotInSet);
         }
         self.send(n, index as usize)
     }

@@ -3,7 +3,7 @@ ghost use Rattle.std.specs.Prelude.{◌≡◌};
 ghost use Rattle.session.specs.Calls.{answer_to};
 
 use crate::{Answer, Session};
-use calls::Call;
+use calls::{Call, Refusal};
 use time::Clock;
 
 impl Session {
@@ -14,17 +14,17 @@ impl Session {
         ensures { result ≡ answer_to self (Call.Clock time) }
     {
         if !self.is_sound() {
-            return self.refuse(31);
+            return self.refuse(Refusal::Unsound);
         }
         if self.served != 0 {
-            return self.refuse(10);
+            return self.refuse(Refusal::Busy);
         }
         let now = Clock::at(time);
         if now < self.clock {
-            return self.refuse(13);
+            return self.refuse(Refusal::Backwards);
         }
         if now.is_past_end() {
-            return self.refuse(14);
+            return self.refuse(Refusal::PastEnd);
         }
         let until = self.latest();
         self.set_clock(now, until)

@@ -3,7 +3,7 @@ ghost use Rattle.std.specs.Prelude.{◌≡◌};
 ghost use Rattle.session.specs.Calls.{answer_to};
 
 use crate::{Answer, Session};
-use calls::Call;
+use calls::{Call, Refusal};
 
 impl Session {
     // What the house does next, the first that applies: 10, 14.
@@ -11,10 +11,10 @@ impl Session {
         ensures { result ≡ answer_to self Call.Turn }
     {
         if !self.is_sound() {
-            return self.refuse(31);
+            return self.refuse(Refusal::Unsound);
         }
         if self.served != 0 {
-            return self.refuse(10);
+            return self.refuse(Refusal::Busy);
         }
         // a. some slot is filled: send
         if let Some(pick) = self.pick() {
@@ -24,7 +24,7 @@ impl Session {
         let seen = self.survey();
         let Some(expiring) = seen.expiring else {
             if seen.beyond {
-                return self.refuse(14);
+                return self.refuse(Refusal::PastEnd);
             }
             return self.move_on();
         };

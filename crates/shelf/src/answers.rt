@@ -4,7 +4,7 @@ ghost use Rattle.table.specs.Reservations.{table_of_records};
 ghost use Rattle.shelf.specs.Image.{unopened, opened_as, told_as, answered_as, shown_of, viewed_as, state_as, closing_as};
 
 use crate::{Image, Opening, Told};
-use calls::{Call, Reply};
+use calls::{Call, Refusal, Reply};
 use order::Order;
 use session::Session;
 use table::{Margin, Numbers, Records};
@@ -25,7 +25,7 @@ fn unopened() -> Opening
     ensures { result ≡ unopened }
 {
     Opening {
-        number: 31,
+        number: Refusal::Unsound.number(),
         margin: Margin::default(),
         session: Image::from(Session::zero()),
     }
@@ -43,7 +43,10 @@ pub(crate) fn call(image: &mut Image, call: Call) -> Told
             *image = Image::from(answer.session);
             told(answer.reply, call)
         }
-        Err(_) => told(Reply::Refused { number: 31 }, call),
+        Err(_) => {
+            let number = Refusal::Unsound.number();
+            told(Reply::Refused { number }, call)
+        }
     }
 }
 

@@ -156,7 +156,10 @@ impl From<Option<Clock>> for Moment {
                 number: 0,
                 at: until.micros(),
             },
-            None => Moment { number: 31, at: 0 },
+            None => Moment {
+                number: calls::Refusal::Unsound.number(),
+                at: 0,
+            },
         }
     }
 }

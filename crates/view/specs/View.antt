@@ -9,8 +9,8 @@ use Rattle.session.specs.Calls.{no_such_stream}
 use Rattle.stream.specs.Stream.{fresh_stream}
 use Rattle.session.specs.declared.Session.{Session}
 use Rattle.stream.specs.declared.Stream.{Stream}
-use Rattle.view.specs.declared.Refusal.{Refusal}
-use Rattle.view.specs.declared.Refusal.TheVariants.{Unsound, NoSuchStream}
+use Rattle.calls.specs.declared.refusal.Refusal.{Refusal}
+use Rattle.calls.specs.declared.refusal.Refusal.TheVariants.{NoStream, Unsound}
 use Rattle.view.specs.declared.View.{View}
 use Rattle.view.specs.declared.State.{State}
 use Rattle.view.specs.declared.Closing.{Closing}
@@ -22,18 +22,13 @@ view_of s =
     (record { number = 0; clock = s.clock; horizon = moment (horizon s); latest = moment (latest s); margin = s.margin })
     (record { number = 31; clock = moment 0; horizon = moment 0; latest = moment 0; margin = margin (pos 0) })
 
--- the numbers of what refuses to show a stream: 31 and 8
-abbrev pub refusal_number : Refusal → ℕ
-refusal_number Unsound = 31
-refusal_number NoSuchStream = 8
-
 -- what refuses to show a stream, counted from 1: 31, then 8
 unfoldable pub state_refusal : Session → ℕ → ℕ
 state_refusal s n = given (not (sound s)) 31 or_next given (no_such_stream s n) 8
 
--- the same as the code has it, with the stream where nothing refuses
+-- the same as an enum, with the stream where nothing refuses
 unfoldable pub stream_of : Session → ℕ → Result Stream Refusal
-stream_of s n = if (sound s) (if (no_such_stream s n) (Err NoSuchStream) (Ok (stream_at s (n - 1)))) (Err Unsound)
+stream_of s n = if (sound s) (if (no_such_stream s n) (Err NoStream) (Ok (stream_at s (n - 1)))) (Err Unsound)
 
 -- one stream's state, or the refusal beside zeros
 unfoldable pub state_of : Session → ℕ → State

@@ -2,8 +2,9 @@
 #![tactic(auto)]
 
 ghost use Rattle.std.specs.Prelude.{◌≡◌};
-ghost use Rattle.view.specs.View.{refusal_number, view_of, stream_of, state_of, closing_of};
+ghost use Rattle.view.specs.View.{view_of, stream_of, state_of, closing_of};
 
+use calls::Refusal;
 use session::Session;
 use stream::{Job, Stream};
 use table::Margin;
@@ -34,25 +35,6 @@ pub struct State {
 pub struct Closing {
     pub number: u64,
     pub job: Job,
-}
-
-// Why a stream is not shown: its session is not sound, or has no such stream.
-#[derive(Clone, Copy, Debug, PartialEq, Eq)]
-enum Refusal {
-    Unsound,
-    NoSuchStream,
-}
-
-impl Refusal {
-    // The number by which callers are told.
-    fn number(self) -> u64
-        ensures { result ≡ refusal_number self }
-    {
-        match self {
-            Refusal::Unsound => 31,
-            Refusal::NoSuchStream => 8,
-        }
-    }
 }
 
 // The clock, the horizon, the latest safe moment and the margin: 31.
@@ -110,7 +92,7 @@ fn stream_of(session: &Session, stream: u64) -> Result<Stream, Refusal>
         return Err(Refusal::Unsound);
     }
     if (stream == 0) | ((session.count as u64) < stream) {
-        return Err(Refusal::NoSuchStream);
+        return Err(Refusal::NoStream);
     }
     Ok(session.streams[(stream - 1) as usize])
 }

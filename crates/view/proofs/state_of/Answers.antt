@@ -11,8 +11,9 @@ use Rattle.stream.specs.declared.Stream.{Stream}
 use Rattle.session.specs.Session.{stream_at, sound}
 use Rattle.session.specs.Calls.{no_such_stream}
 use Rattle.session.specs.declared.Session.{Session}
-use Rattle.view.specs.View.{refusal_number, state_refusal, stream_of, state_of}
-use Rattle.view.specs.declared.Refusal.{Refusal}
+use Rattle.view.specs.View.{state_refusal, stream_of, state_of}
+use Rattle.calls.specs.Refusals.{refusal_number}
+use Rattle.calls.specs.declared.refusal.Refusal.{Refusal}
 use Rattle.view.specs.declared.State.{State}
 use Rattle.view.proofs.state_of.Goals as goal
 
@@ -26,7 +27,7 @@ unfolding state_of state_refusal stream_of given ◌or_next◌ if
 state_is s n = go (sound s) (no_such_stream s n)
   where
     shown : Bool → Bool → Result Stream Refusal
-    shown ok none = if ok (if none (Err Refusal.NoSuchStream) (Ok (stream_at s (n - 1)))) (Err Refusal.Unsound)
+    shown ok none = if ok (if none (Err Refusal.NoStream) (Ok (stream_at s (n - 1)))) (Err Refusal.Unsound)
 
     number : Bool → Bool → ℕ
     number ok none = given (not ok) 31 or_next given none 8

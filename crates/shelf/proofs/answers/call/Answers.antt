@@ -11,4 +11,4 @@ returns-in-Ok c = let session = c.in-Ok.ensures in rw (session.0, c.from.ensures
 
 pub returns-in-Err : goal.returns-in-Err
 unfolding answered_as if
-returns-in-Err c = rw (no_order _ c.in-Err.ensures, c.told-in-Err.ensures) (refl, refl)
+returns-in-Err c = rw (no_order _ c.in-Err.ensures, c.told-in-Err.ensures, c.number-number.ensures) (refl, refl)

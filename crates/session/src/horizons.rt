@@ -19,6 +19,7 @@ impl Session {
     }
 
     // The latest safe moment of a sound session, which always has one.
+    // That the session is sound is asked here and by the two searches: a struct round it that keeps the fact would be a copy of 3 KB more, or a borrow that ends where the next step takes the session.
     pub(crate) fn latest(&self) -> Clock
         requires { sound self.now ≡ true }
         ensures { result ≡ moment (latest self.now) }

@@ -23,8 +23,6 @@ pub struct Survey {
 
 impl Session {
     // The request to send, where some slot is filled, by the order that the session holds.
-    // As a part of a turn it would make that take more than 16 KB of stack.
-    #[inline(never)]
     pub(crate) fn pick(&self) -> Option<Pick>
         requires { sound self.now ≡ true }
         ensures { result ≡ pick_of self.now }
@@ -37,8 +35,6 @@ impl Session {
     }
 
     // All that is asked of the streams where no slot is filled, in one pass. By their indices, since the stream that expires is told by its index.
-    // As a part of a turn it would make that take more than 16 KB of stack.
-    #[inline(never)]
     pub(crate) fn survey(&self) -> Survey
         requires { sound self.now ≡ true }
         ensures { result ≡ survey_of self.now }

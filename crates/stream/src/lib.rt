@@ -244,7 +244,7 @@ fn queue_is_sound(
     if Stream::QUEUE_MAX < queued {
         return false;
     }
-    // Every cell is looked at, so that the compiler compares several at a time: by `all`, which stops at the first, a session of eight streams takes 13 % more instructions to judge.
+    // One loop for each row, since a generic one would have to ask a trait which cell is 0. Every cell is looked at, so that the compiler compares several at a time: by `all`, which stops at the first, a session of eight streams takes 13 % more instructions to judge.
     let mut places_clear = true;
     for place in &places[queued..] {
         places_clear &= *place == 0;

@@ -16,6 +16,7 @@ pub struct Sums {
 }
 
 impl Sums {
+    // No derive: an amount of disk time has no default.
     pub fn none() -> Sums
         ensures { result ≡ nothing_summed }
     {

@@ -1,14 +1,17 @@
 -- What the test of a trace says.
 use mathlib.Core.Bool.{Bool, true, false, false≢true}
-use mathlib.Core.Path.{◌≡◌, refl, sym, ◌∙◌}
+use mathlib.Core.Path.{◌≡◌, refl, sym, subst, ◌∙◌}
 use mathlib.Core.List.{List}
 use Prim.Native.Nat.{ℕ, ◌*◌, ◌%◌, ◌≤◌, ◌<◌}
 use native.Mathlib.Omega.{arith}
 use borrow.Author.Tests.{eqb-true, leb-true}
-use lib.ListN.{length}
+use lib.ListN.{length, get_or}
+use Rattle.std.specs.Bool.{MatchBool}
+use Rattle.std.specs.List.{range_with_len, AllWithin, HoldsAt}
+use Rattle.std.proofs.lemmas.List.FromFn.{length-range_with_len, get_or-range_with_len}
 use Rattle.table.specs.Fold.{all_to}
 use Rattle.table.proofs.Tests.{both}
-use Rattle.table.proofs.Folds.{all_at}
+use Rattle.table.proofs.Folds.{all_at, all_of}
 use Rattle.file.specs.File.{event_size, events_max}
 use Rattle.file.specs.Reading.{events_in, event_at, formed, is_trace}
 
@@ -40,3 +43,16 @@ all_fails f n i l h = go (all_to f n) refl
     go : (b : Bool) → all_to f n ≡ b → b ≡ false
     go true e = absurd (false≢true (sym h ∙ all_at f n e i l))
     go false e = refl
+
+-- what is found of all numbers up to one is what `all_to` says
+pub all_ranged : (f : ℕ → Bool) (n : ℕ) (r : Bool)
+    → MatchBool r (AllWithin (λ i. f i ≡ true) (range_with_len 0 n) 0 (length (range_with_len 0 n))) ((k : ℕ) × (k < length (range_with_len 0 n)) × HoldsAt (λ i. f i ≡ false) (range_with_len 0 n) k)
+    → r ≡ all_to f n
+all_ranged f n true all =
+    sym (all_of f n (λ i l.
+    let e : get_or (range_with_len 0 n) i 0 ≡ i = omega (arith, get_or-range_with_len 0 n i 0 l) in
+    subst (λ (j : ℕ). f j ≡ true) e (all i 0 (omega arith) (omega (arith, l, length-range_with_len 0 n)))))
+all_ranged f n false some =
+    let l : some.0 < n = omega (arith, some.1, length-range_with_len 0 n) in
+    let e : get_or (range_with_len 0 n) some.0 0 ≡ some.0 = omega (arith, get_or-range_with_len 0 n some.0 0 l) in
+    sym (all_fails f n some.0 l (subst (λ (j : ℕ). f j ≡ false) e (some.2 0)))

@@ -8,7 +8,7 @@ ghost use Rattle.file.specs.Reading.{table_length, is_entry, is_third_entry, is_
 use crate::form::Form;
 use cells::{number_at, put_number};
 
-// Where the entries are.
+// Where the entries are. Their kinds, 1 to 3, are numbers of the file's layout, too.
 const TABLE_ENTRY: usize = 2;
 
 const TRACE_ENTRY: usize = 14;
@@ -40,6 +40,7 @@ fn is_third_entry(file: &[u8], form: Form, offset: usize) -> bool
 
 // Whether the entry at an index has this kind, offset and length.
 // The three numbers of an entry stay arguments, here and where it is stored: a struct of them makes this file half again as long.
+// How far in an entry may stand is a fact of one argument, and of the function that has it.
 #[tactic(auto, unfolding(crate::specs::Reading::is_entry))]
 fn is_entry(file: &[u8], at: usize, kind: u64, offset: usize, len: usize) -> bool
     requires { at ≤ table_start_max }

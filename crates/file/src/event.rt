@@ -12,6 +12,7 @@ use crate::word::{put_word, word_at};
 use cells::{number_at, put_number};
 
 // What an event asks for. Streams are counted from 1, a queue's places from 0.
+// Malformed is a case of its own and no None, since `event_of`, `formed`, `bytes_of` and the laws speak of it.
 #[derive(Clone, Copy, Debug, PartialEq, Eq)]
 pub enum Event {
     Arrival { stream: u64, place: u64, tag: u32 },
@@ -51,7 +52,7 @@ pub fn event_at(trace: &[u8], i: usize) -> Event
     )
 }
 
-// The event of a kind, a stream, a tag and a value; only an arrival has a tag.
+// The event of a kind, a stream, a tag and a value; only an arrival has a tag. The kinds, 1 to 5, are numbers of the file's layout.
 #[tactic(auto, using(crate::proofs::Choices::choices), unfolding(crate::specs::Reading::event_of))]
 fn event_of(kind: u64, stream: u64, tag: u32, value: u64) -> Event
     ensures { result ≡ event_of kind stream tag value }
@@ -95,8 +96,9 @@ fn is_storable(event: Event) -> bool
     ensures { result ≡ is_storable event }
 {
     match event {
-        Event::Arrival { stream, .. } | Event::OwnTurn { stream, .. } => stream
-            <= Event::STREAM_MAX,
+        Event::Arrival { stream, .. } | Event::OwnTurn { stream, .. } => {
+            stream <= Event::STREAM_MAX
+        }
         Event::Turn | Event::Done { .. } | Event::Clock { .. } => true,
         Event::Malformed => false,
     }
@@ -147,14 +149,8 @@ pub(crate) fn is_trace(trace: &[u8]) -> bool
     (trace.len() % Event::SIZE == 0) & (events <= Event::MOST) && all_formed(trace, events)
 }
 
-#[tactic(auto, using(table::proofs::Folds::all_of, crate::proofs::Trace::all_fails))]
 fn all_formed(trace: &[u8], events: usize) -> bool
     ensures { result ≡ all_to (λ i. formed (event_at trace.now i)) events }
 {
-    for i in 0..events {
-        if !is_formed(event_at(trace, i)) {
-            return false;
-        }
-    }
-    true
+    (0..events).all(|i| is_formed(event_at(trace, i)))
 }

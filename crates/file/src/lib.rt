@@ -75,6 +75,7 @@ pub fn table_of(file: &[u8]) -> Table
 }
 
 // Writes the file of a form, an order, a table and a trace at the start of a buffer and answers how long it is, or refuses and leaves the buffer as it was.
+// The four are arguments of their own, as the function has them that C calls.
 pub fn write(
     table: Table,
     form: Form,

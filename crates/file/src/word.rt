@@ -1,4 +1,4 @@
-// Numbers of four bytes.
+// Numbers of four bytes, each of which is a u32.
 ghost use Rattle.std.specs.Prelude.{◌≡◌};
 ghost use Rattle.std.proofs.lemmas.List.Edits.{sets};
 ghost use Rattle.cells.specs.Cells.{cell, number_at};

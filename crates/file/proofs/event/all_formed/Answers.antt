@@ -1,8 +1,19 @@
-use mathlib.Core.Path.{sym, ◌∙◌}
+-- `all_formed` looks at the events up to the first that is not formed.
+use mathlib.Core.Bool.{true, false}
+use mathlib.Core.Path.{◌≡◌, refl}
+use native.Mathlib.Omega.{arith}
+use borrow.Author.Rules.{rules}
+use borrow.Author.Tests.{tests as facts}
+use Rattle.std.proofs.lemmas.Iterator.{YieldsList-from_range}
+use Rattle.std.proofs.lemmas.Iterator.{cases_from_all}
 use Rattle.file.specs.Reading.{event_at, formed}
-use Rattle.file.proofs.Trace.{all_fails}
+use Rattle.file.proofs.Trace.{all_ranged}
 use Rattle.file.proofs.event.all_formed.Goals as goal
 
-pub returns-then-not-is_formed : goal.returns-then-not-is_formed
-returns-then-not-is_formed c =
-    sym (all_fails (λ i. formed (event_at c.args.trace.now i)) c.args.events c.loop-i.i c.loop-i-test.true (rw c.event_at.ensures at (sym c.is_formed.ensures ∙ c.if-not-is_formed.true)))
+pub returns : goal.returns
+returns c =
+    let a = c.args in
+    all_ranged (λ i. formed (event_at a.trace.now i)) a.events _
+    (cases_from_all _ _ _ (λ i. formed (event_at a.trace.now i) ≡ true) (λ i. formed (event_at a.trace.now i) ≡ false) c.all.ensures.ran (YieldsList-from_range 0 a.events a.events refl (omega arith))
+    (λ x q k. search (rules, facts))
+    (λ x q k. search (rules, facts)))

@@ -8,6 +8,7 @@ use stream::Stream;
 
 impl Session {
     // A request of a stream, counted from 1, at a place, with the host's tag: 8, 9.
+    // The three travel together as `Call::Arrival`; by this name they are what C's function takes.
     pub fn arrival(self, stream: u64, place: u64, tag: u32) -> Answer
         ensures { result ≡ answer_to self (Call.Arrival stream place tag) }
     {

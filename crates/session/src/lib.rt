@@ -144,6 +144,7 @@ fn fresh(t: Table, margin: Margin, order: Order) -> Session
 }
 
 // The eight streams of a session that is opened with a table: those past its count stay all zeros.
+// That the count is within eight is asked here and of each stream alone: `fresh`, the one caller, knows it from the admission.
 fn opened_streams(t: Table) -> [Stream; Table::STREAMS_MAX]
     requires { t.count ≤ streams_max }
     ensures { result ≡ list_to (opened_stream t) streams_max }

@@ -52,7 +52,7 @@ pub struct Stream {
 impl Stream {
     pub const QUEUE_MAX: usize = 16;
 
-    // A stream at its first release: nothing queued, nothing charged, no job closed.
+    // A stream at its first release: nothing queued, nothing charged, no job closed. Its three numbers are those of `fresh_stream`, of which the all-zero stream has none that was booked.
     pub fn fresh(reserved: u32, period: u32, granted: u64) -> Stream
         ensures { result ≡ fresh_stream reserved period granted }
     {
@@ -81,6 +81,7 @@ impl Stream {
     }
 
     // How many requests of the worst-case time fit before the horizon, by one division.
+    // Whoever counts slots asks the same of the stream, of W and of the horizon (`Bounded`). Each call has its own horizon, so that a struct of the three would be made anew for each stream and each count.
     pub fn slots(&self, worst: u32, h: Clock) -> u64
         requires { Bounded worst h.0 self.now }
         ensures { result ≡ slots worst h.0 self.now }
@@ -188,6 +189,7 @@ impl Stream {
     }
 
     // At a move: its job is closed if it is due at the horizon.
+    // That the deadline is in the session is asked by the three functions that look past it: an image from outside may hold any, and soundness is what tests it.
     pub fn moved(self, now: Clock, h: Clock) -> Stream
         requires { self.deadline.0 ≤ session_end }
         ensures { result ≡ moved now h.0 self }

@@ -87,6 +87,7 @@ fn put_file(old: &[u8], start: usize, kept: usize, out: &mut [u8])
 }
 
 // Puts the whole list at the start of one that has room for it: whether the contents are rewritten, and then the changes of the trace.
+// Whether they stay is the first argument of `list_from`, by which the list is defined.
 fn put_list(stay: bool, trace: &[u8], start: u64, changes: &mut [[u64; 2]])
     requires trace_bound { start + length trace.now ≤ 2 ^ 64 }
     requires trace_in_bounds { length (list_from stay start trace.now) ≤ length changes.old }

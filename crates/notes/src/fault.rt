@@ -9,7 +9,7 @@ use crate::numbers::{fits, is_known, is_right, room_at, takes};
 
 // A carriage return within the line; a byte order mark; no word of notes; more or fewer numbers than the word takes, or another number of names than one;
 // no number; a number for which so many bits have no room; no order; a line that stands where it may not; a ninth stream; an event after 4,000.
-// The word, the number or the name is what the notes have heard of the line.
+// The word, the number or the name is what the notes have heard of the line. How many numbers a word takes and how many bits have room are numbers, as `count_fault`, `field_fault` and the cases say them.
 #[derive(Clone, Copy, Debug, PartialEq, Eq)]
 pub enum Fault {
     Return,

@@ -1,6 +1,6 @@
 // What a message can quote of a line that is being read.
-ghost use Rattle.std.specs.Prelude.{false, ◌≡◌, ltb, min, take};
-ghost use Rattle.notes.specs.Heard.{kept, no_field, field_with, is_marked, heard_of, unheard, heard_in, opens_at, is_end, heard_with};
+ghost use Rattle.std.specs.Prelude.{true, false, ◌≡◌, ltb, min, take};
+ghost use Rattle.notes.specs.Heard.{kept, no_field, field_with, is_marked, heard_of, unheard, opens_at, is_end, heard_with};
 
 use crate::draft::{Draft, Place, is_gap};
 use crate::numbers::fits;
@@ -86,7 +86,7 @@ impl Heard {
     }
 
     // What is heard with a byte more of a line, which was this one before it.
-    #[tactic(auto, using(file::proofs::Choices::choices), unfolding(crate::specs::Heard::heard_with))]
+    #[tactic(auto, using(file::proofs::Choices::choices), unfolding(crate::specs::Heard::heard_with, crate::specs::Heard::heard_in))]
     pub(crate) fn with(self, draft: Draft, byte: u8) -> Heard
         ensures { result ≡ heard_with self draft byte }
     {
@@ -94,26 +94,38 @@ impl Heard {
             return self.shut();
         }
         if self.inside {
-            return self.within(draft.fields == 1, byte);
+            return if draft.fields == 1 {
+                self.in_word(byte)
+            } else {
+                self.in_number(byte)
+            };
         }
         if opens(draft) {
-            return self.emptied().within(draft.fields == 0, byte);
+            let next = self.emptied();
+            return if draft.fields == 0 {
+                next.in_word(byte)
+            } else {
+                next.in_number(byte)
+            };
         }
         self
     }
 
-    // A byte more in the first field, the word, or in the number or name behind it.
-    #[tactic(auto, using(file::proofs::Choices::choices), unfolding(crate::specs::Heard::heard_in))]
-    fn within(self, first: bool, byte: u8) -> Heard
-        ensures { result ≡ heard_in self first byte }
+    // A byte more in the first field, the word.
+    fn in_word(self, byte: u8) -> Heard
+        ensures { result ≡ heard_of (field_with self.word byte) self.number true }
     {
-        if first {
-            return Heard {
-                word: self.word.with(byte),
-                inside: true,
-                ..self
-            };
+        Heard {
+            word: self.word.with(byte),
+            inside: true,
+            ..self
         }
+    }
+
+    // A byte more in the number or name behind it.
+    fn in_number(self, byte: u8) -> Heard
+        ensures { result ≡ heard_of self.word (field_with self.number byte) true }
+    {
         Heard {
             number: self.number.with(byte),
             inside: true,

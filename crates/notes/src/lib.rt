@@ -155,20 +155,12 @@ impl Notes {
     pub fn start() -> Notes
         ensures { result ≡ started }
     {
-        let table = Table {
-            worst: 0,
-            span: 0,
-            padding: 0,
-            count: 0,
-            reserved: [0; Table::STREAMS_MAX],
-            period: [0; Table::STREAMS_MAX],
-        };
         Notes {
             line: 1,
             numbers: 0,
             form: Form::Two,
             order: Order::Nearest,
-            table,
+            table: Table::default(),
             events: 0,
             began: None,
             draft: Draft::blank(),

@@ -10,7 +10,7 @@ use listing::{Text, worded};
 use order::Order;
 use table::Table;
 
-// A line: nothing, a number of the table, an order, a stream, an event, or none of these.
+// A line: nothing, a number of the table, an order, a stream, an event, or none of these, which is a case of its own, since `after`, `trace_after` and `line_shown` each say what becomes of it.
 #[derive(Clone, Copy)]
 pub enum Line {
     Blank,

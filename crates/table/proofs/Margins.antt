@@ -12,9 +12,9 @@ use Rattle.std.proofs.Common.{Result, Ok, Err}
 use Rattle.std.specs.Result.{is_err}
 use Rattle.table.specs.Fold.{if}
 use Rattle.table.specs.Refusal.{given, ◌or_next◌, refusal_number, refused_by}
-use Rattle.table.specs.Admission.{load_of, numbers_refusal, stream_refusal, stream_refusal_at, streams_refusal, parts_refusal, admission_of}
+use Rattle.table.specs.Admission.{load_of, ranges_refusal, numbers_refusal, stream_refusal, stream_refusal_at, streams_refusal, parts_refusal, admission_of}
 use Rattle.table.specs.Whole.{below_zero}
-use Rattle.table.specs.Margin.{margin_of, margin, refusal_of, refusal_margin, answered, answer_of, number_in, margin_in}
+use Rattle.table.specs.Margin.{margin_of, margin, refusal_of, refusal_margin, answered, answer_by, answer_of, number_in, margin_in}
 use Rattle.table.specs.Laws.{MarginIsExact, MarginDecides, OverIsExact, AnswerCarriesMargin}
 use Rattle.table.specs.declared.Table.{Table}
 use Rattle.table.specs.declared.margin.Margin.{Margin}
@@ -152,6 +152,27 @@ is_refusal (suc (suc (suc (suc zero)))) m some l = (refl, refl)
 is_refusal (suc (suc (suc (suc (suc zero))))) m some l = (refl, refl)
 is_refusal (suc (suc (suc (suc (suc (suc zero)))))) m some l = (refl, refl)
 is_refusal (suc (suc (suc (suc (suc (suc (suc n))))))) m some l = absurd (omega arith)
+
+-- what is answered by one of 1 to 6 tells the number
+by_number : (n : ℕ) → n ≤ 6 → refused_by (answer_by n) ≡ n
+unfolding answer_by if
+by_number zero l = refl
+by_number (suc n) l = let some : suc n ≡ 0 → ⊥ = λ z. omega arith in rw (ne_eqb (suc n) 0 some) (is_refusal (suc n) (pos 0) some l).0
+
+told : (n : ℕ) (r : Result Unit Refusal) → n ≤ 6 → r ≡ answer_by n → refused_by r ≡ n
+told n r l e = ap refused_by e ∙ by_number n l
+
+-- so do the answers of W, H and k, of the numbers of a whole table, and of a stream
+pub ranges_told : (worst span k : ℕ) (r : Result Unit Refusal) → r ≡ answer_by (ranges_refusal worst span k) → refused_by r ≡ ranges_refusal worst span k
+ranges_told worst span k r = told _ r (search (or_next_high, given_high, lit≤) depth 12)
+
+pub numbers_told : (t : Table) (r : Result Unit Refusal) → r ≡ answer_by (numbers_refusal t) → refused_by r ≡ numbers_refusal t
+unfolding numbers_refusal
+numbers_told t r = told _ r (search (or_next_high, given_high, lit≤) depth 12)
+
+pub stream_told : (worst span k e p : ℕ) (r : Result Unit Refusal) → r ≡ answer_by (stream_refusal worst span k e p) → refused_by r ≡ stream_refusal worst span k e p
+unfolding stream_refusal
+stream_told worst span k e p r = told _ r (search (or_next_high, given_high, lit≤))
 
 -- what is answered where one of 1 to 6 refuses, where nothing does, and by 7
 answer_parts : (t : Table) → (parts_refusal t ≡ 0 → ⊥) → answer_of t ≡ Err (refusal_of (parts_refusal t) (margin_of t))

@@ -41,6 +41,10 @@ refusal_of n m =
 unfoldable pub answered : ℕ → ℤ → Result Margin Refusal
 answered n m = if (eqb n 0) (Ok (margin m)) (Err (refusal_of n m))
 
+-- and for one of 1 to 6 alone: nothing beside 0, and no margin beside the others
+unfoldable pub answer_by : ℕ → Result Unit Refusal
+answer_by n = if (eqb n 0) (Ok tt) (Err (refusal_of n (pos 0)))
+
 unfoldable pub answer_of : Table → Result Margin Refusal
 answer_of t = answered (admission_of t) (margin_of t)
 

@@ -1,7 +1,7 @@
 // The three numbers of a whole table, which travel together.
 ghost use Rattle.std.specs.Prelude.{◌≡◌};
-ghost use Rattle.table.specs.Refusal.{refused_by};
 ghost use Rattle.table.specs.Admission.{padding_of, granted_of, ranges_refusal, stream_refusal};
+ghost use Rattle.table.specs.Margin.{answer_by};
 
 use crate::{Refusal, Reservation, Table};
 
@@ -16,7 +16,7 @@ pub struct Numbers {
 impl Numbers {
     // 2 to 4: W, H and k.
     pub fn ranges_refusal(self) -> Result<(), Refusal>
-        ensures { refused_by result ≡ ranges_refusal self.worst self.span self.padding }
+        ensures { result ≡ answer_by (ranges_refusal self.worst self.span self.padding) }
     {
         if (self.worst < Table::WORST_MIN) | (Table::WORST_MAX < self.worst) {
             return Err(Refusal::Worst);
@@ -32,7 +32,7 @@ impl Numbers {
 
     // 5 and 6: one stream.
     pub fn stream_refusal(self, stream: Reservation) -> Result<(), Refusal>
-        ensures { refused_by result ≡ stream_refusal self.worst self.span self.padding stream.reserved stream.period }
+        ensures { result ≡ answer_by (stream_refusal self.worst self.span self.padding stream.reserved stream.period) }
     {
         let period = stream.period;
         if (period < Table::PERIOD_MIN) | (Table::PERIOD_MAX < period) {

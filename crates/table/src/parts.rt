@@ -3,6 +3,7 @@ ghost use Rattle.std.specs.Prelude.{◌≡◌, ◌≤◌, IfOk};
 ghost use Rattle.table.specs.Ranges.{streams_max};
 ghost use Rattle.table.specs.Refusal.{refused_by};
 ghost use Rattle.table.specs.Admission.{numbers_refusal, streams_refusal, parts_refusal};
+ghost use Rattle.table.specs.Margin.{answer_by};
 
 use crate::{Refusal, Table};
 
@@ -27,7 +28,7 @@ impl Judged {
 
 // 1 to 4: the numbers of the whole table.
 pub fn numbers_refusal(t: Table) -> Result<(), Refusal>
-    ensures { refused_by result ≡ numbers_refusal t }
+    ensures { result ≡ answer_by (numbers_refusal t) }
 {
     if (t.count < 1) | (Table::STREAMS_MAX < t.count) {
         return Err(Refusal::Streams);

@@ -1,7 +1,7 @@
 use Rattle.terms.proofs.Found.{numbered_none, numbered_some}
 use Rattle.terms.specs.Terms.{numbered, refused_stream}
 use Rattle.table.proofs.Folds.{first_at}
-use Rattle.table.proofs.Margins.{refusal_some}
+use Rattle.table.proofs.Margins.{refusal_some, stream_told}
 use Rattle.table.specs.Admission.{stream_refusal_at}
 use Rattle.table.specs.Refusal.{first_to, ◌or_next◌}
 use native.Mathlib.Omega.{arith}
@@ -18,14 +18,14 @@ unfolding refused_stream
 returns-in-Err c =
     let t = c.args.t in
     let i = c.loop-i.i in
-    let told = rw (c.numbers-numbers.ensures, c.reservation.ensures) at c.in-Err.ensures in
+    let told = stream_told _ _ _ _ _ _ (rw (c.numbers-numbers.ensures, c.reservation.ensures) at c.in-Err.ensures) in
     let here = numbered_some (stream_refusal_at t) i (λ none. refusal_some c.in-Err.refusal (told ∙ none)) in
     (first_at (numbered (stream_refusal_at t)) t.count i (omega arith) c.loop-i.invariant (λ z. omega (arith, z, here)) ∙ here, told)
 
 pub loop-i-preserved : goal.loop-i-preserved
 unfolding first_to ◌or_next◌
 loop-i-preserved c =
-    let told = rw (c.numbers-numbers.ensures, c.reservation.ensures) at c.in_default.ensures in
+    let told = stream_told _ _ _ _ _ _ (rw (c.numbers-numbers.ensures, c.reservation.ensures) at c.in_default.ensures) in
     rw (add-one, c.loop-i.invariant) (numbered_none (stream_refusal_at c.args.t) c.loop-i.i (sym told))
 
 pub returns : goal.returns

@@ -4,7 +4,7 @@ use borrow.Author.Tests.{eq-eqb, ne_eqb}
 use Rattle.std.proofs.lemmas.Result.{err_from_is_err_and}
 use Rattle.table.specs.Fold.{if}
 use Rattle.table.specs.Margin.{answer_of, number_in}
-use Rattle.table.proofs.Margins.{answer_carries_margin}
+use Rattle.table.proofs.Margins.{ranges_told, answer_carries_margin}
 use Rattle.booking.specs.Book.{count_in, table_refusal}
 use Rattle.booking.proofs.Cells.{cells_of}
 use Rattle.booking.proofs.Book.table_refusal.Goals as goal
@@ -16,7 +16,7 @@ pub returns-then-count-eq0 : goal.returns-then-count-eq0
 unfolding table_refusal if
 returns-then-count-eq0 c =
     let none = sym c.count.ensures ∙ c.if-count-eq0.true in
-    let told = rw c.numbers.ensures at c.ranges_refusal.ensures in
+    let told = ranges_told _ _ _ _ (rw c.numbers.ensures at c.ranges_refusal.ensures) in
     rw (eq-eqb _ 0 none) told
 
 pub returns-in_err-admission : goal.returns-in_err-admission

@@ -11,7 +11,7 @@ use Rattle.table.specs.Margin.{answer_of, number_in}
 use Rattle.table.specs.declared.Table.{Table}
 use Rattle.table.specs.declared.margin.Margin.{Margin}
 use Rattle.table.specs.declared.refusal.Refusal.{Refusal}
-use Rattle.table.proofs.Margins.{refusal_some as table_some, answer_carries_margin}
+use Rattle.table.proofs.Margins.{refusal_some as table_some, stream_told, answer_carries_margin}
 use Rattle.booking.specs.Book.{desk_of, with_desk, streams_of, count_in, table_with, table_in, shares_in, sound_cells}
 use Rattle.booking.specs.Bookings.{with_stream, added, desk_refusal, add_refusal}
 use Rattle.booking.specs.declared.Desk.{Desk}
@@ -42,7 +42,7 @@ pub returns-in_err-stream_refusal-clause-number : goal.returns-in_err-stream_ref
 returns-in_err-stream_refusal-clause-number c =
     let p = err_from_is_err_and c.from_residual-in_err-stream_refusal.result c.from_residual-in_err-stream_refusal.ensures.1 in
     let space = rw c.count.ensures at c.if-count-ge-STREAMS_MAX.false in
-    let told = rw c.numbers.ensures at c.in_err-stream_refusal.ensures in
+    let told = stream_told _ _ _ _ _ _ (rw c.numbers.ensures at c.in_err-stream_refusal.ensures) in
     rw (p.1, p.2) (add_at_stream _ _ _ _ (sym c.in_ok-old.ensures.number) space _ told (table_some _))
 
 -- what is known past 5 and 6: a sound table, with space, a stream in order, and the desk with it
@@ -58,7 +58,7 @@ fitting c =
     record {
       none = sym c.in_ok-old.ensures.number;
       space = rw c.count.ensures at c.if-count-ge-STREAMS_MAX.false;
-      fits = sym (rw c.numbers.ensures at c.in_ok-stream_refusal.ensures);
+      fits = sym (stream_told _ _ _ _ _ _ (rw c.numbers.ensures at c.in_ok-stream_refusal.ensures));
       is = c.with_stream-own.ensures ∙ ap (λ (d : Desk). with_stream d a.stream.reserved a.stream.period) c.in_ok-old.ensures.value;
     }
 

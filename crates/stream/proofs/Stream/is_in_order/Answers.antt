@@ -9,6 +9,7 @@ use borrow.Author.Rules.{rules}
 use Rattle.table.specs.Admission.{granted_of, stream_refusal}
 use Rattle.table.specs.Ranges.{period_max}
 use Rattle.table.proofs.Judged.{stream_of}
+use Rattle.table.proofs.Margins.{stream_told}
 use Rattle.stream.specs.Stream.{sound_stream}
 use Rattle.stream.specs.Search.{in_order}
 use Rattle.stream.proofs.Refused.{by_test, refused_is}
@@ -17,7 +18,7 @@ use Rattle.stream.proofs.Stream.is_in_order.Goals.{After-is_err}
 
 -- by number
 tested : (c : After-is_err) → eqb (let a = c.args in stream_refusal a.numbers.worst a.numbers.span a.numbers.padding a.self.now.reserved a.self.now.period) 0 ≡ not c.is_err.result
-tested c = ap (λ (n : ℕ). eqb n 0) (sym c.stream_refusal.ensures) ∙ by_test _ ∙ ap not (sym (refused_is c.stream_refusal.result) ∙ sym c.is_err.ensures.value)
+tested c = ap (λ (n : ℕ). eqb n 0) (sym (stream_told _ _ _ _ _ _ c.stream_refusal.ensures)) ∙ by_test _ ∙ ap not (sym (refused_is c.stream_refusal.result) ∙ sym c.is_err.ensures.value)
 
 pub returns-then-is_err : goal.returns-then-is_err
 unfolding in_order

@@ -6,6 +6,7 @@ use lib.Dec.{eqb, ltb}
 use Rattle.table.specs.Fold.{if}
 use Rattle.table.specs.Refusal.{given, ◌or_next◌, outside}
 use Rattle.table.specs.Admission.{ranges_refusal}
+use Rattle.table.proofs.Margins.{ranges_told}
 use Rattle.stream.specs.Search.{begun}
 use Rattle.stream.proofs.Refused.{by_test, refused_is}
 use Rattle.stream.proofs.census.Census.begin.Goals as goal
@@ -22,7 +23,7 @@ test : (c : After-is_err) → eqb (given (outside 1 8 c.args.count) 1 or_next ra
     ≡ not (ltb c.args.count 1 || ltb 8 c.args.count || c.is_err.result)
 unfolding outside
 test c = by_number (outside 1 8 c.args.count) (ranges_refusal c.args.numbers.worst c.args.numbers.span c.args.numbers.padding)
-    ∙ ap (λ (b : Bool). not (ltb c.args.count 1 || ltb 8 c.args.count || b)) (ap (λ (n : ℕ). not (eqb n 0)) (sym c.ranges_refusal.ensures) ∙ sym (refused_is c.ranges_refusal.result) ∙ sym c.is_err.ensures.value)
+    ∙ ap (λ (b : Bool). not (ltb c.args.count 1 || ltb 8 c.args.count || b)) (ap (λ (n : ℕ). not (eqb n 0)) (sym (ranges_told c.args.numbers.worst c.args.numbers.span c.args.numbers.padding _ c.ranges_refusal.ensures)) ∙ sym (refused_is c.ranges_refusal.result) ∙ sym c.is_err.ensures.value)
 
 pub returns-then-count-is_err : goal.returns-then-count-is_err
 unfolding begun if

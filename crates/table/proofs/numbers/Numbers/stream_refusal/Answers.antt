@@ -5,15 +5,17 @@ use mathlib.Core.Path.{◌≡◌, subst}
 use Prim.Native.Nat.{ℕ}
 use native.Mathlib.Omega.{arith}
 use lib.Dec.{ltb, eqb}
+use Rattle.table.specs.Fold.{if}
 use Rattle.table.specs.Ranges.{period_min, period_max}
 use Rattle.table.specs.Refusal.{given, ◌or_next◌, outside}
 use Rattle.table.specs.Admission.{granted_of, stream_refusal}
+use Rattle.table.specs.Margin.{refusal_of, answer_by}
 use Rattle.table.proofs.Tests.{within}
 use Rattle.table.proofs.numbers.Numbers.stream_refusal.Goals as goal
 use Rattle.table.proofs.numbers.Numbers.stream_refusal.Goals.{After-granted}
 
 pub returns-then-period : goal.returns-then-period
-unfolding stream_refusal given ◌or_next◌ outside
+unfolding stream_refusal given ◌or_next◌ outside answer_by refusal_of if
 returns-then-period c = rw c.if-period.true
 
 pub nonzero_rem-self : goal.nonzero_rem-self
@@ -21,7 +23,7 @@ unfolding outside
 nonzero_rem-self c = omega (arith, within period_min period_max c.args.stream.period c.if-period.false)
 
 pub returns-then-self-period-ne0 : goal.returns-then-self-period-ne0
-unfolding stream_refusal given ◌or_next◌ outside
+unfolding stream_refusal given ◌or_next◌ outside answer_by refusal_of if
 returns-then-self-period-ne0 c = rw (c.if-period.false, ne_eqb _ _ c.if-self-period-ne0.true)
 
 -- the test of 6, with the granted budget
@@ -35,9 +37,9 @@ tested : (c : After-granted) (b : Bool) → six c c.granted.result ≡ b → six
 tested c b = subst (λ (g : ℕ). six c g ≡ b) c.granted.ensures
 
 pub returns-then-reserved-period : goal.returns-then-reserved-period
-unfolding stream_refusal given ◌or_next◌ outside
+unfolding stream_refusal given ◌or_next◌ outside answer_by refusal_of if
 returns-then-reserved-period c = rw (c.if-period.false, eq-eqb _ _ c.if-self-period-ne0.false, tested c.before true c.if-reserved-period.true)
 
 pub returns : goal.returns
-unfolding stream_refusal given ◌or_next◌ outside
+unfolding stream_refusal given ◌or_next◌ outside answer_by refusal_of if
 returns c = rw (c.if-period.false, eq-eqb _ _ c.if-self-period-ne0.false, tested c.before false c.if-reserved-period.false)

@@ -6,8 +6,8 @@ use Prim.Native.Nat.{ℕ, zero, suc, ◌+◌, ◌-◌, ◌/◌, ◌%◌, min, �
 use native.Mathlib.Omega.{arith}
 use native.Mathlib.Numerals.{add-one}
 use native.Mathlib.Nat.{add-zero}
-use lib.ListN.{length, take, drop, set, length-append, length-drop, take-append-drop}
-use lib.Seq.{sets, sets-eq, set_out, length-sets, length-take-le, take-suc-set, take_all, drop-drop}
+use lib.ListN.{length, get_or, take, drop, set, length-append, length-drop, take-append-drop}
+use lib.Seq.{drop-cons, sets, sets-eq, set_out, length-sets, length-take-le, take-suc-set, take_all, drop-drop}
 use borrow.Rule.Slice.PartMut.{put_mid}
 use Rattle.std.proofs.lemmas.Bool.{cases_lt}
 use Rattle.cells.specs.Cells.{cell}
@@ -104,3 +104,10 @@ cell_stored items i run width rest n h l w e =
     let none : run - i ≡ 0 = omega arith in
     let full : take i items ++ [] ≡ cell run n = rw none at e in
     sym (append-nil items) ∙ ap (λ r. r ++ []) (sym (take_all i items (omega arith))) ∙ full ∙ sym (cell_start run width n w)
+
+-- a byte more of a run that is copied
+pub copy_more : (bytes out : List ℕ) (at i : ℕ) → i < length bytes
+    → sets (set out (at + i) (get_or bytes i 0)) (at + (i + 1)) (drop (i + 1) bytes) ≡ sets out (at + i) (drop i bytes)
+copy_more bytes out at i h =
+    let e : at + (i + 1) ≡ suc (at + i) = omega arith in
+    rw (e, add-one, drop-cons bytes i 0 h)

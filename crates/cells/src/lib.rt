@@ -35,7 +35,9 @@ pub fn put_number(out: &mut [u8], at: usize, width: usize, n: u64)
 pub fn put_bytes(out: &mut [u8], at: usize, bytes: &[u8])
     ensures { out.new ≡ sets out.old at bytes.now }
 {
-    let from = at.min(out.len());
-    let run = bytes.len().min(out.len() - from);
-    out[from..from + run].copy_from_slice(&bytes[..run]);
+    let run = bytes.len().min(out.len().saturating_sub(at));
+    // Byte by byte: by a copy of the slice the library that C links would need memmove, which it does without.
+    for i in 0..run {
+        out[at + i] = bytes[i];
+    }
 }

@@ -11,7 +11,7 @@ pub use line::entry_of;
 pub use lines::{judge, line_end};
 pub use taking::taken;
 
-// What a line says: nothing; that the table is begun, with its numbers and the limit of each desk; a booking; or nothing that can be understood. W, H and k stand apart, as `RefusedBeginning` has them.
+// What a line says: nothing; that the table is begun, with its numbers and the limit of each desk; a booking; or nothing that can be understood, which is a case of its own, since `stands`, `taken_by` and `replied_to` each say what becomes of it. W, H and k stand apart, as `RefusedBeginning` has them.
 #[derive(Clone, Copy)]
 pub enum Entry {
     Blank,

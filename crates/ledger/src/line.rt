@@ -37,7 +37,7 @@ fn uncommented(line: &[u8]) -> &[u8]
 fn phrase_of(text: &[u8]) -> Option<Phrase>
     ensures { result ≡ with_words (Some no_words) (words_after [] text.now) }
 {
-    let mut phrase = Phrase::none();
+    let mut phrase = Phrase::default();
     for part in text.split(|byte| is_gap(*byte)) {
         phrase = phrase.with(part)?;
     }

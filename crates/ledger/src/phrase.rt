@@ -1,14 +1,14 @@
 // A line that is read word by word.
 ghost use Rattle.std.specs.Prelude.{◌≡◌, [], ◌∷◌, Some};
 ghost use Rattle.ledger.specs.Entry.{numbers_entry};
-ghost use Rattle.ledger.specs.Phrase.{no_words, with_word, with_part, fields_entry};
+ghost use Rattle.ledger.specs.Phrase.{with_word, with_part, fields_entry};
 
 use crate::Entry;
 use booking::Booking;
 use notes::{Kind, read_as};
 
-// The words so far: how many there are, and what they are held as; the first is the name, and the others are numbers.
-#[derive(Clone, Copy)]
+// The words so far: how many there are, and what they are held as; the first is the name, and the others are numbers. There is no heap, so the cells have a length beside them.
+#[derive(Clone, Copy, Default)]
 pub(crate) struct Phrase {
     words: usize,
     held: [u64; Phrase::WORDS_MOST],
@@ -17,15 +17,6 @@ pub(crate) struct Phrase {
 impl Phrase {
     // A name, and at most the five numbers of a beginning.
     const WORDS_MOST: usize = 6;
-
-    pub(crate) fn none() -> Phrase
-        ensures { result ≡ no_words }
-    {
-        Phrase {
-            words: 0,
-            held: [0; Phrase::WORDS_MOST],
-        }
-    }
 
     // What stands between two gaps is a word more, if anything does.
     #[tactic(auto, using(crate::proofs::Phrases::no_part, crate::proofs::Phrases::some_part))]

@@ -37,9 +37,6 @@ fn passed_over(book: Book) -> Booked
 {
     Booked {
         book,
-        receipt: Receipt {
-            number: 0,
-            value: 0,
-        },
+        receipt: Receipt::default(),
     }
 }

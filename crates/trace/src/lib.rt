@@ -40,7 +40,8 @@ pub fn step(session: Session, number: u64, event: Event) -> Stepped
     if let Some(call) = call_of(event) {
         return called(session, number, call);
     }
-    let text = listing::line(number, 16, 0, 0, session.clock.micros(), 0);
+    let malformed = file::Refusal::Layout.number();
+    let text = listing::line(number, malformed, 0, 0, session.clock.micros(), 0);
     Stepped { session, text }
 }
 

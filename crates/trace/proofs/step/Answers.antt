@@ -9,4 +9,4 @@ returns-in-Some c = rw (sym c.call_of.ensures ∙ c.in-Some.is) c.called.ensures
 
 pub returns : goal.returns
 unfolding applied handed
-returns c = rw (c.line-text.ensures, c.micros.ensures, sym c.call_of.ensures ∙ c.in_default.is)
+returns c = rw (c.line-text.ensures, c.number-malformed.ensures, c.micros.ensures, sym c.call_of.ensures ∙ c.in_default.is)

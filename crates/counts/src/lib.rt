@@ -4,7 +4,6 @@
 mod run;
 
 ghost use Rattle.std.specs.Prelude.{◌≡◌};
-ghost use Rattle.counts.specs.Tally.{nothing};
 ghost use Rattle.counts.specs.Counts.{sum_of, none, both, opened_file, filed_of};
 ghost use Rattle.file.specs.Reading.{events_in};
 
@@ -14,7 +13,7 @@ use table::Table;
 use trace::Refusal;
 
 // What is counted of one stream.
-#[derive(Clone, Copy, Debug, PartialEq, Eq)]
+#[derive(Clone, Copy, Debug, Default, PartialEq, Eq)]
 pub struct Tally {
     pub jobs: u64,
     pub late: u64,
@@ -37,18 +36,6 @@ pub struct Filed {
 }
 
 impl Tally {
-    pub(crate) fn nothing() -> Tally
-        ensures { result ≡ nothing }
-    {
-        Tally {
-            jobs: 0,
-            late: 0,
-            expired: 0,
-            time: 0,
-            largest: 0,
-        }
-    }
-
     // Two tallies: counts and times added up, of the largest the largest. None where a sum passes 64 bits.
     fn and(self, other: Tally) -> Option<Tally>
         ensures { result ≡ sum_of self other }
@@ -65,10 +52,11 @@ impl Tally {
 
 impl Counts {
     // Of no files, or of no calls.
+    #[tactic(auto, unfolding(table::specs::Fold::list_to))]
     pub fn none() -> Counts
         ensures { result ≡ none }
     {
-        let rows = Some([Tally::nothing(); Table::STREAMS_MAX]);
+        let rows = Some([Tally::default(); Table::STREAMS_MAX]);
         Counts { rows }
     }
 
@@ -86,7 +74,7 @@ impl Counts {
     {
         let a = self.rows?;
         let b = other.rows?;
-        let mut rows = [Tally::nothing(); Table::STREAMS_MAX];
+        let mut rows = [Tally::default(); Table::STREAMS_MAX];
         for (i, row) in rows.iter_mut().enumerate() {
             *row = a[i].and(b[i])?;
         }

@@ -77,7 +77,7 @@ fn counted(session: Session, call: Call, reply: Reply) -> Counts
 {
     let told = Told::by(session, call, reply);
     let streams = session.streams;
-    let mut rows = [Tally::nothing(); Table::STREAMS_MAX];
+    let mut rows = [Tally::default(); Table::STREAMS_MAX];
     for (i, row) in rows.iter_mut().enumerate() {
         *row = told.of(streams[i].deadline, i);
     }

@@ -1,7 +1,0 @@
--- `Counts::none` has nothing in its rows.
-use Rattle.table.specs.Fold.{list_to}
-use Rattle.counts.proofs.Counts.none.Goals as goal
-
-pub returns : goal.returns
-unfolding list_to
-returns c = rw c.nothing.ensures

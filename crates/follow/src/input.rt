@@ -5,7 +5,7 @@ use logs::Follower;
 use std::io;
 use std::io::Read;
 
-// How far a listing was read: what was followed of it, and how many bytes of its last line are held at the start of the buffer.
+// How far a listing was read: what was followed of it, and how many bytes of its last line are held at the start of the buffer, which is lent beside it: a program has fixed memory and no heap.
 #[derive(Clone, Copy)]
 pub(crate) struct Listing {
     pub follower: Follower,

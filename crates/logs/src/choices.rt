@@ -149,7 +149,7 @@ fn is_send(session: Session, event: Event) -> bool
     matches!(event, Event::Turn) && sends(session, Call::Turn)
 }
 
-// Whether a call is answered by 21.
+// Whether a call is answered by 21. It is asked by the number, as the definition asks it: replies hold a refusal of any number too.
 fn sends(session: Session, call: Call) -> bool
     ensures { result ≡ sends session call }
 {

@@ -97,6 +97,7 @@ fn zero_of(times: u64) -> u64 {
     times / 4_294_967_296
 }
 
+// An opening is no call of a session: it has a loop of its own.
 fn openings(table: Table, order: Order, times: u64) -> Tally {
     let mut tally = Tally::default();
     let mut kept = table;

@@ -7,7 +7,7 @@ use std::fs::Files;
 use std::io;
 use std::io::Read;
 
-// The names so far: how much of the next one is in its buffer, and what was counted of the files before it.
+// The names so far: how much of the next one is in its buffer, and what was counted of the files before it. The buffer is lent beside it, since a program has fixed memory and no heap.
 #[derive(Clone, Copy)]
 struct Names {
     len: usize,
@@ -39,7 +39,7 @@ pub(crate) fn tally_input<R: Files + Print>(
     Ok(Some(names.totals))
 }
 
-// Goes over the bytes of a piece.
+// Goes over the bytes of a piece. The runtime, standard error and the two buffers are handed down as they are: a struct of these loans would be taken apart again at each call.
 fn tally_bytes<R: Files + Print>(
     rt: &R,
     err: &impl Print,

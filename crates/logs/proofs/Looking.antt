@@ -9,10 +9,8 @@ use lib.Dec.{leb, eqb}
 use borrow.Author.Tests.{leb-true, leb-false, ne_eqb}
 use Rattle.std.specs.Prelude.{Option, None, Some}
 use Rattle.std.specs.Option.{is_some}
-use Rattle.table.specs.Fold.{if, all_to}
+use Rattle.table.specs.Fold.{if}
 use Rattle.table.proofs.Tests.{both, by_if}
-use Rattle.table.proofs.Folds.{all_at}
-use Rattle.stream.specs.declared.Stream.{Stream}
 use Rattle.session.specs.declared.Session.{Session}
 use Rattle.file.specs.Reading.{events_in}
 use Rattle.table.specs.declared.refusal.Refusal.TheVariants.{Streams, Worst, Span, Padding, Period, Budget, Load}
@@ -20,7 +18,7 @@ use Rattle.file.specs.declared.refusal.Refusal.TheVariants.{Layout as NotLaidOut
 use Rattle.trace.specs.Refusal.{refusal_number}
 use Rattle.trace.specs.declared.refusal.Refusal.{Refusal}
 use Rattle.listing.specs.Line.{rendered, accepted_fields, place_fields}
-use Rattle.logs.specs.Choices.{alike, is_first, is_choice, stream_of_cell, index_of_cell, cells_max, own_turn_of, choices_from}
+use Rattle.logs.specs.Choices.{is_choice, stream_of_cell, index_of_cell, cells_max, own_turn_of, choices_from}
 use Rattle.logs.specs.Lines.{same_bytes}
 use Rattle.logs.specs.Following.{number_of, awaited, Next, next_by, nexts_at, nexts, lines_of_nexts, first_that_is, followed, with_line, is_nothing, is_whole, checked_by, report_of}
 use Rattle.logs.specs.Inner.{only_at}
@@ -190,12 +188,3 @@ module _ (f : Follower) (trace left : List ℕ) where
   pub report_rejected : is_whole f trace left ≡ false → report_of (checked_by f trace left) ≡ rendered (place_fields f.due) ∷ lines_of_nexts (nexts f trace)
   unfolding checked_by report_of if
   report_rejected e = rw e
-
--- a request with one like it before it is not the first
-pub one_alike : (x : Stream) (j k : ℕ) → k < j → true ≡ alike x k j → is_first x j ≡ false
-unfolding is_first
-one_alike x j k l same = go (all_to (λ i. not (alike x i j)) j) refl
-  where
-    go : (b : Bool) → all_to (λ i. not (alike x i j)) j ≡ b → b ≡ false
-    go true e = absurd (false≢true (ap not same ∙ all_at (λ i. not (alike x i j)) j e k l))
-    go false e = refl

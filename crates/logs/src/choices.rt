@@ -14,6 +14,7 @@ use stream::Stream;
 use table::Table;
 
 // The cells of all queues are counted through, those of each stream behind those of the one before it.
+// Two loops go over them: one stops at a line, and one at a count. Each counts the cells as `choices_from` does, on which its proof goes.
 const CELLS: usize = Table::STREAMS_MAX * Stream::QUEUE_MAX;
 
 // Looks for a line among those of what may stand for an event, and has the session after it.
@@ -104,6 +105,7 @@ fn own_turn_of(m: usize) -> Event
     }
 }
 
+// That j is the index of a place is a fact of one argument, and of each function that has it.
 // Whether request j of stream i, both counted from 0, may be sent: it is in the set, and the first of its queue with its place and tag. What is not queued is not looked at further.
 fn is_choice(session: Session, i: usize, j: usize) -> bool
     requires { (i < streams_max) × (j < queue_max) }
@@ -126,12 +128,7 @@ fn is_first(x: Stream, j: usize) -> bool
     requires { j < queue_max }
     ensures { result ≡ is_first x j }
 {
-    for k in 0..j {
-        if alike(x, k, j) {
-            return false;
-        }
-    }
-    true
+    (0..j).all(|k| !alike(x, k, j))
 }
 
 // Whether two requests of a queue have the same place and tag.
@@ -154,5 +151,6 @@ fn sends(session: Session, call: Call) -> bool
     ensures { result ≡ sends session call }
 {
     let answer = session.call(call);
+    // By the number, as the definition says it: a refusal has any number as far as its type goes.
     answer.reply.number() == 21
 }

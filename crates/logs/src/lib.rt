@@ -15,6 +15,7 @@ use table::Table;
 use trace::Refusal;
 
 // How far a listing was followed: the session after the lines so far; what refuses the file; the number of the line that is due, which stands where one did not follow too; and whether one did not.
+// The session and the line that is due stand still after a line that did not follow, and `report` reads both; so `failed` is a flag beside them.
 #[derive(Clone, Copy)]
 pub struct Follower {
     session: Session,

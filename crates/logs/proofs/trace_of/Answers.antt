@@ -1,5 +1,5 @@
 -- `trace_of` is the part of the file that reading names, or nothing of it.
-use mathlib.Core.Path.{sym, ◌∙◌}
+use mathlib.Core.Path.{sym}
 use native.Mathlib.Omega.{arith}
 use Rattle.file.proofs.Round.{accepted_is_within}
 use Rattle.logs.proofs.Files.{no_trace, trace_read}

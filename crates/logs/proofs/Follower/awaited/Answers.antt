@@ -1,5 +1,4 @@
 -- `awaited` makes the tests of its definition.
-use mathlib.Core.Path.{sym, ◌∙◌}
 use borrow.Author.Tests.{le-leb, lt-leb}
 use Rattle.table.specs.Fold.{if}
 use Rattle.logs.specs.Following.{awaited}

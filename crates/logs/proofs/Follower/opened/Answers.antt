@@ -1,5 +1,5 @@
 -- `opened` has the session of the opening, and what refuses the table.
-use mathlib.Core.Path.{◌≡◌, sym, ap, ◌∙◌}
+use mathlib.Core.Path.{sym, ap, ◌∙◌}
 use Rattle.session.specs.declared.Opened.{Opened}
 use Rattle.logs.specs.Following.{starting, unadmitted, opened_at}
 use Rattle.logs.proofs.Follower.opened.Goals as goal

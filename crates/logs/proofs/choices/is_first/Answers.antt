@@ -1,24 +1,20 @@
-use mathlib.Core.Path.{◌≡◌, refl, sym}
-use native.Mathlib.Numerals.{add-one}
+-- `is_first` looks at the earlier requests up to the first that is like it.
+use mathlib.Core.Bool.{true, false, not}
+use mathlib.Core.Path.{◌≡◌, refl}
 use native.Mathlib.Omega.{arith}
-use Rattle.table.specs.Fold.{all_to}
-use Rattle.logs.specs.Choices.{is_first}
-use Rattle.logs.proofs.Looking.{one_alike}
+use borrow.Author.Rules.{rules}
+use borrow.Author.Tests.{tests as facts}
+use Rattle.std.proofs.lemmas.Iterator.{YieldsList-from_range}
+use Rattle.std.proofs.lemmas.Iterator.{cases_from_all}
+use Rattle.file.proofs.Trace.{all_ranged}
+use Rattle.logs.specs.Choices.{alike, is_first}
 use Rattle.logs.proofs.choices.is_first.Goals as goal
-
-pub loop-k-init : goal.loop-k-init
-unfolding all_to
-loop-k-init c = refl
-
-pub returns-then-alike : goal.returns-then-alike
-returns-then-alike c = sym (one_alike c.args.x c.args.j c.loop-k.k (omega arith) c.if-alike.ensures)
-
-pub loop-k-preserved : goal.loop-k-preserved
-unfolding all_to
-loop-k-preserved c = rw (add-one, c.loop-k.invariant, sym c.if-alike.ensures)
 
 pub returns : goal.returns
 unfolding is_first
 returns c =
-    let all : c.loop-k.k ≡ c.args.j = omega arith in
-    sym (rw all at c.loop-k.invariant)
+    let a = c.args in
+    all_ranged (λ i. not (alike a.x i a.j)) a.j _
+    (cases_from_all _ _ _ (λ i. not (alike a.x i a.j) ≡ true) (λ i. not (alike a.x i a.j) ≡ false) c.all.ensures.ran (YieldsList-from_range 0 a.j a.j refl (omega arith))
+    (λ x q k. search (rules, facts))
+    (λ x q k. search (rules, facts)))

@@ -8,9 +8,7 @@ pub fn closed_up<T: Copy, const N: usize>(empty: T, cells: [T; N], j: usize) -> 
     ensures { result ≡ closed_up empty j cells }
 {
     let mut left = cells;
-    for i in j..N - 1 {
-        left[i] = cells[i + 1];
-    }
+    left.copy_within(j + 1.., j);
     left[N - 1] = empty;
     left
 }

@@ -68,7 +68,7 @@ fn budgets(judged: Judged) -> [u64; Table::STREAMS_MAX]
     budget
 }
 
-// The first stream that has the period of stream i.
+// The first stream that has the period of stream i. That i is one of the eight is asked here alone, and the one loop that calls it has it.
 fn first_with(period: [u32; Table::STREAMS_MAX], i: usize) -> usize
     requires { i < streams_max }
     ensures { result ≡ first_with (λ j. get_or period j 0) i }

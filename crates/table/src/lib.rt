@@ -23,7 +23,7 @@ pub use refusal::Refusal;
 pub use reservations::{Records, Reservation, record_at, take_in};
 pub use signed::{above_zero, below_zero};
 
-// The numbers of a table, as booked. Of its eight places for streams the first `count` are used.
+// The numbers of a table, as booked. Of its eight places for streams the first `count` are used: a count beside fixed rows, as C has them.
 #[repr(C)]
 #[derive(Clone, Copy, Debug, Default, PartialEq, Eq)]
 pub struct Table {

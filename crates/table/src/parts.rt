@@ -1,6 +1,5 @@
 // What is judged of a table before its load.
-ghost use Rattle.std.specs.Prelude.{◌≡◌, ◌≤◌, IfOk};
-ghost use Rattle.table.specs.Ranges.{streams_max};
+ghost use Rattle.std.specs.Prelude.{◌≡◌, IfOk};
 ghost use Rattle.table.specs.Refusal.{refused_by};
 ghost use Rattle.table.specs.Admission.{numbers_refusal, streams_refusal, parts_refusal};
 ghost use Rattle.table.specs.Margin.{answer_by};
@@ -38,7 +37,6 @@ pub fn numbers_refusal(t: Table) -> Result<(), Refusal>
 
 // 5 and 6, stream by stream.
 fn streams_refusal(t: Table) -> Result<(), Refusal>
-    requires { t.count ≤ streams_max }
     ensures { refused_by result ≡ streams_refusal t }
 {
     let numbers = t.numbers();

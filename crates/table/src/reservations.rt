@@ -13,7 +13,7 @@ pub struct Reservation {
     pub period: u32,
 }
 
-// What is taken of a lent slice: its first eight records, zeros past its end, and its true length.
+// What is taken of a lent slice: its first eight records, zeros past its end, and its true length: a count beside fixed cells, as C has them.
 #[repr(C)]
 #[derive(Clone, Copy, Debug, Default, PartialEq, Eq)]
 pub struct Records {

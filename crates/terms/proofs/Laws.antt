@@ -1,18 +1,24 @@
 -- The number of a verdict is opening's, and nothing is cut off where W is taken from a granted budget.
+use mathlib.Core.Bool.{Bool, true, false}
 use mathlib.Core.Path.{◌≡◌, refl, sym, ◌∙◌}
 use mathlib.Core.Logic.{◌⊎◌, inl, inr}
 use Prim.Native.Nat.{ℕ, zero, suc, ◌+◌, ◌-◌, ◌≤◌}
 use native.Mathlib.Nat.{mul-le-mul_right}
 use native.Mathlib.Omega.{arith}
-use lib.Dec.{lit≤}
+use lib.Dec.{eqb, lit≤}
 use borrow.Author.Tests.{ne_eqb}
+use Rattle.std.proofs.Common.{Ok, Err, Some, None}
+use Rattle.std.specs.Result.{result_err}
 use Rattle.table.specs.Fold.{if}
 use Rattle.table.specs.Refusal.{◌or_next◌}
 use Rattle.table.specs.Admission.{padding_of, granted_of, numbers_refusal, stream_refusal, stream_refusal_at, streams_refusal, admission_of}
+use Rattle.table.specs.Margin.{margin_of, margin, refusal_of, answered, answer_of}
 use Rattle.table.specs.declared.Table.{Table}
+use Rattle.table.specs.declared.margin.Margin.{Margin}
+use Rattle.table.specs.declared.refusal.Refusal.{Refusal}
 use Rattle.table.proofs.Tests.{or_next_first, or_next_high, given_high}
-use Rattle.terms.specs.Terms.{terms_of, refused_stream, stream_verdict, load_verdict, verdict_of}
-use Rattle.terms.specs.Laws.{VerdictIsOpenings, NothingCut}
+use Rattle.terms.specs.Terms.{terms_of, refused_stream, stream_verdict, load_verdict, verdict_of, as_said}
+use Rattle.terms.specs.Laws.{VerdictIsOpenings, RefusalIsOpenings, NothingCut}
 use Rattle.terms.proofs.Found.{Found, NoneFound, search_first}
 
 -- 1 to 4 are at most 4, and 5 and 6 at most 6
@@ -54,6 +60,17 @@ module _ (t : Table) where
 
 pub verdict_is_openings : VerdictIsOpenings
 verdict_is_openings t = by_numbers t (numbers_refusal t) refl
+
+-- a refusal where the test fails is what an answer tells of itself
+told_of : (b : Bool) (m : Margin) (r : Refusal) → if b None (Some r) ≡ result_err (if b (Ok m) (Err r))
+unfolding if
+told_of true m r = refl
+told_of false m r = refl
+
+pub refusal_is_openings : RefusalIsOpenings
+unfolding as_said answer_of answered
+refusal_is_openings t =
+    rw (verdict_is_openings t) (told_of (eqb (admission_of t) 0) (margin (margin_of t)) (refusal_of (admission_of t) (margin_of t)))
 
 -- the stream that refuses is one of the table's, and where none does, opening goes on to the load
 pub stream_below : (t : Table) → (refused_stream t ≡ 0 → ⊥) → refused_stream t ≤ t.count

@@ -1,7 +1,8 @@
 -- What is proved of the terms.
 use Rattle.std.specs.Prelude.{true, List, ◌↔◌, ◌≡◌, ℕ, ◌+◌, ◌-◌, ◌≤◌, ◌<◌}
 use Rattle.table.specs.Admission.{reserved_at, period_at, with_reserved, granted_of, parts_refusal, admission_of}
-use Rattle.table.specs.Margin.{margin_of}
+use Rattle.std.specs.Result.{result_err}
+use Rattle.table.specs.Margin.{margin_of, answer_of}
 use Rattle.table.specs.declared.Table.{Table}
 use Rattle.session.specs.declared.Session.{Session}
 use Rattle.calls.specs.declared.Call.{Call}
@@ -11,11 +12,15 @@ use Rattle.session.specs.Promise.{completion, EachClosed}
 use Rattle.terms.specs.declared.Terms.{Terms}
 use Rattle.terms.specs.declared.Change.{Change}
 use Rattle.terms.specs.declared.Change.TheVariants.{Grow, Shrink, NotAlone}
-use Rattle.terms.specs.Terms.{terms_of, change_of, verdict_of}
+use Rattle.terms.specs.Terms.{terms_of, change_of, verdict_of, as_said}
 
 -- The number of a verdict is the one that opening answers.
 abbrev pub VerdictIsOpenings : Type 0
 VerdictIsOpenings = (t : Table) → (verdict_of t).number ≡ admission_of t
+
+-- And the refusal that is said with it is the one that opening answers, 7 with its margin, or none where the table is admitted.
+abbrev pub RefusalIsOpenings : Type 0
+RefusalIsOpenings = (t : Table) → (as_said (margin_of t) (verdict_of t)).refusal ≡ result_err (answer_of t)
 
 -- The disk time that a card may print is not below the reserved time, and W below the granted budget: nothing is cut off where W is taken away.
 abbrev pub NothingCut : Type 0

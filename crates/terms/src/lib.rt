@@ -149,7 +149,7 @@ fn beyond(low: u64, high: u64, n: u64) -> Finding
     }
 }
 
-// The first stream that has a refusal of its own, counted from 0, with that refusal.
+// The first stream that has a refusal of its own, counted from 0, with that refusal. `table` asks the same streams for the refusal alone: one search for both would be public there, with an answer of its own in its specs.
 fn refused_stream(t: Table) -> Option<(usize, Refusal)>
     ensures { MatchOption result (refused_stream t ≡ 0) (λ found. (refused_stream t ≡ found.0 + 1) × (refusal_number found.1 ≡ stream_refusal_at t found.0)) }
 {

@@ -28,6 +28,7 @@ pub struct Exact {
     below: u64,
 }
 
+// Five functions here and of `Charge` ask that a number is at most the session's end: of one argument each. A type that keeps it would refuse clocks that images carry.
 impl Clock {
     // No clock and no deadline passes the session's end.
     pub const END: u64 = 1_000_000_000_000;

@@ -4,7 +4,6 @@ use Rattle.std.proofs.lemmas.Result.{err_from_is_err_and}
 use Rattle.table.specs.Refusal.{◌or_next◌}
 use Rattle.table.specs.Admission.{parts_refusal}
 use Rattle.table.proofs.Tests.{or_next_first}
-use Rattle.table.proofs.Judged.{numbers_of}
 use Rattle.table.proofs.Margins.{refusal_some, numbers_told}
 use Rattle.table.proofs.parts.Judged.of.Goals as goal
 
@@ -14,9 +13,6 @@ returns-in_err-numbers_refusal-clause-number c =
     let p = err_from_is_err_and c.from_residual.result c.from_residual.ensures.1 in
     let h = numbers_told c.args.table _ c.in_err-numbers_refusal.ensures in
     rw (p.1, p.2) (h ∙ sym (or_next_first _ _ (λ z. refusal_some _ (h ∙ z))))
-
-pub streams_refusal-requires : goal.streams_refusal-requires
-streams_refusal-requires c = (numbers_of _ (sym (numbers_told c.args.table _ c.in_ok-numbers_refusal.ensures))).count_high
 
 pub returns-in_err-streams_refusal-clause-number : goal.returns-in_err-streams_refusal-clause-number
 unfolding parts_refusal ◌or_next◌

@@ -9,7 +9,7 @@ use ledger::{Entry, Fault};
 use order::Order;
 use std::io;
 use std::io::Read;
-use table::{Numbers, Table};
+use table::Table;
 
 // The buffer holds 65,536 bytes. Where a byte is left behind them, it is read.
 fn main(rt: HostRuntime) -> io::Result<()> {
@@ -71,12 +71,7 @@ fn print_receipt(rt: &impl Print, receipt: Receipt) -> io::Result<()> {
 fn print_notes(rt: &impl Print, book: Book) -> io::Result<()> {
     let finished = book.finish().finished;
     if finished.number == 0 {
-        let numbers = Numbers {
-            worst: book.worst,
-            span: book.span,
-            padding: book.padding,
-        };
-        print_table(rt, Table::of(numbers, finished.records))?;
+        print_table(rt, Table::of(book.numbers(), finished.records))?;
     }
     Ok(())
 }

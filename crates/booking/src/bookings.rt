@@ -9,7 +9,7 @@ use crate::{Book, Booked, Booking, Closed, Desk, Finished, Receipt};
 use table::{Numbers, Records, Reservation, Table};
 
 impl Book {
-    // Begins a table with W, H, k and the limits of desk 1 and desk 2: 2, 3, 4, and then the table is all zero.
+    // Begins a table with W, H, k and the limits of desk 1 and desk 2: 2, 3, 4, and then the table is all zero. The limits are two, as C's function has them.
     pub fn begin(numbers: Numbers, limit1: u64, limit2: u64) -> Booked
         ensures { result ≡ begun_of numbers.worst numbers.span numbers.padding limit1 limit2 }
     {
@@ -29,7 +29,7 @@ impl Book {
         }
     }
 
-    // A stream more of a desk: 31, 30, 1, 5, 6, 18, 7.
+    // A stream more of a desk: 31, 30, 1, 5, 6, 18, 7. Reserved time and period stand apart, as in C's function and in the file of bookings.
     pub fn add(self, desk: u64, reserved: u32, period: u32) -> Booked
         ensures { result ≡ add_of self desk reserved period }
     {

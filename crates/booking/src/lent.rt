@@ -1,8 +1,8 @@
 // The same over a table that is lent.
 ghost use Rattle.std.specs.Prelude.{◌≡◌};
-ghost use Rattle.booking.specs.Bookings.{begun_of, add_of, withdraw_of, closed_of};
+ghost use Rattle.booking.specs.Bookings.{begun_of, booking_of};
 
-use crate::{Book, Booked, Finished, Receipt};
+use crate::{Book, Booked, Booking, Receipt};
 use table::Numbers;
 
 impl Book {
@@ -13,25 +13,12 @@ impl Book {
         self.keep(Self::begin(numbers, limit1, limit2))
     }
 
-    pub fn add_lent(&mut self, desk: u64, reserved: u32, period: u32) -> Receipt
-        ensures { (result ≡ (add_of self.old desk reserved period).receipt) × (self.new ≡ (add_of self.old desk reserved period).book) }
+    // Either booking.
+    pub fn book_lent(&mut self, booking: Booking) -> Receipt
+        ensures { (result ≡ (booking_of self.old booking).receipt) × (self.new ≡ (booking_of self.old booking).book) }
     {
-        let booked = (*self).add(desk, reserved, period);
+        let booked = (*self).book(booking);
         self.keep(booked)
-    }
-
-    pub fn withdraw_lent(&mut self, desk: u64, number: u64) -> Receipt
-        ensures { (result ≡ (withdraw_of self.old desk number).receipt) × (self.new ≡ (withdraw_of self.old desk number).book) }
-    {
-        let booked = (*self).withdraw(desk, number);
-        self.keep(booked)
-    }
-
-    // The table is what it was.
-    pub fn finish_lent(&mut self) -> Finished
-        ensures { (result ≡ (closed_of self.old).finished) × (self.new ≡ (closed_of self.old).book) }
-    {
-        (*self).finish().finished
     }
 
     // Keeps the table that a booking hands back, and passes its reply on.

@@ -15,7 +15,7 @@ ghost use Rattle.booking.specs.Bookings.{empty_desk, with_stream, without_stream
 
 use table::{Numbers, Records, Reservation, Table, closed_up};
 
-// What one desk has booked, and the limit on the sum of its streams' shares. Of its eight cells the first `count` are used, in order of booking; the others are 0.
+// What one desk has booked, and the limit on the sum of its streams' shares. Of its eight cells the first `count` are used, in order of booking; the others are 0. A count beside fixed cells, as C has them.
 #[repr(C)]
 #[derive(Clone, Copy, Debug, Default, PartialEq, Eq)]
 pub struct Desk {
@@ -36,7 +36,7 @@ pub struct Book {
     pub second: Desk,
 }
 
-// The reply to a booking: 0 and how many streams the desk has then, or the number of a refusal and 0.
+// The reply to a booking: 0 and how many streams the desk has then, or the number of a refusal and 0. Numbers, as C has them.
 #[repr(C)]
 #[derive(Clone, Copy, Debug, Default, PartialEq, Eq)]
 pub struct Receipt {
@@ -51,7 +51,7 @@ pub struct Booked {
     pub receipt: Receipt,
 }
 
-// The streams of a finished table, as opening takes them, and 0; or 31, and none.
+// The streams of a finished table, as opening takes them, and 0; or 31, and none. Numbers, as C has them.
 #[repr(C)]
 #[derive(Clone, Copy, Debug, Default, PartialEq, Eq)]
 pub struct Finished {
@@ -129,7 +129,7 @@ impl Desk {
 
 impl Book {
     // W, H and k.
-    fn numbers(self) -> Numbers
+    pub fn numbers(self) -> Numbers
         ensures { result ≡ numbers_of self }
     {
         Numbers {

@@ -13,7 +13,7 @@ ghost use Rattle.shelf.specs.Image.{opened_as, answered_as, viewed_as, state_as,
 ghost use Rattle.shelf.specs.Filed.{read_as, wrote_as, wrote_on};
 
 use answers::{call, closing, open, state, view};
-use booking::{Book, Finished, Receipt};
+use booking::{Book, Booking, Finished, Receipt};
 use calls::Call;
 use file::{Form, Refusal};
 pub use images::{Filed, Image, Moment, Opening, Told, Wrote};
@@ -185,7 +185,11 @@ pub extern "C" fn yerbagunt_begin(
 pub extern "C" fn yerbagunt_add(book: &mut Book, desk: u64, reserved: u32, period: u32) -> Receipt
     ensures { (result ≡ (add_of book.old desk reserved period).receipt) × (book.new ≡ (add_of book.old desk reserved period).book) }
 {
-    book.add_lent(desk, reserved, period)
+    book.book_lent(Booking::Add {
+        desk,
+        reserved,
+        period,
+    })
 }
 
 // One stream less of a desk.
@@ -193,7 +197,7 @@ pub extern "C" fn yerbagunt_add(book: &mut Book, desk: u64, reserved: u32, perio
 pub extern "C" fn yerbagunt_withdraw(book: &mut Book, desk: u64, number: u64) -> Receipt
     ensures { (result ≡ (withdraw_of book.old desk number).receipt) × (book.new ≡ (withdraw_of book.old desk number).book) }
 {
-    book.withdraw_lent(desk, number)
+    book.book_lent(Booking::Withdraw { desk, number })
 }
 
 // The streams of a finished table, as opening takes them.

@@ -6,10 +6,8 @@ use Prim.Native.Nat.{ℕ, zero, suc, ◌+◌, ◌-◌, ◌≤◌, ◌<◌}
 use native.Mathlib.Nat.{not-suc-le-zero, suc-le-suc_iff}
 use native.Mathlib.Numerals.{add-one}
 use native.Mathlib.Omega.{arith}
-use lib.ListN.{length, get_or, take, drop, set, length-append, length-take, length-drop, length-set, get_or-append, get_or-map}
-use lib.Seq.{paste, drop-cons, set-append_seam, length-take-le, take_all, take-suc, take-suc-set, take-append-le, get_or-set_same, get_or-set_other, map-set_same, get_or-drop, get_or_at, get_or-append-add}
-use Rattle.std.proofs.lemmas.List.{drop_all, set-append_right}
-use Rattle.std.proofs.lemmas.List.Edits.{paste_all}
+use lib.ListN.{length, get_or, take, drop, set, length-append, length-take, length-drop, length-set, get_or-append, get_or-map, get_or-eq_default}
+use lib.Seq.{length-take-le, take_at, take_all, take-suc, take-suc-set, take-append-le, get_or-set_same, get_or-set_other, map-set_same, get_or-drop, get_or_at, get_or-append-add}
 use Rattle.table.specs.Fold.{closed_up, leaving, list_to}
 use Rattle.table.proofs.Tests.{le_or_lt}
 use Rattle.table.proofs.Folds.{at_or_below}
@@ -133,25 +131,42 @@ module _ {A B : Type 0} (f : A → B) (xs : List A) (d : A) where
 pub relisted : {A : Type 0} (xs : List A) (d : A) (n : ℕ) → length xs ≡ n → list_to (λ i. get_or xs i d) n ≡ xs
 relisted xs d n e = mapped (λ x. x) xs d n e ∙ map-id xs
 
--- a row of cells closes up over the one at j: those behind it are moved a place lower, and the last is empty then
-pub closing_moved : {A : Type 0} (row : List A) (empty : A) (j n k : ℕ) → length row ≡ n → j < n → k ≡ n - (j + 1)
-    → set (paste row j (drop (j + 1) row) k) (n - 1) empty ≡ closed_up empty j row
-closing_moved row empty j n k cells hj is =
-    let behind : length (drop (j + 1) row) ≡ n - (j + 1) = omega (arith, length-drop (j + 1) row, cells) in
-    let front : length (take j row) ≡ j = length-take-le j row (omega (arith, cells)) in
-    let all : k ≡ length (drop (j + 1) row) = omega (arith, is, behind) in
-    let end : j + k ≡ n - 1 = omega (arith, is) in
-    let last : n - 1 - j ≡ length (drop (j + 1) row) = omega (arith, behind) in
-    let none : drop (suc (n - 1)) row ≡ [] = drop_all (suc (n - 1)) row (omega (arith, cells)) in
-    ap (λ (l : List _). set l (n - 1) empty)
-    (paste_all row j (drop (j + 1) row) k all
-    ∙ ap (λ (m : ℕ). take j row ++ (drop (j + 1) row ++ drop m row)) end
-    ∙ ap (λ (l : List _). take j row ++ (drop (j + 1) row ++ l)) (drop-cons row (n - 1) empty (omega (arith, cells))))
-    ∙ set-append_right (take j row) (drop (j + 1) row ++ (get_or row (n - 1) empty ∷ drop (suc (n - 1)) row)) j (n - 1) empty front (omega arith)
-    ∙ ap (λ (m : ℕ). take j row ++ set (drop (j + 1) row ++ (get_or row (n - 1) empty ∷ drop (suc (n - 1)) row)) m empty) last
-    ∙ ap (λ (l : List _). take j row ++ l) (set-append_seam (drop (j + 1) row) (get_or row (n - 1) empty) (drop (suc (n - 1)) row) empty)
-    ∙ ap (λ (l : List _). take j row ++ (drop (j + 1) row ++ (empty ∷ l))) none
-    ∙ ap (λ (m : ℕ). take j row ++ (drop m row ++ (empty ∷ []))) (add-one j)
+-- a row of cells closes up over the one at j, cell by cell
+module _ {A : Type 0} (row : List A) (empty : A) (j n : ℕ) (cells : length row ≡ n) (hj : j < n) where
+  -- what it has in a cell afterwards
+  abbrev closed_cell : ℕ → A
+  closed_cell x = get_or (closed_up empty j row) x empty
+
+  long : length (closed_up empty j row) ≡ n
+  long = length_closed_up row empty j (omega (arith, cells)) ∙ cells
+
+  -- the cells before j are as they were
+  pub closing_starts : Filled closed_cell row j n
+  closing_starts =
+      record {
+        cells = cells;
+        front =
+            sym
+            (front_mapped (λ (x : A). x) (closed_up empty j row) empty j (omega (arith, long))
+            ∙ map-id (take j (closed_up empty j row))
+            ∙ take_at (take j row) (drop (suc j) row ++ (empty ∷ [])) j (length-take-le j row (omega (arith, cells))));
+      }
+
+  -- each next cell takes what stood behind it
+  pub closing_goes_on : (left : List A) (i : ℕ) → j ≤ i → i < n → Filled closed_cell left i n
+      → Filled closed_cell (set left i (get_or row (i + 1) empty)) (i + 1) n
+  closing_goes_on left i le l q =
+      let behind : closed_cell i ≡ get_or row (i + 1) empty = get_d_closed_up row empty j (omega (arith, cells)) i le ∙ ap (λ (n : ℕ). get_or row n empty) (sym (add-one i)) in
+      subst (λ (v : A). Filled closed_cell (set left i v) (i + 1) n) behind (filled_more closed_cell left i n l q)
+
+  -- and the last is empty
+  pub closing_ends : (left : List A) (last : ℕ) → last + 1 ≡ n → Filled closed_cell left last n → set left last empty ≡ closed_up empty j row
+  closing_ends left last e q =
+      let free : get_or row (last + 1) empty ≡ empty = get_or-eq_default row empty {n = last + 1} (omega (arith, cells)) in
+      let all : Filled closed_cell (set left last (get_or row (last + 1) empty)) n n = subst (λ (m : ℕ). Filled closed_cell (set left last (get_or row (last + 1) empty)) m n) e (closing_goes_on left last (omega arith) (omega arith) q) in
+      ap (set left last) (sym free)
+      ∙ filled_all closed_cell (set left last (get_or row (last + 1) empty)) n all
+      ∙ relisted (closed_up empty j row) empty n long
 
 -- a list that leaves one out: it is as it was before that one, and from there on each stands one place lower
 module _ {A : Type 0} (d : A) where

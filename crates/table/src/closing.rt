@@ -8,7 +8,10 @@ pub fn closed_up<T: Copy, const N: usize>(empty: T, cells: [T; N], j: usize) -> 
     ensures { result ≡ closed_up empty j cells }
 {
     let mut left = cells;
-    left.copy_within(j + 1.., j);
+    // One by one: by `copy_within` the library that C links would need memmove, which it does without.
+    for i in j..N - 1 {
+        left[i] = cells[i + 1];
+    }
     left[N - 1] = empty;
     left
 }

@@ -126,7 +126,7 @@ fn say_expected(err: &impl Print, expected: Expected) -> io::Result<()> {
     })
 }
 
-// A proved loop has to end, and nothing says that an input does. So the loop counts its turns, up to a number that no run comes to.
+// A proved loop has to end, and nothing says that an input does. So the loop counts its turns, up to a number that no run comes to. It stops where there is no more to read.
 fn read_notes(from: &mut impl Read, trace: &mut [u8]) -> io::Result<Notes> {
     let mut notes = Notes::start();
     let mut piece = [0u8; given::NAME_ROOM];

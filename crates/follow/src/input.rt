@@ -13,7 +13,7 @@ pub(crate) struct Listing {
 }
 
 // Reads a listing to its end, or as far as it follows: no further than a line that does not follow, or one that fills the buffer.
-// A proved loop has to end, and nothing says that an input does. So the loop counts its turns, up to a number that no run comes to.
+// A proved loop has to end, and nothing says that an input does. So the loop counts its turns, up to a number that no run comes to. It stops where there is no more to read, where a line fills the buffer, or where one does not follow.
 pub(crate) fn follow_input(
     from: &mut impl Read,
     follower: Follower,

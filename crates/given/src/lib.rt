@@ -66,7 +66,7 @@ pub fn remove(files: &impl Files, name: &[u8]) -> io::Result<()>
     fs::remove_file(files, path(name)?)
 }
 
-// A name as text: one that is none in UTF-8 cannot be handed to the system.
+// A name as text: one that is none in UTF-8 cannot be handed to the system. That it is text is a fact of one argument, and of each function that has it.
 fn path(name: &[u8]) -> io::Result<&str>
     ensures { MatchResult result (λ p. (p.now ≡ name.now) × IsUtf8 name.now) (λ _. ¬ (IsUtf8 name.now)) }
 {

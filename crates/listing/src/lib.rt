@@ -118,7 +118,7 @@ pub fn line(number: u64, answer: u64, stream: u64, value: u64, clock: u64, tag: 
     numbered(number, &[answer, stream, value, clock, tag])
 }
 
-// The line that says by which number a file was refused and, where its load is over the span, by how much.
+// The line that says by which number a file was refused and, where its load is over the span, by how much; 0 stands for none, as the definitions say it.
 pub fn refused(number: u64, over: u64) -> Text
     ensures { result ≡ text_of (refused_fields number over) }
 {

@@ -151,6 +151,5 @@ fn sends(session: Session, call: Call) -> bool
     ensures { result ≡ sends session call }
 {
     let answer = session.call(call);
-    // By the number, as the definition says it: a refusal has any number as far as its type goes.
     answer.reply.number() == 21
 }

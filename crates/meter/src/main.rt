@@ -86,7 +86,7 @@ fn repeated(session: Session, event: Event, times: u64) -> Tally {
         Event::Done { duration } => calls(session, times, |kept: &Session| kept.done(duration)),
         Event::Clock { time } => calls(session, times, |kept: &Session| kept.clock(time)),
         Event::Malformed => Tally {
-            number: 16,
+            number: file::Refusal::Layout.number(),
             mixed: 0,
         },
     }

@@ -13,6 +13,7 @@ use std::io::{Read, Seek};
 const PLACES: usize = 4_097;
 
 // Prints the list of changes, as far as the file can be read.
+// As in `gather`, the loop counts its turns, up to a number that no run comes to. It stops at a piece that is shorter.
 pub(crate) fn print_changes<F: Read + Seek>(
     rt: &impl Print,
     old: &mut F,

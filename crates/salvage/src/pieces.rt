@@ -8,7 +8,7 @@ use file::Event;
 use std::io::{Read, Seek, SeekFrom};
 
 // Keeps what is sound of a trace that starts at an index of the file, up to 4,000 events, and answers how many they are.
-// A proved loop has to end, and nothing says that a file does. So the loop counts its turns, up to a number that no run comes to.
+// A proved loop has to end, and nothing says that a file does. So the loop counts its turns, up to a number that no run comes to. It stops at a piece that is shorter, or where no event more may be kept.
 #[tactic(auto, using(repair::proofs::Kept::kept_few))]
 pub(crate) fn gather<F: Read + Seek>(
     old: &mut F,

@@ -15,7 +15,7 @@ struct Names {
 }
 
 // Tallies the files that standard input names; None where it cannot be read. The last name ends with the input.
-// A proved loop has to end, and nothing says that an input does. So the loop counts its turns, up to a number that no run comes to.
+// A proved loop has to end, and nothing says that an input does. So the loop counts its turns, up to a number that no run comes to. It stops where there is no more to read.
 pub(crate) fn tally_input<R: Files + Print>(
     rt: &R,
     err: &impl Print,

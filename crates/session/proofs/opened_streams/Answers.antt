@@ -16,9 +16,6 @@ pub loop-i-init : goal.loop-i-init
 unfolding list_to
 loop-i-init c = (omega arith, record { cells = refl; front = refl }, λ j low l. get_or-replicate 8 j _ no_stream l ∙ c.fresh-unused.ensures)
 
-pub opened_stream-requires : goal.opened_stream-requires
-opened_stream-requires c = (omega arith, c.requires)
-
 pub loop-i-preserved : goal.loop-i-preserved
 loop-i-preserved c =
     let at = c.loop-i in

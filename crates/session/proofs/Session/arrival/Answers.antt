@@ -35,9 +35,6 @@ here c = named c.args.self c.args.stream (own c)
 among_eight : (c : Else-stream-self) → c.args.stream - 1 < 8
 among_eight c = inside _ (past_31 _ _ c.is_sound.ensures c.if-not-is_sound.false) _ (here c).1
 
-pub overflow_sub-n : goal.overflow_sub-n
-overflow_sub-n c = (here (goal.at.overflow_sub-n c).Else-stream-self).0
-
 pub offset_bounds-self-n : goal.offset_bounds-self-n
 offset_bounds-self-n c = offset_fits _ _ (among_eight (goal.at.offset_bounds-self-n c).Else-stream-self) refl
 

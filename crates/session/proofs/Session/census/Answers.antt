@@ -2,14 +2,12 @@ use mathlib.Core.Path.{◌≡◌, sym, ap, ◌∙◌, subst}
 use Prim.Native.Nat.{ℕ, suc}
 use native.Mathlib.Numerals.{add-one}
 use native.Mathlib.Omega.{arith}
-use lib.ListN.{length, length-map}
-use Rattle.stream.specs.contracts.Stream as Cells
 use Rattle.std.proofs.Common.{Option, Some, None}
 use Rattle.stream.specs.Search.{counted}
 use Rattle.stream.specs.declared.census.Census.{Census}
 use Rattle.session.specs.Session.{stream_at}
 use Rattle.session.specs.Inner.{counted_on, census_to}
-use Rattle.session.proofs.InUse.{used_in, used_is, used_all}
+use Rattle.session.proofs.InUse.{used_in, used_is}
 use Rattle.session.proofs.Counted.{counted_to, countable, few_counted, none_on}
 use Rattle.session.proofs.Session.census.Goals as goal
 use Rattle.session.proofs.Session.census.Goals.{After-begin}
@@ -60,11 +58,3 @@ loop-x-preserved c =
     ∙ sym c.with.ensures
     ∙ c.in_ok-census-2.was in
     subst (λ (n : ℕ). census_to s n ≡ Some c.in_ok-census-2.census) (sym (add-one at.x-index)) next
-
-pub returns : goal.returns
-returns c =
-    let s = c.args.self.now in
-    let few = few_counted s _ (sym (begins (goal.at.returns c).After-begin) ∙ c.in_ok-census.was) in
-    let eight : length s.streams ≡ 8 = omega (arith, c.well_formed, length-map s.streams (Cells.the_type).to) in
-    let all = used_all s eight few c.loop-x.x-index c.loop-x.auto.x-index-end c.loop-x-test.false in
-    sym c.loop-x.invariant ∙ ap (census_to s) all

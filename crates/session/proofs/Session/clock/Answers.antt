@@ -42,12 +42,6 @@ returns-then-is_past_end c =
     answers _ _ c.refuse-then-is_past_end.ensures
     (clock_ends _ _ (ok at.Else-not-is_sound) c.if-self-ne0.false (sym (behind at.After-lt) ∙ c.if-lt.false) (sym (past at.After-is_past_end) ∙ c.if-is_past_end.true))
 
-pub latest-until-requires : goal.latest-until-requires
-latest-until-requires c = ok (goal.at.latest-until-requires c).Else-not-is_sound
-
-pub set_clock-requires : goal.set_clock-requires
-set_clock-requires c = c.latest-until.ensures
-
 pub returns : goal.returns
 returns c =
     let at = goal.at.returns c in

@@ -11,7 +11,6 @@ use Rattle.calls.specs.declared.Call.{Call}
 use Rattle.stream.proofs.Fits.{duration_within}
 use Rattle.session.proofs.Dues.{by_31, past_31}
 use Rattle.session.proofs.Answers.{answers, unsound_verdict, done_idle, done_outside, done_ends, done_charges}
-use Rattle.session.proofs.Grounds.{served_in}
 use Rattle.session.proofs.Sound.{sound_of}
 use Rattle.session.proofs.Session.done.Goals as goal
 use Rattle.session.proofs.Session.done.Goals.{Else-not-is_sound, Else-duration, After-is_past_end, Else-is_past_end}
@@ -51,9 +50,6 @@ returns-then-is_past_end c =
     let at = goal.at.returns-then-is_past_end c in
     answers _ _ c.refuse-then-is_past_end.ensures
     (done_ends _ _ (ok at.Else-not-is_sound) c.if-self-eq0.false (in_range at.Else-duration) (sym (past at.After-is_past_end) ∙ c.if-is_past_end.true))
-
-pub overflow_sub-self : goal.overflow_sub-self
-overflow_sub-self c = (served_in _ (sound_of _ (ok (goal.at.overflow_sub-self c).Else-not-is_sound)) c.if-self-eq0.false).0
 
 -- past 14 the stream is charged
 charges : (c : Else-is_past_end) → verdict c.args.self (Call.Done c.args.duration) ≡ finish (c.args.self.served - 1) c.of-taken.result.0

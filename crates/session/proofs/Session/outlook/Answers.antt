@@ -14,9 +14,6 @@ pub returns-then-not-is_sound : goal.returns-then-not-is_sound
 unfolding if
 returns-then-not-is_sound c = rw (by_31 _ _ c.is_sound.ensures c.if-not-is_sound.true)
 
-pub latest-requires : goal.latest-requires
-latest-requires c = past_31 _ _ c.is_sound.ensures c.if-not-is_sound.false
-
 pub returns : goal.returns
 unfolding if
 returns c =

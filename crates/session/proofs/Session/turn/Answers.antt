@@ -21,9 +21,6 @@ returns-then-self-ne0 c =
 idle : (c : Else-self-ne0) → Idle c.args.self
 idle c = record { ok = past_31 _ _ c.is_sound.ensures c.if-not-is_sound.false; rests = c.if-self-ne0.false }
 
-pub pick-requires : goal.pick-requires
-pick-requires c = (idle (goal.at.pick-requires c).Else-self-ne0).ok
-
 -- a. some slot is filled
 pub send-requires : goal.send-requires
 send-requires c =
@@ -34,10 +31,6 @@ pub returns-in-Some : goal.returns-in-Some
 returns-in-Some c =
     let i = idle (goal.at.returns-in-Some c).Else-self-ne0 in
     answers _ _ c.send.ensures (turn_sends i _ (sym c.pick.ensures ∙ c.in-Some.is))
-
--- b. no stream has a slot
-pub survey-seen-requires : goal.survey-seen-requires
-survey-seen-requires c = (idle (goal.at.survey-seen-requires c).Else-self-ne0).ok
 
 unfilled : (c : After-survey-seen) → Unfilled c.args.self c.survey-seen.result
 unfilled c =
@@ -56,13 +49,6 @@ move_on-requires c =
 pub returns-in_default-expiring : goal.returns-in_default-expiring
 returns-in_default-expiring c =
     answers _ _ c.move_on.ensures (turn_moves (unfilled (goal.at.returns-in_default-expiring c).After-survey-seen) c.in_default-expiring.is c.if-seen.false)
-
--- c. and d. only empty slots
-pub latest-until-requires : goal.latest-until-requires
-latest-until-requires c = (unfilled (goal.at.latest-until-requires c).After-survey-seen).idle.ok
-
-pub wait-requires : goal.wait-requires
-wait-requires c = c.latest-until.ensures
 
 early : (c : After-lt) → c.lt.result ≡ ltb c.args.self.clock.0 c.latest-until.result.0
 early c = search rules

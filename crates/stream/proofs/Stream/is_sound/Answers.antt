@@ -1,14 +1,11 @@
 -- `Stream::is_sound` gives the document's test: each part is what its function ensures. The charge is small once it is known to be near the budget.
-use mathlib.Core.Bool.{Bool, true, not, ◌&&◌}
+use mathlib.Core.Bool.{Bool, not, ◌&&◌}
 use mathlib.Core.Path.{◌≡◌, sym, ◌∙◌}
-use Prim.Native.Nat.{ℕ, ◌+◌, ◌≤◌}
-use native.Mathlib.Omega.{arith}
+use Prim.Native.Nat.{ℕ, ◌+◌}
 use lib.Dec.{leb, ltb, eqb}
 use borrow.Author.Rules.{rules}
-use borrow.Author.Tests.{leb-true, eqb-true, tests}
-use Rattle.table.specs.Ranges.{period_max}
+use borrow.Author.Tests.{tests}
 use Rattle.table.specs.Admission.{granted_of}
-use Rattle.table.proofs.Tests.{both}
 use Rattle.time.specs.Time.{session_end, duration_max}
 use Rattle.stream.specs.Stream.{sound_cells}
 use Rattle.stream.specs.declared.Stream.{Stream}
@@ -44,19 +41,6 @@ tested c =
 pub returns-then-not-budget-due : goal.returns-then-not-budget-due
 unfolding sound_cells
 returns-then-not-budget-due c = rw (sym (tested (goal.at.returns-then-not-budget-due c).After-is_near-charge) ∙ c.if-not-budget-due.true)
-
-charge_small : (worst k : ℕ) (x : Stream) → granted_of worst k x.reserved ≤ period_max → first worst k x ≡ true → x.charge.0 ≤ session_end
-charge_small worst k x high t =
-    let budget = eqb x.granted.0 (granted_of worst k x.reserved) in
-    let due = eqb x.deadline.0 (x.release.0 + x.period) in
-    let a = both (budget && due && leb x.deadline.0 session_end) (leb x.charge.0 (x.granted.0 + duration_max)) t in
-    let b = both budget due (both (budget && due) (leb x.deadline.0 session_end) a.0).0 in
-    omega (arith, high, leb-true x.charge.0 (x.granted.0 + duration_max) a.1, eqb-true x.granted.0 (granted_of worst k x.reserved) b.0)
-
-pub covers-covered-requires : goal.covers-covered-requires
-covers-covered-requires c =
-    let passed = sym (tested (goal.at.covers-covered-requires c).After-is_near-charge) ∙ c.if-not-budget-due.false in
-    charge_small c.args.numbers.worst c.args.numbers.padding c.args.self.now c.requires.2 passed
 
 pub returns-then-covered : goal.returns-then-covered
 unfolding sound_cells

@@ -1,9 +1,8 @@
 use Rattle.order.specs.Order.{goes_before}
 use Rattle.stream.specs.Choice.{first_best, leading}
-use Rattle.stream.specs.Search.{lead}
 use Rattle.stream.proofs.Leading.{lead_next}
 use native.Mathlib.Omega.{arith}
-use mathlib.Core.Path.{◌≡◌, refl, ap, ◌∙◌}
+use mathlib.Core.Path.{refl}
 use native.Mathlib.Numerals.{add-one}
 use Prim.Native.Nat.{◌<◌}
 use Rattle.std.proofs.lemmas.List.{get_or-take, length-take}
@@ -19,8 +18,3 @@ loop-j-preserved c =
     let here : at.j < c.args.m = omega (arith, length-take c.args.m c.args.places.now) in
     rw (c.foremost-best.ensures, at.invariant, get_or-take c.args.m c.args.places.now at.j 0 here, add-one)
     (lead_next (goes_before c.args.order c.args.head) c.args.places.now at.j)
-
-pub returns : goal.returns
-returns c =
-    let e : c.loop-j.j ≡ c.args.m = omega (arith, length-take c.args.m c.args.places.now) in
-    c.loop-j.invariant ∙ ap (lead _ _) e

@@ -23,9 +23,6 @@ bounds-streams-first c = (c.requires.2 c.in-Some.first c.in-Some.is).0
 pub offset_bounds-streams-first : goal.offset_bounds-streams-first
 offset_bounds-streams-first c = let here : c.in-Some.first < length c.args.streams.now = (c.requires.2 c.in-Some.first c.in-Some.is).0 in search rules
 
-pub expires_before-requires : goal.expires_before-requires
-expires_before-requires c = (c.args.worst, c.args.h.0, c.requires.1, (c.requires.2 c.in-Some.first c.in-Some.is).1)
-
 pub returns-then-expires_before : goal.returns-then-expires_before
 unfolding if lapsing
 returns-then-expires_before c =

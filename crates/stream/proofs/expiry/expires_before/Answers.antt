@@ -1,31 +1,12 @@
 -- `expires_before` compares exact moments, which are the fractions of the rules (`pace_is`).
 use mathlib.Core.Bool.{Bool, ◌&&◌, ◌||◌}
-use mathlib.Core.Path.{◌≡◌, sym, ap, subst, ◌∙◌}
-use native.Mathlib.Omega.{arith}
+use mathlib.Core.Path.{◌≡◌, ap, ◌∙◌}
 use lib.Dec.{ltb}
 use borrow.Author.Rules.{rules}
-use Rattle.time.specs.Exact.{Fraction, less, same, paced, fraction_of, Proper}
+use Rattle.time.specs.Exact.{Fraction, less, same, paced, fraction_of}
 use Rattle.stream.specs.Choice.{expiry_of, expires_first}
-use Rattle.stream.proofs.Fits.{used_high, pace_proper, pace_is}
+use Rattle.stream.proofs.Fits.{pace_is}
 use Rattle.stream.proofs.expiry.expires_before.Goals as goal
-
-pub paced-of_a-requires : goal.paced-of_a-requires
-paced-of_a-requires c = let q = c.requires.2 in (q.budget_low, omega (arith, q.due, q.deadline_high), used_high q)
-
-pub paced-of_b-requires : goal.paced-of_b-requires
-paced-of_b-requires c = let q = c.requires.3 in (q.budget_low, omega (arith, q.due, q.deadline_high), used_high q)
-
-pub is_before-requires : goal.is_before-requires
-is_before-requires c =
-    let both-proper : Proper c.paced-of_a.result × Proper c.paced-of_b.result = let pre = c.requires in
-    (subst Proper (sym c.paced-of_a.ensures) (pace_proper pre.2), subst Proper (sym c.paced-of_b.ensures) (pace_proper pre.3)) in
-    both-proper
-
-pub is-requires : goal.is-requires
-is-requires c =
-    let both-proper : Proper c.paced-of_a.result × Proper c.paced-of_b.result = let pre = c.requires in
-    (subst Proper (sym c.paced-of_a.ensures) (pace_proper pre.2), subst Proper (sym c.paced-of_b.ensures) (pace_proper pre.3)) in
-    both-proper
 
 pub returns : goal.returns
 unfolding expires_first

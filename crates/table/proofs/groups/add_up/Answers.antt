@@ -1,12 +1,11 @@
 use mathlib.Core.List.{List}
 use mathlib.Core.Path.{◌≡◌, sym, ◌∙◌, ap, subst}
 use Prim.Native.Nat.{ℕ, suc, ◌+◌, ◌*◌, ◌/◌, min, max, ◌≤◌, ◌<◌}
-use native.Mathlib.Nat.{div-le_self}
 use native.Mathlib.Omega.{arith}
 use lib.ListN.{get_or}
 use Rattle.table.specs.Fold.{sum_to, list_to}
 use Rattle.table.specs.Ranges.{streams_max, span_max}
-use Rattle.table.specs.Admission.{period_at, smallest_period, parts_refusal}
+use Rattle.table.specs.Admission.{smallest_period, parts_refusal}
 use Rattle.table.specs.Groups.{quotient_at, group_at, grouped_shares}
 use Rattle.table.specs.declared.Table.{Table}
 use Rattle.table.proofs.Lists.{get_d_list_to}
@@ -66,11 +65,6 @@ nonzero_div-quotient c =
     let t = c.args.judged.table in
     let at = c.loop-j in
     omega (arith, streams_of t (parts_none t c.args.judged.in_order).1 at.j (used t _ c.budgets-group.ensures at.j (omega arith) c.if-budget-ne0.true))
-
-pub overflow_cast-quotient : goal.overflow_cast-quotient
-overflow_cast-quotient c =
-    let t = c.args.judged.table in
-    omega (arith, div-le_self t.span (period_at t c.loop-j.j))
 
 pub overflow_add-shares : goal.overflow_add-shares
 overflow_add-shares c =

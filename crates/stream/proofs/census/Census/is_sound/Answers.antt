@@ -1,9 +1,7 @@
 -- `Census::is_sound` tests the load, whose sums are small where all streams are in order, then the margin that it leaves, the horizon and the sum of the remainders.
 use mathlib.Core.Bool.{Bool, false, ◌&&◌}
 use mathlib.Core.Path.{◌≡◌}
-use Prim.Native.Nat.{◌-◌, ◌≤◌, ◌<◌, ◌*◌, ◌/◌}
-use native.Mathlib.Nat.{div-le_self, mul-le-mul}
-use native.Mathlib.Omega.{arith}
+use Prim.Native.Nat.{◌-◌, ◌≤◌, ◌<◌}
 use lib.Dec.{eqb}
 use borrow.Author.Rules.{rules}
 use lib.IntN.{ℤ, pos}
@@ -14,25 +12,6 @@ use Rattle.stream.specs.Search.{load_so, remainders_so, says}
 use Rattle.stream.specs.declared.census.Census.{Census}
 use Rattle.stream.proofs.census.Census.is_sound.Goals as goal
 
-pub nonzero_div-load : goal.nonzero_div-load
-nonzero_div-load c =
-    c.requires.least_low
-
-pub overflow_cast-load-2 : goal.overflow_cast-load-2
-overflow_cast-load-2 c = let a = c.args in omega (arith, div-le_self a.self.numbers.span a.self.least)
-
-pub overflow_mul-load : goal.overflow_mul-load
-overflow_mul-load c =
-    let blocking-high : let self = c.args.self in self.numbers.worst * (self.numbers.span / self.least) ≤ 1_000_000 * self.numbers.span = let self = c.args.self in
-    mul-le-mul c.requires.countable.worst_high (div-le_self self.numbers.span self.least) in
-    omega (arith, blocking-high)
-
-pub overflow_add-load : goal.overflow_add-load
-overflow_add-load c =
-    let blocking-high : let self = c.args.self in self.numbers.worst * (self.numbers.span / self.least) ≤ 1_000_000 * self.numbers.span = let self = c.args.self in
-    mul-le-mul c.requires.countable.worst_high (div-le_self self.numbers.span self.least) in
-    omega (arith, blocking-high, c.requires.countable.shares_high)
-
 -- a load above the span fails
 load-fails : (c : Census) (margin sum : ℤ) → c.numbers.span < load_so c → false ≡ says c margin sum
 unfolding says
@@ -42,11 +21,6 @@ pub returns-then-span-load : goal.returns-then-span-load
 returns-then-span-load c =
     let a = c.args in
     load-fails a.self a.margin.0 a.remainders.0 c.if-span-load.true
-
-pub remainders-requires : goal.remainders-requires
-remainders-requires c =
-    let p = c.requires.countable in
-    (p.summable, p.span_high)
 
 -- else margin, horizon and sum decide
 three-tests : (c : Census) (margin sum : ℤ) (left soonest summed : Bool) → load_so c ≤ c.numbers.span

@@ -13,9 +13,6 @@ use Rattle.stream.proofs.Orderly.{order_fits, order_share, order_bounded}
 use Rattle.stream.proofs.census.Census.with.Goals as goal
 use Rattle.stream.proofs.census.Census.with.Goals.{Else-not-is_in_order}
 
-pub is_in_order-requires : goal.is_in_order-requires
-is_in_order-requires c = (c.requires.worst_low, c.requires.worst_high)
-
 pub returns-then-not-is_in_order : goal.returns-then-not-is_in_order
 unfolding counted if
 returns-then-not-is_in_order c =

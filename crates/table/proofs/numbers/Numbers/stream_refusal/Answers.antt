@@ -3,24 +3,17 @@ use borrow.Author.Tests.{eq-eqb, ne_eqb}
 use mathlib.Core.Bool.{Bool, true, false, ◌||◌}
 use mathlib.Core.Path.{◌≡◌, subst}
 use Prim.Native.Nat.{ℕ}
-use native.Mathlib.Omega.{arith}
 use lib.Dec.{ltb, eqb}
 use Rattle.table.specs.Fold.{if}
-use Rattle.table.specs.Ranges.{period_min, period_max}
 use Rattle.table.specs.Refusal.{given, ◌or_next◌, outside}
 use Rattle.table.specs.Admission.{granted_of, stream_refusal}
 use Rattle.table.specs.Margin.{refusal_of, answer_by}
-use Rattle.table.proofs.Tests.{within}
 use Rattle.table.proofs.numbers.Numbers.stream_refusal.Goals as goal
 use Rattle.table.proofs.numbers.Numbers.stream_refusal.Goals.{After-granted}
 
 pub returns-then-period : goal.returns-then-period
 unfolding stream_refusal given ◌or_next◌ outside answer_by refusal_of if
 returns-then-period c = rw c.if-period.true
-
-pub nonzero_rem-self : goal.nonzero_rem-self
-unfolding outside
-nonzero_rem-self c = omega (arith, within period_min period_max c.args.stream.period c.if-period.false)
 
 pub returns-then-self-period-ne0 : goal.returns-then-self-period-ne0
 unfolding stream_refusal given ◌or_next◌ outside answer_by refusal_of if

@@ -26,12 +26,6 @@ module _ (t : Table) (parts : parts_refusal t ≡ 0) (shares most : ℕ) (sum : 
   unfolding grouped_load
   whole = rw (sum, largest) (load_by_groups t)
 
-pub overflow_mul-result : goal.overflow_mul-result
-overflow_mul-result c =
-    let s = c.add_up-sums in
-    let j = c.args.self in
-    omega (arith, blocking-fits j.table j.in_order s.result.shares s.result.largest s.ensures.0 s.ensures.1)
-
 pub overflow_add-result : goal.overflow_add-result
 overflow_add-result c =
     let s = c.add_up-sums in

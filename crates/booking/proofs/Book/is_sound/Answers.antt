@@ -53,19 +53,10 @@ returns-then-count-gt-STREAMS_MAX c = sym (at_count _ (cells-pass c.before.befor
 few : (c : Else-count-gt-STREAMS_MAX) → count_in c.args.self ≤ streams_max
 few c = rw c.count.ensures at c.if-count-gt-STREAMS_MAX.false
 
-pub table_refusal-requires : goal.table_refusal-requires
-table_refusal-requires c = let cells = cells-pass c.before.before in (cells.0, cells.1, few c)
-
 pub returns-then-is_err : goal.returns-then-is_err
 returns-then-is_err c =
     let some = refused_some c.table_refusal.result (sym c.if-is_err.ensures.value) in
     sym (at-refusal _ (cells-pass c.before.before.before.before.before.before) (few c.before.before.before.before) (λ none. some (c.table_refusal.ensures ∙ none)))
-
-pub shares-requires : goal.shares-requires
-shares-requires c = (cells-pass c.before.before.before.before.before.before).0
-
-pub shares-requires-2 : goal.shares-requires-2
-shares-requires-2 c = (cells-pass c.before.before.before.before.before.before.before.before).1
 
 pub returns : goal.returns
 unfolding keeps_limit

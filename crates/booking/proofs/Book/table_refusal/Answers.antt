@@ -6,11 +6,7 @@ use Rattle.table.specs.Fold.{if}
 use Rattle.table.specs.Margin.{answer_of, number_in}
 use Rattle.table.proofs.Margins.{ranges_told, answer_carries_margin}
 use Rattle.booking.specs.Book.{count_in, table_refusal}
-use Rattle.booking.proofs.Cells.{cells_of}
 use Rattle.booking.proofs.Book.table_refusal.Goals as goal
-
-pub count-requires : goal.count-requires
-count-requires c = ((cells_of _ c.requires.0).count_high, (cells_of _ c.requires.1).count_high)
 
 pub returns-then-count-eq0 : goal.returns-then-count-eq0
 unfolding table_refusal if

@@ -33,9 +33,6 @@ exists c =
     let n = named a.session.now a.stream c.if-stream-session.false in
     (n.0, omega (arith, n, count_high a.session.now (ok c.before)))
 
-pub overflow_sub-result : goal.overflow_sub-result
-overflow_sub-result c = (exists c).0
-
 pub offset_bounds-session-stream : goal.offset_bounds-session-stream
 offset_bounds-session-stream c = omega (arith, exists c)
 

@@ -7,12 +7,6 @@ use Rattle.logs.proofs.Feeding.{taken_none, taken_line, taken_byte, taken_all}
 use Rattle.logs.proofs.Follower.feed.Goals as goal
 use Rattle.logs.proofs.Follower.feed.Goals.{then-byte-eq10, else-byte-eq10}
 
-pub loop-i-init : goal.loop-i-init
-loop-i-init c = taken_none _ _ _
-
-pub slice_bounds-with_line-count : goal.slice_bounds-with_line-count
-slice_bounds-with_line-count c = omega (arith, c.loop-i.invariant.begun)
-
 pub loop-i-preserved : goal.loop-i-preserved
 loop-i-preserved c =
     let at = c.loop-i in
@@ -20,9 +14,6 @@ loop-i-preserved c =
       | then-byte-eq10 w ↦ rw (w.follower-is, w.start-is, w.with_line-follower.ensures) (taken_line at.invariant c.loop-i-test.true w.if-byte-eq10.true)
       | else-byte-eq10 w ↦ rw (w.follower-is, w.start-is) (taken_byte at.invariant c.loop-i-test.true w.if-byte-eq10.false)
     ]
-
-pub overflow_sub-result : goal.overflow_sub-result
-overflow_sub-result c = omega (arith, c.loop-i.invariant.begun, c.loop-i.invariant.within)
 
 pub returns-clause-value : goal.returns-clause-value
 returns-clause-value c =

@@ -22,12 +22,6 @@ returns-in-Some-First c =
     rw (c.search_text.ensures, c.first_line.ensures)
     (ap (λ (x : Option Awaited). first_that_is a.line.now (nexts_at a.self a.trace.now x)) (rw c.in-Some-First.field-0-is at c.in-Some-First.ensures))
 
-pub returns-in-Some-Event : goal.returns-in-Some-Event
-returns-in-Some-Event c =
-    let a = c.args in
-    (rw c.event_at.ensures at c.search.ensures)
-    ∙ ap (λ (x : Option Awaited). first_that_is a.line.now (nexts_at a.self a.trace.now x)) (rw c.in-Some-Event.field-0-is at c.in-Some-Event.ensures)
-
 pub returns-in-None : goal.returns-in-None
 unfolding first_that_is
 returns-in-None c =

@@ -11,12 +11,6 @@ use Rattle.logs.proofs.Looking.{choices_at, choices_end, line_passes, line_here,
 use Rattle.logs.proofs.choices.line_of_choice.Goals as goal
 use Rattle.logs.proofs.choices.line_of_choice.Goals.{then-is_choice+else-ahead-eq0, else-is_choice}
 
-pub loop-m-init : goal.loop-m-init
-loop-m-init c = refl
-
-pub is_choice-requires : goal.is_choice-requires
-is_choice-requires c = (omega arith, omega arith)
-
 pub returns-then-ahead-eq0 : goal.returns-then-ahead-eq0
 unfolding handed text_of
 returns-then-ahead-eq0 c =

@@ -5,12 +5,6 @@ use Rattle.logs.proofs.Looking.{choices_end, search_passes, search_hits, search_
 use Rattle.logs.proofs.choices.search_choices.Goals as goal
 use Rattle.logs.proofs.choices.search_choices.Goals.{then-is_choice+else-is_some, else-is_choice}
 
-pub loop-m-init : goal.loop-m-init
-loop-m-init c = refl
-
-pub is_choice-requires : goal.is_choice-requires
-is_choice-requires c = (omega arith, omega arith)
-
 pub returns-then-is_some : goal.returns-then-is_some
 returns-then-is_some c =
     let a = c.args in

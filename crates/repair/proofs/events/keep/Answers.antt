@@ -18,9 +18,6 @@ few c = let a = c.args in kept_low a.room a.trace.now c.loop-i.i c.loop-i.kept c
 pub overflow_mul-kept : goal.overflow_mul-kept
 overflow_mul-kept c = omega (arith, few (goal.at.overflow_mul-kept c).At-loop-i)
 
-pub overflow_add-kept : goal.overflow_add-kept
-overflow_add-kept c = omega (arith, few (goal.at.overflow_add-kept c).At-loop-i)
-
 pub loop-i-preserved : goal.loop-i-preserved
 loop-i-preserved c =
     let a = c.args in

@@ -1,18 +1,12 @@
 use mathlib.Core.Path.{refl, ◌∙◌}
-use native.Mathlib.Omega.{arith}
 use Rattle.table.specs.Fold.{count_to}
-use Rattle.repair.proofs.Turns.{turn_test, counted_more, counted_same, kept_low}
+use Rattle.repair.proofs.Turns.{turn_test, counted_more, counted_same}
 use Rattle.repair.proofs.events.kept_in.Goals as goal
 use Rattle.repair.proofs.events.kept_in.Goals.{then-is_kept, else-is_kept}
 
 pub loop-i-init : goal.loop-i-init
 unfolding count_to
 loop-i-init c = refl
-
-pub overflow_add-kept : goal.overflow_add-kept
-overflow_add-kept c =
-    let a = c.args in
-    omega (arith, kept_low a.room a.trace.now c.loop-i.i c.loop-i.kept c.loop-i.invariant)
 
 pub loop-i-preserved : goal.loop-i-preserved
 loop-i-preserved c =

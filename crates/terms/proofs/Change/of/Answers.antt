@@ -1,8 +1,6 @@
 -- `Change::of` is its definition, whose quotients and differences are those of numbers that are never negative; nothing passes 64 bits, since a quotient is at most what is divided.
 use mathlib.Core.Path.{◌≡◌, refl, sym, ◌∙◌}
-use Prim.Native.Nat.{◌+◌, ◌-◌, ◌≤◌, ◌<◌}
-use native.Mathlib.Nat.{div-le_self}
-use native.Mathlib.Omega.{arith}
+use Prim.Native.Nat.{◌+◌, ◌≤◌, ◌<◌}
 use borrow.Author.Tests.{eq-eqb, ne_eqb, lt-ltb, le-ltb}
 use Rattle.table.specs.Fold.{if}
 use Rattle.table.specs.Margin.{over_of}
@@ -23,9 +21,6 @@ returns-then-over-eq0 c =
       c.left.ensures,
       c.quotient-times.ensures,
     )
-
-pub overflow_add-by : goal.overflow_add-by
-overflow_add-by c = omega (arith, c.quotient-by.ensures, div-le_self (c.over-over.result - 1) c.quotient-times.result)
 
 -- past the first test the load is over the span, by the amount that is asked for
 exceeds : (c : After-quotient-by) → (over_of c.args.margin.0 ≡ 0 → ⊥)

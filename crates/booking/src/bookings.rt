@@ -9,6 +9,8 @@ use crate::{Book, Booked, Booking, Closed, Desk, Finished, Receipt};
 use table::{Numbers, Records, Reservation, Table};
 
 impl Book {
+    pub const DESKS: u64 = 2;
+
     // Begins a table with W, H, k and the limits of desk 1 and desk 2: 2, 3, 4, and then the table is all zero. The limits are two, as C's function has them.
     pub fn begin(numbers: Numbers, limit1: u64, limit2: u64) -> Booked
         ensures { result ≡ begun_of numbers.worst numbers.span numbers.padding limit1 limit2 }
@@ -105,7 +107,7 @@ impl Book {
         }
         match desk {
             1 => Ok(self.first),
-            2 => Ok(self.second),
+            Book::DESKS => Ok(self.second),
             _ => Err(Refusal::Desk),
         }
     }

@@ -1,8 +1,8 @@
 // The same over a table that is lent.
 ghost use Rattle.std.specs.Prelude.{◌≡◌};
-ghost use Rattle.booking.specs.Bookings.{begun_of, booking_of};
+ghost use Rattle.booking.specs.Bookings.{begun_of, booking_of, closed_of};
 
-use crate::{Book, Booked, Booking, Receipt};
+use crate::{Book, Booked, Booking, Finished, Receipt};
 use table::Numbers;
 
 impl Book {
@@ -19,6 +19,14 @@ impl Book {
     {
         let booked = (*self).book(booking);
         self.keep(booked)
+    }
+
+    pub fn finish_lent(&mut self) -> Finished
+        ensures { (result ≡ (closed_of self.old).finished) × (self.new ≡ (closed_of self.old).book) }
+    {
+        let closed = (*self).finish();
+        *self = closed.book;
+        closed.finished
     }
 
     // Keeps the table that a booking hands back, and passes its reply on.

@@ -52,6 +52,21 @@ impl Form {
         }
     }
 
+    // Whether a number is the length of some form's third body.
+    pub fn is_third(number: u64) -> bool
+        ensures { result ≡ is_third_length number }
+    {
+        Form::try_from(number).is_ok()
+    }
+
+    // The form whose third body has this length; of any other, that of two entries.
+    #[tactic(auto, using(crate::proofs::Choices::choices), unfolding(crate::specs::File::is_third_length, crate::specs::File::form_of_third))]
+    pub fn of_third(number: u64) -> Form
+        ensures { result ≡ form_of_third number }
+    {
+        Form::try_from(number).unwrap_or(Form::Two)
+    }
+
     // Whether a file of this form has a place for an order: one of two entries means nearest.
     pub(crate) fn has_place(self, order: Order) -> bool
         ensures { result ≡ has_place self order }

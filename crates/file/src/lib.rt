@@ -52,7 +52,7 @@ pub fn read(file: &[u8]) -> Result<Layout, Refusal>
     let number = number_at(file, end, form.third() as usize);
     let order = Order::try_from(number)?;
     let trace = &file[start..end];
-    if !is_contents(file, form, start, end) | !is_trace(trace) {
+    if !is_contents(file, form, start, end) || !is_trace(trace) {
         return Err(Refusal::Layout);
     }
     Ok(Layout {

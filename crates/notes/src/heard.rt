@@ -10,7 +10,7 @@ use crate::numbers::fits;
 pub struct Field {
     bytes: [u8; Field::KEPT],
     len: usize,
-    pub(crate) digits: bool,
+    pub digits: bool,
 }
 
 // The word of a line, the first of its numbers or names that is wrong, or else the last, and whether the last byte stands in one of them.
@@ -22,7 +22,7 @@ pub struct Heard {
 }
 
 impl Field {
-    const KEPT: usize = 20;
+    pub const KEPT: usize = 20;
 
     // No byte of a field yet.
     fn none() -> Field

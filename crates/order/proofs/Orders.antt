@@ -5,9 +5,9 @@ use mathlib.Core.Logic.{⊎_elim}
 use Prim.Native.Nat.{ℕ, ◌≤◌, ◌<◌}
 use native.Mathlib.Omega.{arith}
 use lib.Dec.{ltb, eqb}
-use borrow.Author.Tests.{leb-true, ltb-true, ltb-false, lt-ltb, le-ltb, eqb-true, eqb-false}
+use borrow.Author.Tests.{le-leb, leb-true, ltb-true, ltb-false, lt-ltb, le-ltb, eqb-true, eqb-false}
 use Rattle.table.specs.Fold.{if}
-use Rattle.table.proofs.Tests.{both, neither, le_or_lt, less_once, less_on}
+use Rattle.table.proofs.Tests.{by_if, both, neither, le_or_lt, less_once, less_on}
 use Rattle.order.specs.Order.{order_number, is_order, order_of, distance, swept_before, goes_before}
 use Rattle.order.specs.Laws.{NumbersAreOrders, PlacesAreOrdered, NearestTaken, SweptTo, SweepTaken, TiesAreEqual}
 use Rattle.order.specs.declared.Order.{Order}
@@ -25,6 +25,12 @@ order_of_number n h = go (eqb n 1) refl
     go : (b : Bool) → eqb n 1 ≡ b → order_number (if b Sweep Nearest) ≡ n
     go true e = sym (eqb-true n 1 e)
     go false e = let l = leb-true n 1 h in let d = eqb-false n 1 e in omega arith
+
+-- a number that has no order stands for nearest
+pub nearest_else : (n : ℕ) → (is_order n ≡ true → ⊥) → order_of n ≡ Nearest
+unfolding order_of
+nearest_else n none =
+    by_if (λ o. o ≡ Nearest) (eqb n 1) Sweep Nearest (λ e. absurd (none (le-leb n 1 (let one = eqb-true n 1 e in omega arith)))) (λ e. refl)
 
 pub numbers_are_orders : NumbersAreOrders
 numbers_are_orders = (number_of_order, order_of_number)

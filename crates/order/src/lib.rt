@@ -26,6 +26,21 @@ impl Order {
         }
     }
 
+    // Whether a number is that of an order.
+    pub fn is_number(number: u64) -> bool
+        ensures { result ≡ is_order number }
+    {
+        Order::try_from(number).is_ok()
+    }
+
+    // The order of a number; of one that has none, nearest.
+    #[tactic(auto, using(crate::proofs::Orders::nearest_else))]
+    pub fn of_number(number: u64) -> Order
+        ensures { result ≡ order_of number }
+    {
+        Order::try_from(number).unwrap_or(Order::Nearest)
+    }
+
     // Whether one place is taken before another, as the head stands.
     pub fn goes_before(self, head: u64, a: u64, b: u64) -> bool
         ensures { result ≡ goes_before self head a b }

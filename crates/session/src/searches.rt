@@ -34,7 +34,7 @@ impl Session {
         best
     }
 
-    // All that is asked of the streams where no slot is filled, in one pass. By their indices, since the stream that expires is told by its index.
+    // All that is asked of the streams where no slot is filled, in one pass. By their indices, since the stream that expires is told by its index: where none was found so far, the one at i stands in for it.
     pub(crate) fn survey(&self) -> Survey
         requires { sound self.now ≡ true }
         ensures { result ≡ survey_of self.now }
@@ -42,8 +42,10 @@ impl Session {
         let mut expiring = None;
         let mut beyond = false;
         for i in 0..self.count {
-            expiring = better(expiring, &self.streams, i, self.worst, self.horizon);
-            beyond |= self.streams[i].closes_past_end(self.horizon);
+            let other = &self.streams[expiring.unwrap_or(i)];
+            let x = &self.streams[i];
+            expiring = better(expiring, other, i, x, self.worst, self.horizon);
+            beyond |= x.closes_past_end(self.horizon);
         }
         Survey { expiring, beyond }
     }

@@ -1,6 +1,6 @@
 // What crosses to C and Rust: structs of numbers, with their fields in order.
 ghost use Rattle.std.specs.Prelude.{◌≡◌, true, OkIff};
-ghost use Rattle.order.specs.Order.{is_order};
+ghost use Rattle.order.specs.Order.{is_order, order_of};
 ghost use Rattle.shelf.specs.Image.{session_of, image_of, opening_as, moment_as};
 ghost use Rattle.shelf.specs.Filed.{read_as, written_as};
 
@@ -103,7 +103,40 @@ impl From<Session> for Image {
     }
 }
 
-// The session that the numbers stand for.
+impl Image {
+    // The session that the numbers stand for; where its order is that of none, the order is nearest.
+    pub fn session(self) -> Session
+        ensures { result ≡ session_of self }
+    {
+        self.session_by(Order::of_number(self.order))
+    }
+
+    // The same, by the order that its number stands for.
+    fn session_by(self, order: Order) -> Session
+        requires { order ≡ order_of self.order }
+        ensures { result ≡ session_of self }
+    {
+        let streams = self.streams;
+        Session {
+            order,
+            worst: self.worst,
+            span: self.span,
+            padding: self.padding,
+            tag: self.tag,
+            count: self.count,
+            margin: self.margin,
+            horizon: self.horizon,
+            remainders: self.remainders,
+            clock: self.clock,
+            head: self.head,
+            served: self.served,
+            place: self.place,
+            streams,
+        }
+    }
+}
+
+// The session that the numbers stand for, if its order is one.
 impl TryFrom<Image> for Session {
     type Error = UnknownOrder;
 
@@ -111,23 +144,7 @@ impl TryFrom<Image> for Session {
 
     fn try_from(image: Image) -> Result<Session, UnknownOrder> {
         let order = Order::try_from(image.order)?;
-        let streams = image.streams;
-        Ok(Session {
-            order,
-            worst: image.worst,
-            span: image.span,
-            padding: image.padding,
-            tag: image.tag,
-            count: image.count,
-            margin: image.margin,
-            horizon: image.horizon,
-            remainders: image.remainders,
-            clock: image.clock,
-            head: image.head,
-            served: image.served,
-            place: image.place,
-            streams,
-        })
+        Ok(image.session_by(order))
     }
 }
 

@@ -1,32 +1,29 @@
 // Which slot expires first.
-ghost use Rattle.std.specs.Prelude.{◌≡◌, ℕ, ◌<◌, length};
-ghost use Rattle.stream.specs.Stream.{stream_in};
+ghost use Rattle.std.specs.Prelude.{◌≡◌, ◌&&◌, ◌||◌, ℕ, leb, Some, is_none};
+ghost use Rattle.table.specs.Fold.{if};
+ghost use Rattle.stream.specs.Stream.{slots};
 ghost use Rattle.stream.specs.Bounds.{Bounded};
 ghost use Rattle.stream.specs.Choice.{expires_first};
-ghost use Rattle.stream.specs.Search.{lapsing};
 
 use crate::Stream;
 use time::Clock;
 
-// The best so far, if there is one, or the stream at i if that has a slot and expires first.
+// The best so far, which is the other stream where there is one, or the stream at i if that has a slot and expires first.
 pub fn better(
     best: Option<usize>,
-    streams: &[Stream],
+    other: &Stream,
     i: usize,
+    x: &Stream,
     worst: u32,
     h: Clock,
 ) -> Option<usize>
-    requires { (i < length streams.now) × Bounded worst h.0 (stream_in streams.now i) × ((b : ℕ) → best ≡ Some b → (b < length streams.now) × Bounded worst h.0 (stream_in streams.now b)) }
-    ensures { result ≡ lapsing worst h.0 streams.now best i }
+    requires { Bounded worst h.0 other.now × Bounded worst h.0 x.now }
+    ensures { result ≡ if (leb 1 (slots worst h.0 x.now) && (is_none best || expires_first x.now other.now)) (Some i) best }
 {
-    let x = &streams[i];
     if x.slots(worst, h) == 0 {
         return best;
     }
-    let Some(first) = best else {
-        return Some(i);
-    };
-    if expires_before(x, &streams[first]) {
+    if best.is_none() || expires_before(x, other) {
         Some(i)
     } else {
         best

@@ -25,8 +25,8 @@ returns-in_err-order c =
     let j = judged _ _ (sym c.in_ok-outline.ensures) in
     rw (p.1, p.2) (grind (arith, common_steps, j, c.in_err-order.ensures))
 
-pub returns-then-is_contents-is_trace : goal.returns-then-is_contents-is_trace
-returns-then-is_contents-is_trace c =
+pub returns-then-not-is_contents : goal.returns-then-not-is_contents
+returns-then-not-is_contents c =
     let j = judged _ _ (sym c.in_ok-outline.ensures) in
     grind (arith, common_steps, j)
 

@@ -5,7 +5,7 @@ use Prim.Native.Nat.{ℕ, ◌+◌, ◌-◌, ◌*◌, ◌≤◌}
 use native.Mathlib.Omega.{arith}
 use lib.ListN.{length, drop, replicate, length-append}
 use borrow.Rule.Slice.PartMut.{put_mid}
-use Rattle.std.proofs.lemmas.List.{length-take-le, drop-drop, drop-replicate}
+use Rattle.std.proofs.lemmas.List.{length-take-le, take-append-drop, drop-drop, drop-replicate, length-replicate}
 use Rattle.std.proofs.lemmas.Slice.{take-put_mid, drop-put_mid}
 use Rattle.listing.specs.declared.Text.TheInside.{Inside}
 use Rattle.listing.specs.Line.{onward, rendered, text_size, text_of}
@@ -54,17 +54,26 @@ module _ (text : Inside) (run : List ℕ) (size : length text.bytes ≡ text_siz
       drop-put_mid text.len (text.len + length run - text.len) text.bytes run (text.len + length run) (omega arith) (omega arith) (omega arith)
       ∙ sym (drop-drop (length run) text.len text.bytes)
 
-  pub run_kept : IsText text → IsText with_run
-  run_kept is =
-      let left : text_size - text.len - length run ≡ text_size - (text.len + length run) = omega arith in record {
-        within = room;
-        unused =
-            zeros_left
-            ∙ ap (drop (length run)) is.unused
-            ∙ drop-replicate (length run) (text_size - text.len) 0
-            ∙ ap (λ n. replicate n 0) left;
-      }
-
   pub run_added : used with_run ≡ used text ++ run
   run_added =
       take-put_mid text.len (text.len + length run - text.len) text.bytes run (text.len + length run) refl (omega arith)
+
+  zeros_kept : IsText text → drop (text.len + length run) with_run.bytes ≡ replicate (text_size - (text.len + length run)) 0
+  zeros_kept is =
+      let left : text_size - text.len - length run ≡ text_size - (text.len + length run) = omega arith in
+      zeros_left
+      ∙ ap (drop (length run)) is.unused
+      ∙ drop-replicate (length run) (text_size - text.len) 0
+      ∙ ap (λ n. replicate n 0) left
+
+  -- as many bytes as before: the line, the run and the zeros
+  as_many : IsText text → length with_run.bytes ≡ text_size
+  as_many is =
+      let parts = ap length (take-append-drop (text.len + length run) with_run.bytes) in
+      let whole = length-append (used with_run) (drop (text.len + length run) with_run.bytes) in
+      let line = ap length run_added ∙ length-append (used text) run in
+      let rest = ap length (zeros_kept is) ∙ length-replicate (text_size - (text.len + length run)) 0 in
+      omega (arith, parts, whole, line, rest, line_length text size is)
+
+  pub run_kept : IsText text → IsText with_run
+  run_kept is = record { size = as_many is; within = room; unused = zeros_kept is }

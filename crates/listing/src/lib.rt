@@ -7,7 +7,7 @@ ghost use Rattle.listing.specs.Line.{decimal, onward, header_fields, event_field
 use std::marker::Model;
 
 // A printed line: the first `len` bytes. Those after them are 0.
-#[derive(Drop)]
+#[derive(Clone, Copy)]
 pub struct Text {
     bytes: [u8; Text::SIZE],
     len: usize,
@@ -15,15 +15,29 @@ pub struct Text {
 
 // A contract sees the bytes of the line.
 impl Model for Text {
-    ghost use Rattle.std.specs.Prelude.{List, ℕ};
+    ghost use Rattle.std.specs.Prelude.{◌≡◌, List, ℕ, ◌-◌, ◌≤◌, ◌++◌, length, replicate};
+    ghost use Rattle.std.proofs.Common.{sym, ap, ◌∙◌, subst, length-take-le, take-append-drop};
 
     ghost Value = { List ℕ };
 
-    ghost use Rattle.listing.specs.Text.{used, IsText};
+    ghost use Rattle.listing.specs.Line.{text_size};
+    ghost use Rattle.listing.specs.Text.{used, text_keeping, IsText};
 
     ghost view = { used };
 
     ghost invariant = { IsText };
+
+    ghost inverse = { text_keeping };
+
+    ghost inverse_ok = { λ text is.
+        let within : text.len ≤ length text.bytes = subst (λ n. text.len ≤ n) (sym is.size) is.within in
+        let as_long : length (used text) ≡ text.len = length-take-le text.len text.bytes within in
+        let zeros : used text ++ replicate (text_size - text.len) 0 ≡ text.bytes =
+        ap (λ rest. used text ++ rest) (sym is.unused) ∙ take-append-drop text.len text.bytes in
+        λ i. record {
+          bytes = (ap (λ n. used text ++ replicate (text_size - n) 0) as_long ∙ zeros) i;
+          len = as_long i;
+        } };
 }
 
 impl Text {

@@ -13,7 +13,7 @@ pub use refusal::Refusal;
 use session::Session;
 
 // The session after an event, and the line that is printed for it.
-#[derive(Drop)]
+#[derive(Clone, Copy)]
 pub struct Stepped {
     pub session: Session,
     pub text: Text,

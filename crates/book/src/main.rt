@@ -43,11 +43,18 @@ fn answer(rt: &impl Print, err: &impl Print, file: &[u8]) -> io::Result<()> {
     }
 }
 
-// Prints the reply to each line, and answers the table after the last. Behind a newline that is the last byte is a blank line, which has none.
+// Prints the reply to each line, and answers the table after the last. There is nothing behind a newline that is the last byte.
+// No count goes up by one here: each line says where the next one starts.
 fn print_replies(rt: &impl Print, file: &[u8]) -> io::Result<Book> {
     let mut book = Book::zero();
-    for line in file.split(|byte| *byte == b'\n') {
-        book = print_reply(rt, book, line)?;
+    let mut start: usize = 0;
+    while start < file.len() {
+        let end = ledger::line_end(file, start);
+        book = print_reply(rt, book, &file[start..end])?;
+        if end == file.len() {
+            return Ok(book);
+        }
+        start = end + 1;
     }
     Ok(book)
 }
@@ -99,7 +106,21 @@ fn say_amiss(err: &impl Print, file: &[u8], line: u64, begun: bool) -> io::Resul
 
 // A line by its number, which is counted from 1.
 fn line_of(file: &[u8], number: u64) -> &[u8] {
-    file.split(|byte| *byte == b'\n')
-        .nth(number.saturating_sub(1) as usize)
-        .unwrap_or(&[])
+    let start = line_start(file, number);
+    &file[start..ledger::line_end(file, start)]
+}
+
+// Where a line starts, which is counted from 1.
+fn line_start(file: &[u8], line: u64) -> usize
+    ensures { result ≤ length file.now }
+{
+    let mut start: usize = 0;
+    for _ in 1..line {
+        let end = ledger::line_end(file, start);
+        if end == file.len() {
+            return end;
+        }
+        start = end + 1;
+    }
+    start
 }

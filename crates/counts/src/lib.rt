@@ -4,7 +4,7 @@
 mod run;
 
 ghost use Rattle.std.specs.Prelude.{◌≡◌};
-ghost use Rattle.counts.specs.Counts.{sum_of, none, both, opened_file, filed_of};
+ghost use Rattle.counts.specs.Counts.{sum_of, none, both, opened_file, filed_of, counts_in};
 ghost use Rattle.file.specs.Reading.{events_in};
 
 use order::Order;
@@ -90,6 +90,16 @@ pub fn of_file(file: &[u8]) -> Result<Filed, Refusal>
     let table = file::table_of(file);
     let trace = &file[layout.start..layout.end];
     of_opened(table, layout.order, trace, layout.events)
+}
+
+// What a file has for the totals: what is counted of it, or nothing where it is refused.
+pub fn counts_in(filed: Result<Filed, Refusal>) -> Counts
+    ensures { result ≡ counts_in filed }
+{
+    match filed {
+        Ok(filed) => filed.counts,
+        Err(_) => Counts::none(),
+    }
 }
 
 // What is counted of a table, an order and a trace of so many events.

@@ -1,18 +1,18 @@
 -- The words of a line, held one by one, make the line that all of them make.
 use mathlib.Core.Bool.{Bool, true, false}
-use mathlib.Core.List.{List, [], ◌∷◌, ◌++◌, map, append-nil}
+use mathlib.Core.List.{List, [], ◌∷◌, map}
 use mathlib.Core.Logic.{◌⊎◌, inl, inr, ⊎_elim}
 use mathlib.Core.Path.{◌≡◌, refl, sym, ap, ◌∙◌}
 use Prim.Native.Nat.{ℕ, suc, ◌+◌, ◌≤◌, ◌<◌}
 use native.Mathlib.Numerals.{add-one}
 use native.Mathlib.Omega.{arith}
-use lib.ListN.{length, drop, get_or, set, replicate, length-map, drop_of_length-le}
-use lib.Seq.{sets, drop-cons}
+use lib.ListN.{length, drop, get_or, set, replicate, length-map}
+use lib.Seq.{sets, drop-length}
 use borrow.Author.Tests.{lt-ltb, le-ltb, ne_eqb}
 use Rattle.std.specs.Prelude.{Option, None, Some}
-use Rattle.std.specs.List.{slice_split}
 use Rattle.table.specs.Fold.{if}
 use Rattle.table.proofs.Tests.{le_or_lt}
+use Rattle.file.specs.Reading.{part}
 use Rattle.listing.specs.Laws.{spelt_after}
 use Rattle.notes.specs.Draft.{held_after, is_gap}
 use Rattle.notes.specs.Words.{ended_word, words_after, all_of, is_name, is_number, is_value, value_of, read_as}
@@ -22,7 +22,7 @@ use Rattle.ledger.specs.declared.Entry.TheVariants.{Wrong}
 use Rattle.ledger.specs.declared.phrase.Phrase.{Phrase}
 use Rattle.ledger.specs.Entry.{numbers_entry, entry_of_words}
 use Rattle.ledger.specs.Phrase.{words_most, no_words, with_word, with_part, with_words, fields_entry, phrase_entry}
-use Rattle.ledger.proofs.Splits.{behind_start, behind_none, behind_next, behind_longer}
+use Rattle.file.proofs.Parts.{next, part_longer, part_none}
 
 -- ---- words that are parted by gaps
 
@@ -35,62 +35,61 @@ pub some_part : (p : Phrase) (part : List ℕ) → (length part ≡ 0 → ⊥) �
 some_part p [] some = absurd (some refl)
 some_part p (byte ∷ word) some = refl
 
--- the words so far, and then other parts
-unfoldable pub with_parts : Option Phrase → List (List ℕ) → Option Phrase
-with_parts None parts = None
-with_parts (Some p) [] = Some p
-with_parts (Some p) (part ∷ rest) = with_parts (with_part p part) rest
-
-pub parts_all : (p : Phrase) (parts : List (List ℕ)) (i : ℕ) → length parts ≤ i → with_parts (Some p) (drop i parts) ≡ Some p
-unfolding with_parts
-parts_all p parts i past = rw (drop_of_length-le parts {i = i} past)
-
--- a part more: one that may stand there, and one that may not
-module _ (p : Phrase) (parts : List (List ℕ)) (i : ℕ) (part : List ℕ) (more : i < length parts) (is : part ≡ get_or parts i part) where
-  parts_more : with_parts (Some p) (drop i parts) ≡ with_parts (with_part p part) (drop (i + 1) parts)
-  unfolding with_parts
-  parts_more =
-      rw (add-one, drop-cons parts i part more)
-      (ap (λ (l : List ℕ). with_parts (with_part p l) (drop (suc i) parts)) (sym is))
-
-  pub part_stands : (q : Phrase) → Some q ≡ with_part p part → with_parts (Some q) (drop (i + 1) parts) ≡ with_parts (Some p) (drop i parts)
-  part_stands q taken = ap (λ (o : Option Phrase). with_parts o (drop (i + 1) parts)) taken ∙ sym parts_more
-
-  pub part_amiss : None ≡ with_part p part → None ≡ with_parts (Some p) (drop i parts)
-  unfolding with_parts
-  part_amiss none = ap (λ (o : Option Phrase). with_parts o (drop (i + 1) parts)) none ∙ sym parts_more
+none_left : (p : Option Phrase) → with_words p [] ≡ p
+unfolding with_words
+none_left None = refl
+none_left (Some p) = refl
 
 part_held : (p : Phrase) (word : List ℕ) (words : List (List ℕ)) → with_words (Some p) (ended_word word words) ≡ with_words (with_part p word) words
 unfolding with_words
 part_held p [] words = refl
 part_held p (byte ∷ word) words = refl
 
-none_left : (p : Option Phrase) → with_parts p [] ≡ with_words p []
-unfolding with_parts with_words
-none_left None = refl
-none_left (Some p) = refl
+-- what has come of a text by byte i, where the word that is not ended began at `start`
+pub record Parted (text : List ℕ) (phrase : Phrase) (start i : ℕ) : Type 0 where
+  pub begun : start ≤ i
+  pub within : i ≤ length text
+  pub words : with_words (Some no_words) (words_after [] text) ≡ with_words (Some phrase) (words_after (part start i text) (drop i text))
 
--- the parts of a text behind the start of a word are its words, but for those that are empty
-parts_behind : (text word : List ℕ) (p : Option Phrase) → with_parts p (behind_start word (slice_split is_gap text)) ≡ with_words p (words_after word text)
-unfolding with_parts with_words words_after
-parts_behind text word None = refl
-parts_behind [] word (Some p) = rw (append-nil word) (none_left (with_part p word) ∙ sym (part_held p word []))
-parts_behind (byte ∷ text) word (Some p) = go (test (is_gap byte)) (parts_behind text)
-  where
-    go : (is_gap byte ≡ true) ⊎ (is_gap byte ≡ false) → ((start : List ℕ) (o : Option Phrase) → with_parts o (behind_start start (slice_split is_gap text)) ≡ with_words o (words_after start text))
-        → with_parts (Some p) (behind_start word (slice_split is_gap (byte ∷ text))) ≡ with_words (Some p) (words_after word (byte ∷ text))
-    go (inl gap) later =
-        ap (with_parts (Some p)) (behind_next is_gap word byte text gap)
-        ∙ ap (with_parts (with_part p word)) (sym (behind_none is_gap text))
-        ∙ later [] (with_part p word)
-        ∙ sym (ap (with_words (Some p)) (word_ends byte text word gap) ∙ part_held p word (words_after [] text))
-    go (inr other) later =
-        ap (with_parts (Some p)) (behind_longer is_gap word byte text other)
-        ∙ later (word ++ (byte ∷ [])) (Some p)
-        ∙ sym (ap (with_words (Some p)) (word_goes_on byte text word other))
+pub parted_none : (text : List ℕ) → Parted text no_words 0 0
+parted_none text = record { begun = omega arith; within = omega arith; words = refl }
 
-pub parts_are : (text : List ℕ) → with_parts (Some no_words) (slice_split is_gap text) ≡ with_words (Some no_words) (words_after [] text)
-parts_are text = ap (with_parts (Some no_words)) (sym (behind_none is_gap text)) ∙ parts_behind text [] (Some no_words)
+module _ {text : List ℕ} {phrase : Phrase} {start i : ℕ} (t : Parted text phrase start i) (more : i < length text) where
+  gap_ends : is_gap (get_or text i 0) ≡ true
+      → with_words (Some no_words) (words_after [] text) ≡ with_words (with_part phrase (part start i text)) (words_after [] (drop (i + 1) text))
+  gap_ends gap =
+      t.words
+      ∙ rw (next text i more, word_ends (get_or text i 0) (drop (i + 1) text) (part start i text) gap) (part_held phrase (part start i text) (words_after [] (drop (i + 1) text)))
+
+  pub parted_gap : (q : Phrase) → is_gap (get_or text i 0) ≡ true → Some q ≡ with_part phrase (part start i text) → Parted text q (i + 1) (i + 1)
+  parted_gap q gap taken =
+      record {
+        begun = omega arith;
+        within = omega arith;
+        words =
+            gap_ends gap
+            ∙ rw (part_none text (i + 1)) (ap (λ (o : Option Phrase). with_words o (words_after [] (drop (i + 1) text))) (sym taken));
+      }
+
+  pub parted_amiss : is_gap (get_or text i 0) ≡ true → None ≡ with_part phrase (part start i text) → None ≡ with_words (Some no_words) (words_after [] text)
+  unfolding with_words
+  parted_amiss gap none = ap (λ (o : Option Phrase). with_words o (words_after [] (drop (i + 1) text))) none ∙ sym (gap_ends gap)
+
+  pub parted_byte : is_gap (get_or text i 0) ≡ false → Parted text phrase start (i + 1)
+  parted_byte other =
+      record {
+        begun = omega (arith, t.begun);
+        within = omega arith;
+        words = t.words ∙ rw (next text i more, word_goes_on (get_or text i 0) (drop (i + 1) text) (part start i text) other, part_longer text i more start t.begun);
+      }
+
+pub parted_all : (text : List ℕ) (phrase : Phrase) (start i : ℕ) → Parted text phrase start i → length text ≤ i
+    → with_part phrase (part start (length text) text) ≡ with_words (Some no_words) (words_after [] text)
+unfolding words_after with_words
+parted_all text phrase start i t past =
+    let whole : i ≡ length text = omega (arith, t.within) in
+    let end : drop (length text) text ≡ [] = drop-length text in
+    sym (t.words ∙ rw (whole, end) (part_held phrase (part start (length text) text) [] ∙ none_left (with_part phrase (part start (length text) text))))
 
 -- ---- the line that they make
 

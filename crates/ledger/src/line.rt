@@ -34,12 +34,17 @@ fn uncommented(line: &[u8]) -> &[u8]
 }
 
 // The words of what counts of a line, parted by gaps, if each of them may stand there.
+// Byte by byte: the library's `split` takes nearly twice the time where most bytes are gaps.
 fn phrase_of(text: &[u8]) -> Option<Phrase>
     ensures { result ≡ with_words (Some no_words) (words_after [] text.now) }
 {
     let mut phrase = Phrase::default();
-    for part in text.split(|byte| is_gap(*byte)) {
-        phrase = phrase.with(part)?;
+    let mut start: usize = 0;
+    for (i, byte) in text.iter().enumerate() {
+        if is_gap(*byte) {
+            phrase = phrase.with(&text[start..i])?;
+            start = i + 1;
+        }
     }
-    Some(phrase)
+    phrase.with(&text[start..])
 }

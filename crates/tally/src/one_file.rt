@@ -19,17 +19,15 @@ pub(crate) fn tally_file<R: Files + Print>(
     rt.write_all(name)?;
     rt.print("\n")?;
     let len = read_file(rt, err, name, file)?;
-    match counts::of_file(&file[..len]) {
-        Ok(filed) => {
-            print_counts(rt, filed.counts, filed.count)?;
-            Ok(totals.and(filed.counts))
-        }
+    let filed = counts::of_file(&file[..len]);
+    match filed {
+        Ok(filed) => print_counts(rt, filed.counts, filed.count)?,
         Err(refusal) => {
             let line = listing::refused(refusal.number(), refusal.over());
             rt.write_all(line.as_bytes())?;
-            Ok(totals)
         }
     }
+    Ok(totals.and(counts::counts_in(filed)))
 }
 
 // Reads a file, and answers how many bytes it has. One that cannot be read, as a folder, has none.

@@ -29,13 +29,13 @@ pub loop-i-preserved : goal.loop-i-preserved
 loop-i-preserved c =
     let d = c.loop-i in
     let a = c.args in
-    rw (d.invariant, c.from.ensures) (number_more a.bytes.now a.at c.min-run.result d.i (omega arith))
+    rw (d.invariant, c.from.ensures) (number_more a.bytes.now a.at c.run_width-run.result d.i (omega arith))
 
 pub returns : goal.returns
 returns c =
     let d = c.loop-i in
     let a = c.args in
-    let from : a.at + (c.min-run.result - d.i) ≡ a.at = omega arith in
+    let from : a.at + (c.run_width-run.result - d.i) ≡ a.at = omega arith in
     let run : d.i ≡ min (min a.width 8) (length a.bytes.now - a.at) = omega arith in
     d.invariant
     ∙ rw (from, run) (number_cut (min a.width 8) (length a.bytes.now - a.at) a.bytes.now a.at (omega arith))

@@ -4,7 +4,7 @@ ghost use Rattle.table.specs.Reservations.{table_of_records, lent_table};
 ghost use Rattle.session.specs.Calls.{answer_to};
 ghost use Rattle.session.specs.Opening.{opening_of};
 
-use crate::{Opened, Session};
+use crate::{Opened, Session, fresh};
 use calls::{Call, Reply};
 use order::Order;
 use table::{Numbers, Records, Reservation, Table, take_in};
@@ -17,11 +17,21 @@ impl Session {
         Session::open_taken(numbers, take_in(table), order)
     }
 
-    // The same with what was taken of it.
+    // The same with what was taken of it. It says what `open` says: by a call of that function, or of its two, the opening that C links copies the session once more, and takes a quarter more instructions.
     pub fn open_taken(numbers: Numbers, records: Records, order: Order) -> Opened
         ensures { result ≡ opening_of (table_of_records numbers.worst numbers.span numbers.padding records.rows records.count) order }
     {
-        Session::open(Table::of(numbers, records), order)
+        let table = Table::of(numbers, records);
+        match table.admission() {
+            Ok(margin) => Opened {
+                session: fresh(table, margin, order),
+                admission: Ok(margin),
+            },
+            Err(refusal) => Opened {
+                session: Session::zero(),
+                admission: Err(refusal),
+            },
+        }
     }
 
     // Makes a call of a session that is lent.

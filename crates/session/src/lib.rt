@@ -13,7 +13,7 @@ mod searches;
 mod soundness;
 mod turns;
 
-ghost use Rattle.std.specs.Prelude.{◌≡◌, ◌≤◌, ◌<◌};
+ghost use Rattle.std.specs.Prelude.{◌≡◌, ◌≤◌, ◌<◌, Ok, Err};
 ghost use Rattle.table.specs.Fold.{list_to};
 ghost use Rattle.table.specs.Ranges.{streams_max};
 ghost use Rattle.table.specs.Admission.{admission_of};
@@ -65,13 +65,10 @@ impl Session {
     pub fn open(table: Table, order: Order) -> Opened
         ensures { result ≡ opening_of table order }
     {
-        // The session is made before the struct that has it: within it, it is cleared and copied once more, and an opening takes a third more instructions.
-        let admission = table.admission();
-        let session = match admission {
-            Ok(margin) => fresh(table, margin, order),
-            Err(_) => Session::zero(),
-        };
-        Opened { session, admission }
+        match table.admission() {
+            Ok(margin) => admitted(table, margin, order),
+            Err(refusal) => refused(refusal),
+        }
     }
 
     // The all-zero session, which is not sound: it stands where none was made.
@@ -107,6 +104,25 @@ impl Session {
             padding: self.padding,
         }
     }
+}
+
+// What opening answers of a table that is admitted, and of one that is refused.
+// Each is made in a function of its own, and its session before the struct that has it: in the arms of one match the session is cleared and copied once more, and an opening by value takes a third more instructions.
+fn admitted(table: Table, margin: Margin, order: Order) -> Opened
+    requires { (admission_of table ≡ 0) × (margin.0 ≡ margin_of table) }
+    ensures { result ≡ record { session = fresh_session table order; admission = Ok margin } }
+{
+    let session = fresh(table, margin, order);
+    let admission = Ok(margin);
+    Opened { session, admission }
+}
+
+fn refused(refusal: Refusal) -> Opened
+    ensures { result ≡ record { session = zero_session; admission = Err refusal } }
+{
+    let session = Session::zero();
+    let admission = Err(refusal);
+    Opened { session, admission }
 }
 
 // A session at the first release of every stream, with the margin of its table. Nothing is charged yet, so that the sum of remainders is the horizon times the shares, and the shares are the load less W for each of the shortest periods: no stream's share is divided for again.

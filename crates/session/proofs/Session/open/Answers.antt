@@ -7,19 +7,19 @@ use Rattle.table.proofs.Margins.{admitted_only, refused_only}
 use Rattle.session.specs.Opening.{opening_of}
 use Rattle.session.proofs.Session.open.Goals as goal
 
-pub fresh-session-requires : goal.fresh-session-requires
-fresh-session-requires c =
-    let only = admitted_only _ _ (sym c.admission-admission.ensures ∙ c.in-Ok.is) in
+pub admitted-requires : goal.admitted-requires
+admitted-requires c =
+    let only = admitted_only _ _ (sym c.admission.ensures ∙ c.in-Ok.is) in
     (only.0, ap (λ (m : Margin). m.0) only.1)
 
 pub returns-in-Ok : goal.returns-in-Ok
 unfolding opening_of if
 returns-in-Ok c =
-    let says = sym c.admission-admission.ensures ∙ c.in-Ok.is in
-    rw (c.fresh-session.ensures, eq-eqb _ _ (admitted_only _ _ says).0, says)
+    let says = sym c.admission.ensures ∙ c.in-Ok.is in
+    rw (c.admitted.ensures, eq-eqb _ _ (admitted_only _ _ says).0, says)
 
 pub returns-in-Err : goal.returns-in-Err
 unfolding opening_of if
 returns-in-Err c =
-    let says = sym c.admission-admission.ensures ∙ c.in-Err.is in
-    rw (c.zero-session.ensures, ne_eqb _ _ (refused_only _ _ says), says, c.in-Err.is)
+    let says = sym c.admission.ensures ∙ c.in-Err.is in
+    rw (c.refused.ensures, ne_eqb _ _ (refused_only _ _ says), says)

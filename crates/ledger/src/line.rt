@@ -34,7 +34,7 @@ fn uncommented(line: &[u8]) -> &[u8]
 }
 
 // The words of what counts of a line, parted by gaps, if each of them may stand there.
-// Byte by byte: the library's `split` takes nearly twice the time where most bytes are gaps.
+// Byte by byte: the library's `split` takes nearly twice the instructions where most bytes are gaps.
 fn phrase_of(text: &[u8]) -> Option<Phrase>
     ensures { result ≡ with_words (Some no_words) (words_after [] text.now) }
 {

@@ -8,26 +8,29 @@ use native.Mathlib.Omega.{arith}
 use lib.ListN.{get_or, get_or-map}
 use lib.Dec.{lit<}
 use lib.IntN.{pos, ◌-ℤ◌}
-use borrow.Author.Tests.{lt-ltb, le-ltb, eq-eqb}
+use borrow.Author.Tests.{lt-ltb, le-ltb, eq-eqb, ne_eqb}
+use Rattle.std.proofs.Common.{Ok, Err}
 use Rattle.table.specs.Fold.{if, sum_to, all_to}
 use Rattle.table.specs.Ranges.{streams_max, worst_max, span_max, period_max}
 use Rattle.table.specs.Admission.{reserved_at, period_at, granted_of, share_of, share_at, shares_of, smallest_period, load_of, admission_of}
 use Rattle.table.specs.Whole.{above_zero}
-use Rattle.table.specs.Margin.{less_load, margin_of}
+use Rattle.table.specs.Margin.{less_load, margin_of, answer_of}
 use Rattle.table.specs.declared.Table.{Table}
 use Rattle.table.specs.declared.margin.Margin.{Margin}
+use Rattle.table.specs.declared.refusal.Refusal.{Refusal}
 use Rattle.table.proofs.Tests.{by_if}
 use Rattle.table.proofs.Folds.{sum_agree, sum_scaled, sum_none, smallest_agree, smallest_is}
 use Rattle.table.proofs.Whole.{less_left}
 use Rattle.table.proofs.Lists.{length_list_to, get_d_list_to}
 use Rattle.table.proofs.Judged.{Admits, admits_of, load_alike, admits_alike}
+use Rattle.table.proofs.Margins.{admitted_only, refused_only}
 use Rattle.order.specs.declared.Order.{Order}
 use Rattle.time.specs.Time.{parts_max}
 use Rattle.stream.specs.Stream.{part_of, sound_row, sound_queue, unused_stream, zero_job, fresh_stream}
 use Rattle.session.specs.Session.{no_stream, stream_at, horizon, scaled_part, remainders_of, table_of, sound_disk, sound}
 use Rattle.calls.specs.Replies.{number_of}
 use Rattle.session.specs.Calls.{Verdict, refuse, append, send, move, wait, expire, finish, set_clock, verdict, apply, reply_to, answer_to, after}
-use Rattle.session.specs.Opening.{opened_stream, opened_session, fresh_session, opening_of, NewlyOpened}
+use Rattle.session.specs.Opening.{opened_stream, opened_session, fresh_session, zero_session, opening_of, NewlyOpened}
 use Rattle.session.specs.Laws.{OpeningIsSound, NeverUnsound, AskIsLatest, MarginIsKept, OrderIsKept}
 use Rattle.stream.specs.declared.Stream.{Stream}
 use Rattle.session.specs.declared.Session.{Session}
@@ -166,6 +169,20 @@ module _ (t : Table) (order : Order) (admitted : admission_of t ≡ 0) where
       let most = mul-le-mul {n₂ = period_max} {m₂ = span_max} soon load in
       let blocking = mul-le-mul {n₂ = worst_max} {m₂ = span_max} n.worst_high n.span_high in
       (judged.fits, omega (arith, most), omega (arith, blocking))
+
+-- what the answer of admission says of the table, and of what opening gives
+pub answered_admitted : (t : Table) (m : Margin) → answer_of t ≡ Ok m → (admission_of t ≡ 0) × (m.0 ≡ margin_of t)
+answered_admitted t m says =
+    let only = admitted_only t m says in
+    (only.0, ap (λ (n : Margin). n.0) only.1)
+
+pub opens_admitted : (t : Table) (order : Order) (m : Margin) → answer_of t ≡ Ok m → opening_of t order ≡ record { session = fresh_session t order; admission = Ok m }
+unfolding opening_of if
+opens_admitted t order m says = rw (eq-eqb _ _ (admitted_only t m says).0, says)
+
+pub opens_refused : (t : Table) (order : Order) (r : Refusal) → answer_of t ≡ Err r → opening_of t order ≡ record { session = zero_session; admission = Err r }
+unfolding opening_of if
+opens_refused t order r says = rw (ne_eqb _ _ (refused_only t r says), says)
 
 -- what a newly opened session has: the numbers of its table, streams at their first release, and nothing at the disk
 pub record Begun (t : Table) (s : Session) : Type 0 where

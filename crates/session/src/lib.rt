@@ -145,7 +145,7 @@ fn fresh(t: Table, margin: Margin, order: Order) -> Session
         head: 0,
         served: 0,
         place: 0,
-        streams: opened_streams(t),
+        streams: opened_streams(&t),
     };
     let h = session.soonest();
     let load = t.span as u64 - margin.left();
@@ -158,9 +158,10 @@ fn fresh(t: Table, margin: Margin, order: Order) -> Session
 
 // The eight streams of a session that is opened with a table: those past its count stay all zeros.
 // That the count is within eight is asked here and of each stream alone: `fresh`, the one caller, knows it from the admission.
-fn opened_streams(t: Table) -> [Stream; Table::STREAMS_MAX]
-    requires { t.count ≤ streams_max }
-    ensures { result ≡ list_to (opened_stream t) streams_max }
+// The table is lent to both, and a stream's two numbers are read where they stand: by `reservation` the table is copied for each stream, and asked again whether it has a place for it.
+fn opened_streams(t: &Table) -> [Stream; Table::STREAMS_MAX]
+    requires { t.now.count ≤ streams_max }
+    ensures { result ≡ list_to (opened_stream t.now) streams_max }
 {
     let unused = Stream::fresh(0, 0, 0);
     let mut streams = [unused; Table::STREAMS_MAX];
@@ -171,11 +172,11 @@ fn opened_streams(t: Table) -> [Stream; Table::STREAMS_MAX]
 }
 
 // One that the table has.
-fn opened_stream(t: Table, i: usize) -> Stream
-    requires { (i < t.count) × (t.count ≤ streams_max) }
-    ensures { result ≡ opened_stream t i }
+fn opened_stream(t: &Table, i: usize) -> Stream
+    requires { (i < t.now.count) × (t.now.count ≤ streams_max) }
+    ensures { result ≡ opened_stream t.now i }
 {
-    let booked = t.reservation(i);
-    let budget = t.numbers().granted(booked.reserved);
-    Stream::fresh(booked.reserved, booked.period, budget)
+    let reserved = t.reserved[i];
+    let budget = t.numbers().granted(reserved);
+    Stream::fresh(reserved, t.period[i], budget)
 }

@@ -6,4 +6,4 @@ use Rattle.session.proofs.opened_stream.Goals as goal
 
 pub returns : goal.returns
 unfolding opened_stream if
-returns c = rw (c.fresh.ensures, c.granted-budget.ensures, c.numbers.ensures, c.reservation-booked.ensures, lt-ltb _ _ c.requires.0)
+returns c = rw (c.fresh.ensures, c.granted-budget.ensures, c.numbers.ensures, lt-ltb _ _ c.requires.0)

@@ -19,7 +19,7 @@ loop-i-init c = (omega arith, record { cells = refl; front = refl }, λ j low l.
 pub loop-i-preserved : goal.loop-i-preserved
 loop-i-preserved c =
     let at = c.loop-i in
-    let t = c.args.t in
+    let t = c.args.t.now in
     let l : at.i < 8 = omega (arith, c.requires) in (
       omega arith,
       rw c.opened_stream.ensures (filled_more (opened_stream t) at.streams at.i 8 l at.invariant.1),
@@ -34,7 +34,7 @@ past-count t j le = rw (le-ltb j t.count le)
 pub returns : goal.returns
 returns c =
     let at = c.loop-i in
-    let t = c.args.t in
+    let t = c.args.t.now in
     filled_all (opened_stream t) at.streams 8
     (filled_on (opened_stream t) at.streams no_stream at.i 8 (omega (arith, c.requires))
     (λ j low l. at.invariant.2 j low l ∙ sym (past-count t j (omega arith))) at.invariant.1)

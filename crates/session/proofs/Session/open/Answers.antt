@@ -1,25 +1,13 @@
 -- `Session::open` gives a fresh session exactly for a table that is admitted.
-use mathlib.Core.Path.{sym, ap, ◌∙◌}
-use borrow.Author.Tests.{eq-eqb, ne_eqb}
-use Rattle.table.specs.Fold.{if}
-use Rattle.table.specs.declared.margin.Margin.{Margin}
-use Rattle.table.proofs.Margins.{admitted_only, refused_only}
-use Rattle.session.specs.Opening.{opening_of}
+use mathlib.Core.Path.{sym, ◌∙◌}
+use Rattle.session.proofs.Openings.{answered_admitted, opens_admitted, opens_refused}
 use Rattle.session.proofs.Session.open.Goals as goal
 
 pub admitted-requires : goal.admitted-requires
-admitted-requires c =
-    let only = admitted_only _ _ (sym c.admission.ensures ∙ c.in-Ok.is) in
-    (only.0, ap (λ (m : Margin). m.0) only.1)
+admitted-requires c = answered_admitted _ _ (sym c.admission.ensures ∙ c.in-Ok.is)
 
 pub returns-in-Ok : goal.returns-in-Ok
-unfolding opening_of if
-returns-in-Ok c =
-    let says = sym c.admission.ensures ∙ c.in-Ok.is in
-    rw (c.admitted.ensures, eq-eqb _ _ (admitted_only _ _ says).0, says)
+returns-in-Ok c = c.admitted.ensures ∙ sym (opens_admitted _ _ _ (sym c.admission.ensures ∙ c.in-Ok.is))
 
 pub returns-in-Err : goal.returns-in-Err
-unfolding opening_of if
-returns-in-Err c =
-    let says = sym c.admission.ensures ∙ c.in-Err.is in
-    rw (c.refused.ensures, ne_eqb _ _ (refused_only _ _ says), says)
+returns-in-Err c = c.refused.ensures ∙ sym (opens_refused _ _ _ (sym c.admission.ensures ∙ c.in-Err.is))

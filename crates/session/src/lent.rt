@@ -17,7 +17,7 @@ impl Session {
         Session::open_taken(numbers, take_in(table), order)
     }
 
-    // The same with what was taken of it. It says what `open` says: by a call of that function, or of its two, the opening that C links copies the session once more, and takes a quarter more instructions.
+    // The same with what was taken of it. It says what `open` says: by a call of that function, or of its two, the opening that C links copies the session once more, and one of one stream takes a quarter more instructions.
     pub fn open_taken(numbers: Numbers, records: Records, order: Order) -> Opened
         ensures { result ≡ opening_of (table_of_records numbers.worst numbers.span numbers.padding records.rows records.count) order }
     {

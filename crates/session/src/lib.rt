@@ -107,7 +107,7 @@ impl Session {
 }
 
 // What opening answers of a table that is admitted, and of one that is refused.
-// Each is made in a function of its own, and its session before the struct that has it: in the arms of one match the session is cleared and copied once more, and an opening by value takes a third more instructions.
+// Each is made in a function of its own, and its session before the struct that has it: in the arms of one match the session is cleared and copied once more, and an opening of one stream by value takes a third more instructions.
 fn admitted(table: Table, margin: Margin, order: Order) -> Opened
     requires { (admission_of table ≡ 0) × (margin.0 ≡ margin_of table) }
     ensures { result ≡ record { session = fresh_session table order; admission = Ok margin } }
@@ -158,7 +158,7 @@ fn fresh(t: Table, margin: Margin, order: Order) -> Session
 
 // The eight streams of a session that is opened with a table: those past its count stay all zeros.
 // That the count is within eight is asked here and of each stream alone: `fresh`, the one caller, knows it from the admission.
-// The table is lent to both, and a stream's two numbers are read where they stand: by `reservation` the table is copied for each stream, and asked again whether it has a place for it.
+// The table is lent here and to `opened_stream`, which reads a stream's two numbers where they stand: by `reservation` the rows are copied for each stream, and the index is tested again.
 fn opened_streams(t: &Table) -> [Stream; Table::STREAMS_MAX]
     requires { t.now.count ≤ streams_max }
     ensures { result ≡ list_to (opened_stream t.now) streams_max }
